@@ -1,0 +1,7 @@
+pub mod Delivery
+pub mod Order
+pub mod Labels
+pub mod Staying
+pub mod Tables
+pub mod Auditing
+pub mod Keys

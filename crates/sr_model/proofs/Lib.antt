@@ -1,0 +1,2 @@
+pub mod SystemTextLemmas
+pub mod KeyOrderLemmas

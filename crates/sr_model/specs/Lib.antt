@@ -1,0 +1,14 @@
+pub mod Key
+pub mod Graph
+pub mod Walk
+pub mod SystemText
+pub mod Space
+pub mod Label
+pub mod Case
+pub mod Rule
+pub mod Repair
+pub mod Forward
+pub mod Table
+pub mod Audit
+pub mod Stay
+pub mod KeyOrder

@@ -1,0 +1,19 @@
+//! The model of a segment-routing domain: the types that all layers speak of, and in `specs/` what their answers mean.
+#![tactic(auto)]
+
+mod audit;
+mod case;
+mod entry;
+mod label;
+mod link;
+mod name;
+mod repair;
+mod text;
+
+pub use audit::{Counts, Item, Stack};
+pub use case::{Case, Kind};
+pub use entry::{Entry, Hops, Move, Out};
+pub use label::{AdjLabel, LabelRule, Range};
+pub use link::{FAR, Link, LinkNo, NodeNo};
+pub use name::{Ident, LinkKey, PairKey, SystemId};
+pub use repair::{Answer, RepairList, Segment, Segments};

@@ -1,0 +1,4 @@
+pub mod Walks
+pub mod Distances
+pub mod Distinct
+pub mod Rows
