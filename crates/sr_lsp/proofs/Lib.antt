@@ -1,0 +1,11 @@
+pub mod DistinctLemmas
+pub mod EntryLemmas
+pub mod BodyLemmas
+pub mod PlainLemmas
+pub mod SubLemmas
+pub mod ReachLemmas
+pub mod FaultLemmas
+pub mod CapabilityLemmas
+pub mod RiskLemmas
+pub mod LspLemmas
+pub mod PrefixLemmas

@@ -1,0 +1,11 @@
+pub mod Header
+pub mod Pdu
+pub mod Fault
+pub mod Run
+pub mod Sub
+pub mod Reach
+pub mod Prefix
+pub mod Risk
+pub mod Capability
+pub mod Lsp
+pub mod Plain

@@ -1,0 +1,5 @@
+pub mod Bytes
+pub mod Codes
+pub mod TlvLemmas
+pub mod MsdLemmas
+pub mod SrCapLemmas
