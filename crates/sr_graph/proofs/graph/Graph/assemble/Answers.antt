@@ -1,0 +1,33 @@
+use Rattle.std.proofs.Common.{rules, ◌≡◌, length}
+use Rattle.std.specs.List.{AllZip}
+use Rattle.sr_graph.specs.Numbers.{IsNumbered}
+use Rattle.sr_graph.specs.Ranges.{AreStarts}
+use Rattle.sr_graph.proofs.ZipLemmas.{zip-length}
+use Rattle.sr_graph.proofs.GraphLemmas.{by_tail, built_from, laid_out_from}
+use Rattle.sr_graph.proofs.graph.Graph.assemble.Goals as goal
+
+pub number_all-requires-clause-ends : goal.number_all-requires-clause-ends
+number_all-requires-clause-ends c = rw c.deref.ensures.value c.requires.draft.ends
+
+pub starts-requires : goal.starts-requires
+starts-requires c =
+    let numbered : AllZip (IsNumbered c.args.systems.items) c.args.links.items c.in_ok-numbered.numbered.links.items = rw c.deref.ensures.value at c.in_ok-numbered.ensures.links in
+    let long : length c.in_ok-numbered.numbered.links.items ≡ length c.args.links.items = zip-length _ _ _ numbered in
+    let same : c.len.result ≡ length c.args.systems.items = search rules in
+    rw c.deref-2.ensures.value (record {
+      few_nodes = rw same c.requires.accepted.few_nodes;
+      few_links = rw long c.requires.accepted.few_links;
+      by_tail = by_tail _ _ _ c.requires.draft c.requires.accepted c.requires.sorted numbered;
+    })
+
+pub invariant_of-result : goal.invariant_of-result
+invariant_of-result c =
+    let numbered : AllZip (IsNumbered c.args.systems.items) c.args.links.items c.in_ok-numbered.numbered.links.items = rw c.deref.ensures.value at c.in_ok-numbered.ensures.links in
+    let same : c.len.result ≡ length c.args.systems.items = search rules in
+    let starts : AreStarts (length c.args.systems.items) c.in_ok-numbered.numbered.links.items c.in_ok-starts.starts.items = rw (c.deref-2.ensures.value, same) at c.in_ok-starts.ensures in
+    laid_out_from _ _ _ c.requires.draft c.requires.accepted c.requires.sorted numbered _ _ _ c.in_ok-numbered.ensures.groups c.new.ensures.items starts
+
+pub returns : goal.returns
+returns c =
+    let numbered : AllZip (IsNumbered c.args.systems.items) c.args.links.items c.in_ok-numbered.numbered.links.items = rw c.deref.ensures.value at c.in_ok-numbered.ensures.links in
+    built_from _ _ _ c.requires.draft c.requires.accepted c.requires.sorted numbered _ _ c.in_ok-numbered.ensures.groups c.new.ensures.items

@@ -1,0 +1,4 @@
+pub mod Draft
+pub mod Numbers
+pub mod Ranges
+pub mod Built

@@ -1,0 +1,16 @@
+//! The graph of a domain: nodes in order of system id, directed links in order of key, and how it is built and read.
+#![tactic(auto)]
+
+mod draft;
+mod fault;
+mod graph;
+mod link_set;
+mod numbers;
+mod order;
+mod ranges;
+
+pub use draft::{Draft, DraftLink, DraftLinks, Groups, SystemIds};
+pub use fault::GraphFault;
+pub use graph::Graph;
+pub use link_set::LinkSet;
+pub use ranges::LinkRange;

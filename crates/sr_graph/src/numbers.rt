@@ -1,0 +1,96 @@
+//! Nodes by number: a node's number is the place of its system id.
+ghost use Rattle.std.specs.Prelude.{◌≡◌, ◌≢◌, ℕ, ◌<◌, ◌≤◌, length, slice_index, slice_index_or, All, Contains, map, IfSome, IfNone, IfOk};
+ghost use Rattle.std.specs.List.{AllZip};
+ghost use Rattle.std.specs.List.Sorted.{IsStrictlyIncreasing};
+ghost use Rattle.sr_model.specs.declared.link.NodeNo.{NodeNo as Number};
+ghost use Rattle.sr_model.specs.declared.link.LinkNo.{LinkNo as Found};
+ghost use Rattle.sr_model.specs.Graph.{no_link};
+ghost use Rattle.sr_graph.specs.declared.draft.DraftLink.{DraftLink as Drafted};
+ghost use Rattle.sr_graph.specs.Draft.{HasEnds};
+ghost use Rattle.sr_graph.specs.Numbers.{IsPlace, IsNumbered, AscendByKey};
+
+use crate::draft::{DraftLink, Groups};
+use sr_model::{Link, LinkKey, LinkNo, NodeNo, SystemId};
+use std::alloc::{AllocError, Global};
+
+/// The number of the node of this system id, if there is one.
+pub(crate) fn place(systems: &[SystemId], system: SystemId) -> Option<NodeNo>
+    requires ascending { IsStrictlyIncreasing systems.now }
+    requires few { length systems.now ≤ 256 }
+    ensures found { IfSome result (λ (node : Number). IsPlace systems.now node.0 system) }
+    ensures none { IfNone result ((v : ℕ) → v < length systems.now → slice_index systems.now v ≢ system) }
+{
+    match systems.binary_search(&system) {
+        Ok(at) => Some(NodeNo(at as u16)),
+        Err(_) => None,
+    }
+}
+
+/// The number of a node that there is.
+fn number(systems: &[SystemId], system: SystemId) -> NodeNo
+    requires ascending { IsStrictlyIncreasing systems.now }
+    requires few { length systems.now ≤ 256 }
+    requires there { Contains systems.now system }
+    ensures { IsPlace systems.now result.0 system }
+{
+    place(systems, system).unwrap()
+}
+
+/// The one place where a link of this key can stand.
+fn place_of(links: &[Link], key: &LinkKey) -> usize
+    requires { AscendByKey links.now }
+    ensures { (l : ℕ) → l < length links.now → (slice_index_or links.now l no_link).key ≡ key.now → l ≡ result }
+{
+    links.partition_point(|link| link.key < *key)
+}
+
+/// The number of the link of this key, if there is one.
+pub(crate) fn find(links: &[Link], key: &LinkKey) -> Option<LinkNo>
+    requires few { length links.now ≤ 2048 }
+    requires ascending { AscendByKey links.now }
+    ensures found { IfSome result (λ (link : Found). (link.0 < length links.now) × ((slice_index_or links.now link.0 no_link).key ≡ key.now)) }
+    ensures none { IfNone result ((l : ℕ) → l < length links.now → (slice_index_or links.now l no_link).key ≢ key.now) }
+{
+    let at = place_of(links, key);
+    if at < links.len() && links[at].key == *key {
+        Some(LinkNo(at as u16))
+    } else {
+        None
+    }
+}
+
+/// Links with their ends by number, and the groups of each.
+#[derive(Drop)]
+pub(crate) struct Numbered {
+    pub(crate) links: Vec<Link>,
+    pub(crate) groups: Vec<Groups>,
+}
+
+/// The links with their ends by number.
+pub(crate) fn number_all(
+    alloc: Global,
+    systems: &[SystemId],
+    drafted: Vec<DraftLink>,
+) -> Result<Numbered, AllocError>
+    requires ascending { IsStrictlyIncreasing systems.now }
+    requires few { length systems.now ≤ 256 }
+    requires ends { All (HasEnds systems.now) drafted.items }
+    ensures links { IfOk result (λ numbered. AllZip (IsNumbered systems.now) drafted.items numbered.links.items) }
+    ensures groups { IfOk result (λ numbered. numbered.groups.items ≡ map (λ (link : Drafted). link.groups) drafted.items) }
+{
+    let mut links = Vec::with_capacity(alloc, drafted.len())?;
+    let mut groups = Vec::with_capacity(alloc, drafted.len())?;
+    for link in drafted {
+        let key = link.key;
+        let from = number(systems, key.from);
+        let to = number(systems, key.to);
+        links.push(Link {
+            key,
+            from,
+            to,
+            metric: link.metric,
+        })?;
+        groups.push(link.groups)?;
+    }
+    Ok(Numbered { links, groups })
+}

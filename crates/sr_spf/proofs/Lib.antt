@@ -1,0 +1,4 @@
+pub mod RelaxLemmas
+pub mod QueueLemmas
+pub mod TreesLemmas
+pub mod FixtureLemmas

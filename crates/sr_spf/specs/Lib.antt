@@ -1,0 +1,3 @@
+pub mod Relax
+pub mod Queue
+pub mod Trees

@@ -1,0 +1,28 @@
+-- What the search for distances keeps.
+use Rattle.std.specs.Prelude.{◌≡◌, ℕ, ◌+◌, ◌*◌, ◌<◌, ◌≤◌, nat_lt, Bool, List, length, count_by, slice_index, slice_set, if◌then◌else◌}
+use Rattle.sr_model.specs.declared.link.Link.{Link}
+use Rattle.sr_model.specs.Graph.{Graph, node_count, IsGraph}
+use Rattle.sr_model.specs.declared.link.TheConstants.{FAR}
+use Rattle.sr_model.specs.Walk.{IsWalk, cost}
+
+-- the way over the link is shorter than the cell of its end
+abbrev pub falls : Link → List ℕ → Bool
+falls k cells = nat_lt (slice_index cells k.from.0 + k.metric) (slice_index cells k.to.0)
+
+-- the cells after the link was tried
+abbrev pub relaxed : Link → List ℕ → List ℕ
+relaxed k cells = if falls k cells then slice_set cells k.to.0 (slice_index cells k.from.0 + k.metric) else cells
+
+-- how many nodes have a walk so far
+abbrev pub near_count : List ℕ → ℕ
+near_count cells = count_by (λ c. nat_lt c FAR) cells
+
+-- each cell below FAR is what some walk costs, and no more than the nodes that have a walk allow
+pub record IsTentative (g : Graph) (x : List Bool) (s : ℕ) (cells : List ℕ) : Type 0 where
+  pub graph : IsGraph g
+  pub long : length cells ≡ node_count g
+  pub source : slice_index cells s ≡ 0
+  pub within : s < node_count g
+  pub top : (v : ℕ) → slice_index cells v ≤ FAR
+  pub reached : (v : ℕ) → v < node_count g → slice_index cells v < FAR → (p : List ℕ) × IsWalk g x s p v × (cost g p ≡ slice_index cells v)
+  pub bound : (v : ℕ) → v < node_count g → slice_index cells v < FAR → slice_index cells v + 16777214 ≤ 16777214 * near_count cells
