@@ -1,0 +1,4 @@
+pub mod LineLemmas
+pub mod SessionLemmas
+pub mod AnnouncedLemmas
+pub mod NetLemmas
