@@ -1,4 +1,20 @@
-//! Labels of a segment-routing domain.
+//! Labels of a segment-routing domain: the SRGB of a node and what it announces, the rules on the labels of all nodes
+//! together, and a net, which is a graph with labels that break none.
 #![tactic(auto)]
 
-pub use sr_model::Range;
+mod adjacencies;
+mod indices;
+mod keys;
+mod net;
+mod node;
+mod rules;
+mod srgb;
+
+pub use net::Net;
+pub use node::NodeLabels;
+pub use rules::first_clash;
+pub use sr_model::{AdjLabel, LabelRule, Range};
+pub use srgb::{Srgb, SrgbBad};
+
+#[cfg(test)]
+mod tests;

@@ -2,7 +2,7 @@
 
 ghost use Rattle.std.specs.Prelude.{◌≡◌};
 
-use sr_labels::Range;
+use sr_model::Range;
 use std::marker::Model;
 
 /// Ranges of labels in their order, which contracts see as a list.

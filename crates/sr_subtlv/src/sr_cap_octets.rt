@@ -8,7 +8,7 @@ ghost use Rattle.sr_subtlv.specs.SrCap.{AreRanges, FitsRange, FitsSrCap, IsRange
 use crate::octets::u24_at;
 use crate::sr_cap::{Ranges, SrCap};
 use byteorder::{BigEndian, ByteOrder};
-use sr_labels::Range;
+use sr_model::Range;
 use std::alloc::{AllocError, Global};
 
 /// The type of the sub-TLV.

@@ -1,5 +1,5 @@
 use super::*;
-use sr_labels::Range;
+use sr_model::Range;
 use std::alloc::{AllocError, Global};
 use std::test::Fail;
 

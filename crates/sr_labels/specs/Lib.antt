@@ -1,0 +1,5 @@
+pub mod Ranges
+pub mod Rules
+pub mod Keys
+pub mod Indices
+pub mod Adjacencies

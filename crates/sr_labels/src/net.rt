@@ -1,0 +1,115 @@
+//! A net: a graph with its labels.
+ghost use Rattle.std.specs.Prelude.{◌≡◌, ◌<◌, Option};
+ghost use Rattle.sr_model.specs.declared.name.LinkKey.{LinkKey as Key};
+ghost use Rattle.sr_model.specs.Graph.{node_count, link_count};
+ghost use Rattle.sr_model.specs.Case.{key_at};
+ghost use Rattle.sr_model.specs.Label.{labels_at, adj_at, key_named, IsPlace};
+ghost use Rattle.sr_model.specs.Rule.{IsAccepted, IsNet};
+
+use crate::keys::{named, place};
+use crate::node::NodeLabels;
+use sr_graph::Graph;
+use sr_model::{LinkKey, LinkNo, NodeNo, SystemId};
+use std::marker::Model;
+
+/// A graph with what its nodes announce, the adjacency label of each link, the keys of all two-way announcements, and how
+/// many segments a list may have where its node announces no imposition depth. It breaks no rule on labels.
+#[derive(Debug, Drop)]
+pub struct Net {
+    graph: Graph,
+    nodes: Vec<NodeLabels>,
+    adj: Vec<Option<u32>>,
+    announced: Vec<LinkKey>,
+    depth: u8,
+}
+
+impl Model for Net {
+    ghost use Rattle.sr_model.specs.Label.{Net as Labelled};
+    ghost use Rattle.sr_model.specs.Rule.{IsAccepted};
+
+    ghost Value = { Labelled };
+
+    ghost view = { λ a. record { graph = a.graph; labels = a.nodes.items; adj = a.adj.items; announced = a.announced.items; depth = a.depth } };
+
+    ghost invariant = { λ a. IsAccepted (record { graph = a.graph; labels = a.nodes.items; adj = a.adj.items; announced = a.announced.items; depth = a.depth }) };
+}
+
+impl Net {
+    /// The net of these. `nodes` has an entry for each node, with an SRGB, and `adj` one for each link. The keys in
+    /// `announced` ascend, and that of each link is among them. `depth`, counted in segments, is at most 12. No rule on
+    /// labels is broken (`first_clash` answers none).
+    pub fn new(
+        graph: Graph,
+        nodes: Vec<NodeLabels>,
+        adj: Vec<Option<u32>>,
+        announced: Vec<LinkKey>,
+        depth: u8,
+    ) -> Net
+        requires { IsAccepted (record { graph = graph; labels = nodes.items; adj = adj.items; announced = announced.items; depth = depth }) }
+        ensures { result ≡ record { graph = graph; labels = nodes.items; adj = adj.items; announced = announced.items; depth = depth } }
+    {
+        Net {
+            graph,
+            nodes,
+            adj,
+            announced,
+            depth,
+        }
+    }
+
+    /// The graph.
+    pub fn graph(&self) -> &Graph
+        ensures value { result.now ≡ self.now.graph }
+        ensures accepted { IsAccepted self.now }
+        ensures net { IsNet self.now }
+    {
+        &self.graph
+    }
+
+    /// What the node announces.
+    #[tactic(auto, using(crate::proofs::NetLemmas::accepted_is_net))]
+    pub fn labels(&self, node: NodeNo) -> &NodeLabels
+        requires { node.0 < node_count self.now.graph }
+        ensures value { result.now ≡ labels_at self.now node.0 }
+        ensures accepted { IsAccepted self.now }
+        ensures net { IsNet self.now }
+    {
+        &self.nodes[node.0 as usize]
+    }
+
+    /// The label of the link's adjacency segment, where it has one.
+    #[tactic(auto, using(crate::proofs::NetLemmas::accepted_is_net))]
+    pub fn adj(&self, link: LinkNo) -> Option<u32>
+        requires { link.0 < link_count self.now.graph }
+        ensures value { result ≡ adj_at self.now link.0 }
+        ensures accepted { IsAccepted self.now }
+        ensures net { IsNet self.now }
+    {
+        self.adj[link.0 as usize]
+    }
+
+    /// How many segments a list may have where its node announces no imposition depth.
+    pub fn depth(&self) -> u8
+        ensures value { result ≡ self.now.depth }
+        ensures accepted { IsAccepted self.now }
+        ensures net { IsNet self.now }
+    {
+        self.depth
+    }
+
+    /// The number of the link among the announced keys between its nodes, counted from 1.
+    pub fn place(&self, link: LinkNo) -> u64
+        requires { link.0 < link_count self.now.graph }
+        ensures { IsPlace self.now.announced (key_at self.now.graph link.0) result }
+    {
+        place(&self.announced, &self.graph.link(link).key)
+    }
+
+    /// The announced key of this number, counted from 1, from the one node to the other. Also keys of links that aren't in
+    /// use are counted. None where no key has this number, as none has 0.
+    pub fn named(&self, from: SystemId, to: SystemId, n: u64) -> Option<LinkKey>
+        ensures { result ≡ key_named self.now.announced from to n }
+    {
+        named(&self.announced, from, to, n)
+    }
+}

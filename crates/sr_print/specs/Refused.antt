@@ -1,0 +1,66 @@
+-- Why a line is refused, as text.
+use Rattle.std.specs.Prelude.{ℕ, List, [], ◌++◌, codes, decimal}
+use Rattle.sr_print.specs.declared.refusal.Refusal.{Refusal}
+use Rattle.sr_print.specs.declared.refusal.Refusal.TheVariants.{UnknownWord, BadForm, BadHex, Malformed, Stale, StagedFull, NoSrgb, SrgbBad, DuplicateIndex, IndexOutside, AdjLabelClash, ZeroMetric, DuplicateLink, TooManyNodes, TooManyLinks, Overload, NoNode, NoLink, NoDestination, NotAffected, NoVersion, WatchRunning, LineTooLong, VersionsFull, NotBuilt}
+use Rattle.sr_print.specs.Printed.{ended, node_word, word}
+
+-- the number and the name of a refusal
+abbrev pub refusal_name : Refusal → List ℕ
+refusal_name UnknownWord = codes "1 UnknownWord"
+refusal_name BadForm = codes "2 BadForm"
+refusal_name BadHex = codes "3 BadHex"
+refusal_name (Malformed offset what) = codes "4 Malformed"
+refusal_name (Stale stored given) = codes "5 Stale"
+refusal_name StagedFull = codes "6 StagedFull"
+refusal_name (NoSrgb node) = codes "11 NoSrgb"
+refusal_name (SrgbBad node) = codes "12 SrgbBad"
+refusal_name (DuplicateIndex index low high) = codes "13 DuplicateIndex"
+refusal_name (IndexOutside index node) = codes "14 IndexOutside"
+refusal_name (AdjLabelClash label node) = codes "15 AdjLabelClash"
+refusal_name (ZeroMetric from to) = codes "16 ZeroMetric"
+refusal_name (DuplicateLink from to) = codes "17 DuplicateLink"
+refusal_name (TooManyNodes count) = codes "18 TooManyNodes"
+refusal_name (TooManyLinks count) = codes "19 TooManyLinks"
+refusal_name (Overload node) = codes "20 Overload"
+refusal_name (NoNode node) = codes "21 NoNode"
+refusal_name (NoLink from to n) = codes "22 NoLink"
+refusal_name (NoDestination node) = codes "23 NoDestination"
+refusal_name (NotAffected node) = codes "24 NotAffected"
+refusal_name NoVersion = codes "25 NoVersion"
+refusal_name WatchRunning = codes "26 WatchRunning"
+refusal_name LineTooLong = codes "27 LineTooLong"
+refusal_name VersionsFull = codes "28 VersionsFull"
+refusal_name NotBuilt = codes "29 NotBuilt"
+
+-- what a refusal names: numbers in decimal digits, and nodes by their system ids
+abbrev pub details : Refusal → List ℕ
+details UnknownWord = []
+details BadForm = []
+details BadHex = []
+details (Malformed offset what) = word (decimal offset) ++ word (decimal what)
+details (Stale stored given) = word (decimal stored) ++ word (decimal given)
+details StagedFull = []
+details (NoSrgb node) = node_word node
+details (SrgbBad node) = node_word node
+details (DuplicateIndex index low high) = word (decimal index) ++ node_word low ++ node_word high
+details (IndexOutside index node) = word (decimal index) ++ node_word node
+details (AdjLabelClash label node) = word (decimal label) ++ node_word node
+details (ZeroMetric from to) = node_word from ++ node_word to
+details (DuplicateLink from to) = node_word from ++ node_word to
+details (TooManyNodes count) = word (decimal count)
+details (TooManyLinks count) = word (decimal count)
+details (Overload node) = node_word node
+details (NoNode node) = node_word node
+details (NoLink from to n) = node_word from ++ node_word to ++ word (decimal n)
+details (NoDestination node) = node_word node
+details (NotAffected node) = node_word node
+details NoVersion = []
+details WatchRunning = []
+details LineTooLong = []
+details VersionsFull = []
+details NotBuilt = []
+
+-- the line of this number is refused
+abbrev pub refused_line : ℕ → Refusal → List ℕ
+refused_line number refusal =
+    ended (codes "refused " ++ decimal number ++ word (refusal_name refusal) ++ details refusal)

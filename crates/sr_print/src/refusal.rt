@@ -1,0 +1,102 @@
+//! Why a line is refused.
+
+use sr_model::SystemId;
+
+/// Why a line of a script is refused, with what the refusal names. The order is that of the numbers by which refusals
+/// are known (this project's rule).
+#[derive(Clone, Copy, Debug, PartialEq, Eq)]
+pub enum Refusal {
+    /// The first word is no word of a script.
+    UnknownWord,
+    /// The number of words, or an argument's form or range, is wrong.
+    BadForm,
+    /// The octets aren't written in pairs of hexadecimal digits.
+    BadHex,
+    /// The octets fail a check of link-state PDUs, at this octet.
+    Malformed {
+        offset: u64,
+        what: u8,
+    },
+    /// The database holds a PDU of this id that the given one doesn't replace. Both are told by their sequence
+    /// numbers.
+    Stale {
+        stored: u32,
+        given: u32,
+    },
+    /// As many edits are staged as may be.
+    StagedFull,
+    /// A node announces no label ranges.
+    NoSrgb {
+        node: SystemId,
+    },
+    /// A node announces label ranges that are no SRGB.
+    SrgbBad {
+        node: SystemId,
+    },
+    /// Two nodes announce one index.
+    DuplicateIndex {
+        index: u32,
+        low: SystemId,
+        high: SystemId,
+    },
+    /// An announced index lies outside the label ranges of a node.
+    IndexOutside {
+        index: u32,
+        node: SystemId,
+    },
+    /// An adjacency label of a node is reserved, in its ranges, or that of two of its links.
+    AdjLabelClash {
+        label: u32,
+        node: SystemId,
+    },
+    /// A link has the metric 0.
+    ZeroMetric {
+        from: SystemId,
+        to: SystemId,
+    },
+    /// Two links have one key.
+    DuplicateLink {
+        from: SystemId,
+        to: SystemId,
+    },
+    /// There are more nodes than a net may have.
+    TooManyNodes {
+        count: u64,
+    },
+    /// There are more links than a net may have.
+    TooManyLinks {
+        count: u64,
+    },
+    /// A node is overloaded.
+    Overload {
+        node: SystemId,
+    },
+    /// A system isn't a node of the current version.
+    NoNode {
+        node: SystemId,
+    },
+    /// There is no link of this number between the two nodes.
+    NoLink {
+        from: SystemId,
+        to: SystemId,
+        n: u32,
+    },
+    /// The destination has no node index.
+    NoDestination {
+        node: SystemId,
+    },
+    /// The failure doesn't concern the destination.
+    NotAffected {
+        node: SystemId,
+    },
+    /// No commit was accepted yet.
+    NoVersion,
+    /// Work runs in the background already.
+    WatchRunning,
+    /// The line has more bytes than it may.
+    LineTooLong,
+    /// As many commits were accepted as may be.
+    VersionsFull,
+    /// The word isn't built yet.
+    NotBuilt,
+}

@@ -1,0 +1,124 @@
+//! The line of a refusal.
+ghost use Rattle.std.specs.Prelude.{◌≡◌, ◌++◌, decimal, OnOk, OnErr};
+ghost use Rattle.sr_print.specs.Printed.{BeginsWith, node_word, word};
+ghost use Rattle.sr_print.specs.Refused.{refusal_name, details, refused_line};
+
+use crate::number::{put_node, put_number, put_value};
+use crate::refusal::Refusal;
+use sr_model::SystemId;
+use std::alloc::AllocError;
+
+/// Appends `refused LINE CODE NAME DETAILS`: the line of this number is refused.
+/// After an error a part of the line may stand there; what stood before stays.
+pub fn put_refused(line: u32, refusal: &Refusal, out: &mut Vec<u8>) -> Result<(), AllocError>
+    ensures line { OnOk result (out.new.items ≡ out.old.items ++ refused_line line refusal.now) }
+    ensures err { OnErr result (BeginsWith out.old.items out.new.items) }
+{
+    out.extend_from_slice(b"refused ")?;
+    put_number(u64::from(line), out)?;
+    out.push(b' ')?;
+    out.extend_from_slice(name_of(refusal))?;
+    put_details(refusal, out)?;
+    out.push(b'\n')?;
+    Ok(())
+}
+
+/// The refusal's number and name.
+fn name_of(refusal: &Refusal) -> &'static [u8]
+    ensures { result.now ≡ refusal_name refusal.now }
+{
+    match refusal {
+        Refusal::UnknownWord => b"1 UnknownWord",
+        Refusal::BadForm => b"2 BadForm",
+        Refusal::BadHex => b"3 BadHex",
+        Refusal::Malformed { .. } => b"4 Malformed",
+        Refusal::Stale { .. } => b"5 Stale",
+        Refusal::StagedFull => b"6 StagedFull",
+        Refusal::NoSrgb { .. } => b"11 NoSrgb",
+        Refusal::SrgbBad { .. } => b"12 SrgbBad",
+        Refusal::DuplicateIndex { .. } => b"13 DuplicateIndex",
+        Refusal::IndexOutside { .. } => b"14 IndexOutside",
+        Refusal::AdjLabelClash { .. } => b"15 AdjLabelClash",
+        Refusal::ZeroMetric { .. } => b"16 ZeroMetric",
+        Refusal::DuplicateLink { .. } => b"17 DuplicateLink",
+        Refusal::TooManyNodes { .. } => b"18 TooManyNodes",
+        Refusal::TooManyLinks { .. } => b"19 TooManyLinks",
+        Refusal::Overload { .. } => b"20 Overload",
+        Refusal::NoNode { .. } => b"21 NoNode",
+        Refusal::NoLink { .. } => b"22 NoLink",
+        Refusal::NoDestination { .. } => b"23 NoDestination",
+        Refusal::NotAffected { .. } => b"24 NotAffected",
+        Refusal::NoVersion => b"25 NoVersion",
+        Refusal::WatchRunning => b"26 WatchRunning",
+        Refusal::LineTooLong => b"27 LineTooLong",
+        Refusal::VersionsFull => b"28 VersionsFull",
+        Refusal::NotBuilt => b"29 NotBuilt",
+    }
+}
+
+/// Appends what the refusal names. After an error a part of it may stand there;
+/// what stood before stays.
+fn put_details(refusal: &Refusal, out: &mut Vec<u8>) -> Result<(), AllocError>
+    ensures line { OnOk result (out.new.items ≡ out.old.items ++ details refusal.now) }
+    ensures err { OnErr result (BeginsWith out.old.items out.new.items) }
+{
+    match refusal {
+        Refusal::Malformed { offset, what } => put_values(*offset, u64::from(*what), out),
+        Refusal::Stale { stored, given } => {
+            put_values(u64::from(*stored), u64::from(*given), out)
+        }
+        Refusal::DuplicateIndex { index, low, high } => {
+            put_value(u64::from(*index), out)?;
+            put_nodes(*low, *high, out)
+        }
+        Refusal::IndexOutside { index, node } => put_value_at(*index, *node, out),
+        Refusal::AdjLabelClash { label, node } => put_value_at(*label, *node, out),
+        Refusal::ZeroMetric { from, to } | Refusal::DuplicateLink { from, to } => {
+            put_nodes(*from, *to, out)
+        }
+        Refusal::TooManyNodes { count } | Refusal::TooManyLinks { count } => {
+            put_value(*count, out)
+        }
+        Refusal::NoLink { from, to, n } => {
+            put_nodes(*from, *to, out)?;
+            put_value(u64::from(*n), out)
+        }
+        Refusal::NoSrgb { node }
+        | Refusal::SrgbBad { node }
+        | Refusal::Overload { node }
+        | Refusal::NoNode { node }
+        | Refusal::NoDestination { node }
+        | Refusal::NotAffected { node } => put_node(*node, out),
+        _ => Ok(()),
+    }
+}
+
+/// Appends two numbers. After an error a part of them may stand there;
+/// what stood before stays.
+fn put_values(first: u64, second: u64, out: &mut Vec<u8>) -> Result<(), AllocError>
+    ensures line { OnOk result (out.new.items ≡ out.old.items ++ word (decimal first) ++ word (decimal second)) }
+    ensures err { OnErr result (BeginsWith out.old.items out.new.items) }
+{
+    put_value(first, out)?;
+    put_value(second, out)
+}
+
+/// Appends two nodes. After an error a part of them may stand there;
+/// what stood before stays.
+fn put_nodes(first: SystemId, second: SystemId, out: &mut Vec<u8>) -> Result<(), AllocError>
+    ensures line { OnOk result (out.new.items ≡ out.old.items ++ node_word first ++ node_word second) }
+    ensures err { OnErr result (BeginsWith out.old.items out.new.items) }
+{
+    put_node(first, out)?;
+    put_node(second, out)
+}
+
+/// Appends a number and the node that it is of. After an error a part of them may stand there;
+/// what stood before stays.
+fn put_value_at(number: u32, node: SystemId, out: &mut Vec<u8>) -> Result<(), AllocError>
+    ensures line { OnOk result (out.new.items ≡ out.old.items ++ word (decimal number) ++ node_word node) }
+    ensures err { OnErr result (BeginsWith out.old.items out.new.items) }
+{
+    put_value(u64::from(number), out)?;
+    put_node(node, out)
+}

@@ -1,0 +1,69 @@
+//! What is printed.
+
+use crate::refusal::Refusal;
+use crate::{put_dist, put_dropped, put_refused, put_show, put_staged, put_version};
+use sr_model::SystemId;
+use std::alloc::AllocError;
+
+#[test]
+fn lines_are_printed(rt: HostRuntime) -> Result<(), AllocError> {
+    let mut out = Vec::new(rt.alloc());
+    put_staged(4_096, &mut out)?;
+    put_dropped(0, &mut out)?;
+    put_version(65_535, 256, 2_048, &mut out)?;
+    put_dist(Some(4_278_189_570), &mut out)?;
+    put_dist(None, &mut out)?;
+    put_show(3, 4, 8, 3, 0, &mut out)?;
+    let text =
+        "staged 4096\ndropped 0\nversion 65535 nodes 256 links 2048\ndist 4278189570\ndist none\nshow version 3 nodes 4 links 8 depth 3 staged 0\n";
+    assert_eq!(rt; out.as_slice(), text.as_bytes());
+    Ok(())
+}
+
+#[test]
+fn refusals_are_printed(rt: HostRuntime) -> Result<(), AllocError> {
+    let mut out = Vec::new(rt.alloc());
+    let (Some(low), Some(high)) = (SystemId::new(3), SystemId::new(0xabc)) else {
+        return Ok(());
+    };
+    put_refused(1, &Refusal::NoVersion, &mut out)?;
+    put_refused(
+        2,
+        &Refusal::Malformed {
+            offset: 45,
+            what: 8,
+        },
+        &mut out,
+    )?;
+    put_refused(
+        3,
+        &Refusal::DuplicateIndex {
+            index: 3,
+            low,
+            high,
+        },
+        &mut out,
+    )?;
+    put_refused(
+        4,
+        &Refusal::IndexOutside {
+            index: 300,
+            node: low,
+        },
+        &mut out,
+    )?;
+    put_refused(
+        5,
+        &Refusal::NoLink {
+            from: low,
+            to: high,
+            n: 1,
+        },
+        &mut out,
+    )?;
+    put_refused(6, &Refusal::TooManyLinks { count: 2_070 }, &mut out)?;
+    let text =
+        "refused 1 25 NoVersion\nrefused 2 4 Malformed 45 8\nrefused 3 13 DuplicateIndex 3 0000.0000.0003 0000.0000.0abc\nrefused 4 14 IndexOutside 300 0000.0000.0003\nrefused 5 22 NoLink 0000.0000.0003 0000.0000.0abc 1\nrefused 6 19 TooManyLinks 2070\n";
+    assert_eq!(rt; out.as_slice(), text.as_bytes());
+    Ok(())
+}

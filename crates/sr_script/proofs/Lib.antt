@@ -1,0 +1,5 @@
+mod WordLemmas
+mod KeptLemmas
+mod FormLemmas
+mod SaidLemmas
+mod LineLemmas

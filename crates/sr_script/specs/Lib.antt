@@ -1,0 +1,5 @@
+pub mod Words
+pub mod Number
+pub mod Says
+pub mod LineSays
+pub mod Form

@@ -1,0 +1,90 @@
+-- What a line says, and why a line is refused (this project's rule). A line comes without its line feed.
+use Rattle.std.specs.Prelude.{◌≡◌, ℕ, ◌<◌, ◌≤◌, List, [], ◌∷◌, length, codes, slice_index, Contains, IsErr}
+use Rattle.hex.specs.Hex.{decode_of}
+use Rattle.sr_script.specs.declared.command.Command.{Command}
+use Rattle.sr_script.specs.declared.line.Line.{Line}
+use Rattle.sr_script.specs.declared.line.Line.TheVariants.{Nothing, Word}
+use Rattle.sr_script.specs.declared.line.LineFault.{LineFault}
+use Rattle.sr_script.specs.declared.line.LineFault.TheVariants.{TooLong, UnknownWord, BadForm, BadHex, Memory}
+use Rattle.sr_script.specs.Words.{words_of}
+use Rattle.sr_script.specs.Says.{Says}
+
+-- the words with which a command may begin
+abbrev pub script_words : List (List ℕ)
+script_words =
+    codes "lsp" ∷ codes "cost" ∷ codes "down" ∷ codes "up" ∷ codes "depth" ∷ codes "commit" ∷ codes "drop"
+    ∷ codes "dist" ∷ codes "next" ∷ codes "label" ∷ codes "spaces" ∷ codes "repair" ∷ codes "walk"
+    ∷ codes "audit" ∷ codes "hold" ∷ codes "watch" ∷ codes "join" ∷ codes "show" ∷ []
+
+-- the word begins with `#`, which is 35
+abbrev pub IsRemark : List ℕ → Type 0
+IsRemark word = slice_index word 0 ≡ 35
+
+-- there are no words, or the first begins a remark
+abbrev pub SaysNothing : List (List ℕ) → Type 0
+SaysNothing [] = Unit {0}
+SaysNothing (first ∷ rest) = IsRemark first
+
+-- the first word begins neither a remark nor a command
+abbrev pub IsUnknown : List (List ℕ) → Type 0
+IsUnknown [] = ⊥
+IsUnknown (first ∷ rest) = ¬ IsRemark first × ¬ Contains script_words first
+
+-- the first word begins a command
+abbrev pub IsKnown : List (List ℕ) → Type 0
+IsKnown [] = ⊥
+IsKnown (first ∷ rest) = Contains script_words first
+
+-- the words are `lsp` and one text
+abbrev pub IsLspOf : List (List ℕ) → List ℕ → Type 0
+IsLspOf ws text = ws ≡ codes "lsp" ∷ text ∷ []
+
+-- the words say this
+abbrev pub WordsSay : List (List ℕ) → Line → Type 0
+WordsSay ws Nothing = SaysNothing ws
+WordsSay ws (Word command) = Says ws command
+
+-- the words begin a command, aren't `lsp` and one text, and say no command
+pub record IsBadForm (ws : List (List ℕ)) : Type 0 where
+  pub known : IsKnown ws
+  pub other : (text : List ℕ) → ¬ IsLspOf ws text
+  pub unsaid : (command : Command) → ¬ Says ws command
+
+-- the words are `lsp` and a text that isn't pairs of hexadecimal digits
+pub record IsBadHex (ws : List (List ℕ)) : Type 0 where
+  pub text : List ℕ
+  pub lsp : IsLspOf ws text
+  pub refused : IsErr (decode_of text)
+
+-- the words of a line that isn't too long are refused so; memory may run out at any line
+abbrev pub IsWordsFault : List (List ℕ) → LineFault → Type 0
+IsWordsFault ws TooLong = ⊥
+IsWordsFault ws UnknownWord = IsUnknown ws
+IsWordsFault ws BadForm = IsBadForm ws
+IsWordsFault ws BadHex = IsBadHex ws
+IsWordsFault ws (Memory error) = Unit {0}
+
+-- at most 140,000 bytes, a carriage return counted
+abbrev pub IsShort : List ℕ → Type 0
+IsShort line = length line ≤ 140000
+
+-- a line that isn't too long says what its words say
+pub record LineSays (line : List ℕ) (said : Line) : Type 0 where
+  pub short : IsShort line
+  pub says : WordsSay (words_of line) said
+
+-- the line is refused so; memory may run out at any line
+abbrev pub IsLineFault : List ℕ → LineFault → Type 0
+IsLineFault line TooLong = 140000 < length line
+IsLineFault line UnknownWord = IsShort line × IsUnknown (words_of line)
+IsLineFault line BadForm = IsShort line × IsBadForm (words_of line)
+IsLineFault line BadHex = IsShort line × IsBadHex (words_of line)
+IsLineFault line (Memory error) = Unit {0}
+
+-- memory ran out
+abbrev pub IsMemory : LineFault → Type 0
+IsMemory TooLong = ⊥
+IsMemory UnknownWord = ⊥
+IsMemory BadForm = ⊥
+IsMemory BadHex = ⊥
+IsMemory (Memory error) = Unit {0}

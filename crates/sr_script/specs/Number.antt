@@ -1,0 +1,25 @@
+-- Numbers as words: 1 to 10 decimal digits (this project's rule). Leading zeros are taken.
+use Rattle.std.specs.Prelude.{ℕ, ◌+◌, ◌-◌, ◌*◌, nat_le, ◌&&◌, Bool, if◌then◌else◌, List, length, fold, Option, Some, None}
+use Rattle.std.specs.List.{list_all}
+use Rattle.std.specs.Char.{is_ascii_digit}
+
+-- the number that decimal digits write, the highest digit first; 48 is `b'0'`
+abbrev pub decimal_value : List ℕ → ℕ
+decimal_value word = fold (λ n byte. n * 10 + (byte - 48)) 0 word
+
+-- one to ten digits, and nothing else
+abbrev pub is_number : List ℕ → Bool
+is_number word = list_all is_ascii_digit word && (nat_le 1 (length word) && nat_le (length word) 10)
+
+-- the number that a word writes, if it is a number
+unfoldable pub number_of : List ℕ → Option ℕ
+number_of word = if is_number word then Some (decimal_value word) else None
+
+-- a number, if it is there and in the range
+abbrev pub within : ℕ → ℕ → Option ℕ → Option ℕ
+within low high (Some n) = if nat_le low n && nat_le n high then Some n else None
+within low high None = None
+
+-- the number that a word writes, if it is a number in the range
+unfoldable pub number_in : ℕ → ℕ → List ℕ → Option ℕ
+number_in low high word = within low high (number_of word)

@@ -1,0 +1,39 @@
+//! Numbers as words.
+
+ghost use Rattle.std.specs.Prelude.{◌≡◌, ◌≤◌, IfSome};
+ghost use Rattle.sr_script.specs.Number.{number_of, number_in as number_within};
+
+/// The most digits of a number.
+const MOST_DIGITS: usize = 10;
+
+/// The number that the word writes. None exactly where the word isn't one to ten decimal digits.
+#[tactic(auto, unfolding(crate::specs::Number::number_of))]
+fn read_number(word: &[u8]) -> Option<u64>
+    ensures { result ≡ number_of word.now }
+{
+    if word.is_empty() || word.len() > MOST_DIGITS {
+        return None;
+    }
+    let mut value = 0;
+    for byte in word {
+        if !byte.is_ascii_digit() {
+            return None;
+        }
+        value = value * 10 + (*byte - b'0') as u64;
+    }
+    Some(value)
+}
+
+/// The number that the word writes, where it is at least the one bound and at most the other.
+#[tactic(auto, unfolding(crate::specs::Number::number_in))]
+pub(crate) fn number_in(word: &[u8], low: u32, high: u32) -> Option<u32>
+    ensures value { result ≡ number_within low high word.now }
+    ensures range { IfSome result (λ n. (low ≤ n) × (n ≤ high)) }
+{
+    let value = read_number(word)?;
+    if low as u64 <= value && value <= high as u64 {
+        Some(value as u32)
+    } else {
+        None
+    }
+}

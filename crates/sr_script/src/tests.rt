@@ -1,0 +1,241 @@
+use super::*;
+use std::alloc::Global;
+use std::process::Abort;
+use std::test::Fail;
+
+/// What came of a line, in a word.
+fn outcome(read: &Result<Line, LineFault>) -> &'static str {
+    match read {
+        Ok(Line::Nothing) => "nothing",
+        Ok(Line::Word(_)) => "command",
+        Err(LineFault::TooLong) => "too long",
+        Err(LineFault::UnknownWord) => "unknown word",
+        Err(LineFault::BadForm) => "bad form",
+        Err(LineFault::BadHex) => "bad hex",
+        Err(LineFault::Memory(_)) => "memory",
+    }
+}
+
+/// Each line comes out so.
+fn expect(rt: &impl Abort, alloc: Global, lines: &[&str], expected: &str) {
+    for line in lines {
+        let read = read_line(alloc, line.as_bytes());
+        assert_eq!(rt; outcome(&read), expected, "{line:?}");
+    }
+}
+
+/// The line is this command, as its fields are printed.
+fn expect_command(rt: &impl Abort, alloc: Global, line: &str, expected: &str) -> Result<(), Fail> {
+    match read_line(alloc, line.as_bytes()) {
+        Ok(Line::Word(command)) => {
+            let printed = format!(in alloc; "{command:?}")?;
+            assert_eq!(rt; printed.as_str(), expected, "{line:?}");
+        }
+        _ => assert!(rt; false, "{line:?}"),
+    }
+    Ok(())
+}
+
+#[test]
+fn edits_are_read(rt: HostRuntime) -> Result<(), Fail> {
+    let alloc = rt.alloc();
+    for (line, expected) in [
+        (
+            "lsp 831bFf",
+            "Lsp { octets: Octets { items: [131, 27, 255] } }",
+        ),
+        (
+            "\tcost 0000.0000.00ff  0000.0000.00FF\t \t0000000001 16777214 \r",
+            "Cost { from: SystemId { value: 255 }, to: SystemId { value: 255 }, n: 1, metric: 16777214 }",
+        ),
+        (
+            "down 1921.6800.1001 0000.0000.0002 65535",
+            "Down { from: SystemId { value: 27631269449729 }, to: SystemId { value: 2 }, n: 65535 }",
+        ),
+        (
+            "up 0000.0000.0001 0000.0000.0002 065535\t",
+            "Up { from: SystemId { value: 1 }, to: SystemId { value: 2 }, n: 65535 }",
+        ),
+        ("depth 12\r", "Depth { depth: 12 }"),
+        (" commit\r", "Commit"),
+        ("drop ", "DropStaged"),
+    ] {
+        expect_command(&rt, alloc, line, expected)?;
+    }
+    Ok(())
+}
+
+#[test]
+fn questions_are_read(rt: HostRuntime) -> Result<(), Fail> {
+    let alloc = rt.alloc();
+    for (line, expected) in [
+        (
+            "dist 0000.0000.0001\t\t0000.0000.0002",
+            "Dist { from: SystemId { value: 1 }, to: SystemId { value: 2 } }",
+        ),
+        (
+            "next  0000.0000.0001 0000.0000.0002",
+            "Next { from: SystemId { value: 1 }, to: SystemId { value: 2 } }",
+        ),
+        (
+            "label 0000.0000.000a 0001048575",
+            "Label { node: SystemId { value: 10 }, label: 1048575 }",
+        ),
+        (
+            "spaces link 0000.0000.0001 0000.0000.0002 3 0000.0000.0004",
+            "Spaces { kind: Link, from: SystemId { value: 1 }, to: SystemId { value: 2 }, n: 3, \
+            dest: SystemId { value: 4 } }",
+        ),
+        (
+            "repair node 0000.0000.0001 0000.0000.0002 3 0000.0000.0004",
+            "Repair { kind: Node, from: SystemId { value: 1 }, to: SystemId { value: 2 }, n: 3, \
+            dest: SystemId { value: 4 } }",
+        ),
+        (
+            "walk 0000.0000.0001 0000.0000.0004 4294967295",
+            "Walk { from: SystemId { value: 1 }, dest: SystemId { value: 4 }, choice: 4294967295 }",
+        ),
+        (
+            "walk risk 0000.0000.0001 0000.0000.0002 3 0000.0000.0004 0",
+            "WalkRepair { kind: Risk, from: SystemId { value: 1 }, to: SystemId { value: 2 }, n: 3, \
+            dest: SystemId { value: 4 }, choice: 0 }",
+        ),
+    ] {
+        expect_command(&rt, alloc, line, expected)?;
+    }
+    Ok(())
+}
+
+#[test]
+fn other_commands_are_read(rt: HostRuntime) -> Result<(), Fail> {
+    let alloc = rt.alloc();
+    for (line, expected) in [
+        ("audit", "Audit"),
+        ("audit \tfull\r", "AuditFull"),
+        ("hold", "Hold"),
+        ("watch 8 016", "Watch { watchers: 8, rounds: 16 }"),
+        ("watch 1 1", "Watch { watchers: 1, rounds: 1 }"),
+        ("join", "Join"),
+        ("show", "Show"),
+        ("lsp \t83", "Lsp { octets: Octets { items: [131] } }"),
+        ("depth 0000000000", "Depth { depth: 0 }"),
+    ] {
+        expect_command(&rt, alloc, line, expected)?;
+    }
+    Ok(())
+}
+
+#[test]
+fn lines_without_words_and_remarks_say_nothing(rt: HostRuntime) {
+    let lines = [
+        "",
+        "\r",
+        " \t ",
+        "\t\r",
+        "# commit",
+        "  #commit",
+        "#",
+        "#\r",
+    ];
+    expect(&rt, rt.alloc(), &lines, "nothing");
+}
+
+#[test]
+fn other_first_words_are_unknown(rt: HostRuntime) {
+    let lines = [
+        "commit\r\r",
+        "\rcommit",
+        "Commit",
+        "COMMIT",
+        "commits",
+        "commi",
+        "lsps 00",
+        "full",
+        "12",
+        "\u{b}",
+        "\r\r",
+        "0000.0000.0001",
+        "commit#",
+    ];
+    expect(&rt, rt.alloc(), &lines, "unknown word");
+}
+
+#[test]
+fn ranges_and_forms_are_kept(rt: HostRuntime) {
+    let lines = [
+        "depth 13",
+        "depth 00000000000",
+        "depth 256",
+        "depth -1",
+        "depth +1",
+        "depth 1x",
+        "depth",
+        "depth 1 1",
+        "watch 9 1",
+        "watch 0 1",
+        "watch 1 0",
+        "watch 1 17",
+        "watch 1",
+        "label 0000.0000.0001 1048576",
+        "label 0000.0000.0001",
+        "cost 0000.0000.0001 0000.0000.0002 0 1",
+        "cost 0000.0000.0001 0000.0000.0002 65536 1",
+        "cost 0000.0000.0001 0000.0000.0002 1 0",
+        "cost 0000.0000.0001 0000.0000.0002 1 16777215",
+        "cost 0000.0000.0001 0000.0000.0002 1",
+        "cost 0000.0000.0001 0000.0000.0002 1 1 1",
+        "down 0000.0000.0001 0000.0000.0002",
+        "up 0000.0000.0001 0000.0000.0002 9999999999",
+    ];
+    expect(&rt, rt.alloc(), &lines, "bad form");
+}
+
+#[test]
+fn names_and_counts_of_words_are_kept(rt: HostRuntime) {
+    let lines = [
+        "dist 0000.0000.0001",
+        "dist 0000.0000.001 0000.0000.0002",
+        "next 0000.0000.0001 0000.0000.000g",
+        "next 0000.0000.0001 0000.0000.0002 0000.0000.0003",
+        "commit now",
+        "drop \r\r",
+        "hold 1",
+        "join 1",
+        "show 1",
+        "audit ful",
+        "audit full 1",
+        "walk 0000.0000.0001 0000.0000.0002",
+        "walk 0000.0000.0001 0000.0000.0002 4294967296",
+        "walk Link 0000.0000.0001 0000.0000.0002 1 0000.0000.0004 0",
+        "walk link 0000.0000.0001 0000.0000.0002 1 0000.0000.0004",
+        "walk link 0000.0000.0001 0000.0000.0002 1 0000.0000.0004 0 0",
+        "repair 0000.0000.0001 0000.0000.0002 1 0000.0000.0004",
+        "spaces path 0000.0000.0001 0000.0000.0002 1 0000.0000.0004",
+        "lsp",
+        "lsp 00 00",
+        "lsp 0 0g",
+    ];
+    expect(&rt, rt.alloc(), &lines, "bad form");
+}
+
+#[test]
+fn octets_are_pairs_of_digits(rt: HostRuntime) {
+    let lines = ["lsp 83f", "lsp 8g", "lsp 0x83", "lsp 8", "lsp 83 \r\r"];
+    expect(&rt, rt.alloc(), &lines[..4], "bad hex");
+    expect(&rt, rt.alloc(), &lines[4..], "bad form");
+}
+
+#[test]
+fn long_lines_are_refused_first(rt: HostRuntime) -> Result<(), Fail> {
+    let alloc = rt.alloc();
+    let letters = vec![in alloc; b'x'; 140_000]?;
+    assert_eq!(rt; outcome(&read_line(alloc, &letters)), "unknown word");
+    let blanks = vec![in alloc; b' '; 140_000]?;
+    assert_eq!(rt; outcome(&read_line(alloc, &blanks)), "nothing");
+    let more = vec![in alloc; b' '; 140_001]?;
+    assert_eq!(rt; outcome(&read_line(alloc, &more)), "too long");
+    let mut returned = vec![in alloc; b' '; 140_000]?;
+    returned.push(b'\r')?;
+    assert_eq!(rt; outcome(&read_line(alloc, &returned)), "too long");
+    Ok(())
+}
