@@ -2,7 +2,10 @@
 
 mod cases;
 mod devices;
+mod domains;
+mod flooded;
 mod limits;
+mod routers;
 
 use cases::CASES;
 use sr_base::{SteadySink, SteadySource};

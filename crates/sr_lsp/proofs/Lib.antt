@@ -1,7 +1,3 @@
-pub mod DistinctLemmas
-pub mod EntryLemmas
-pub mod BodyLemmas
-pub mod PlainLemmas
 pub mod SubLemmas
 pub mod ReachLemmas
 pub mod FaultLemmas
@@ -9,3 +5,19 @@ pub mod CapabilityLemmas
 pub mod RiskLemmas
 pub mod LspLemmas
 pub mod PrefixLemmas
+pub mod SameRunLemmas
+pub mod SameFaultLemmas
+pub mod SameSubLemmas
+pub mod SamePartLemmas
+pub mod SameLspLemmas
+mod AgainHeader
+mod AgainSubs
+mod AgainReach
+mod AgainPrefix
+mod AgainCapability
+mod AgainRisk
+mod AgainLsp
+pub mod TextLemmas
+pub mod PrefixTextLemmas
+pub mod OctetLemmas
+pub mod InRangeLemmas

@@ -1,35 +1,55 @@
 -- Shared-risk link groups.
-use Rattle.std.proofs.Common.{◌≡◌, ℕ, ◌+◌, ◌-◌, ◌*◌, ◌<◌, ◌≤◌, inl, inr, List, [], ◌∷◌, ◌++◌, length, drop, slice_index, refl, sym, ap, ◌∙◌, arith, append_assoc, length-append, length-drop}
-use Rattle.std.specs.List.{flat_map}
-use Rattle.std.proofs.lemmas.List.{flat_map_more}
-use Rattle.byteorder.specs.Endian.{big_bytes}
+use Rattle.std.proofs.Common.{◌≡◌, ℕ, ◌+◌, ◌-◌, ◌*◌, ◌≤◌, inl, inr, List, [], ◌∷◌, ◌++◌, length, drop, refl, sym, ap, ◌∙◌, subst, arith, append_assoc, length-drop}
+use Rattle.std.proofs.Math.ListN.{drop_of_length-le}
+use Rattle.std.proofs.lemmas.List.{append-nil, drop-drop}
 use Rattle.sr_subtlv.specs.Octets.{number}
-use Rattle.sr_subtlv.proofs.Bytes.{split_number}
 use Rattle.sr_lsp.specs.declared.part.Risk.{Risk}
-use Rattle.sr_lsp.specs.Risk.{RiskFault, SaysRisk}
+use Rattle.sr_lsp.specs.Risk.{AreGroups, RiskFault, SaysRisk}
+
+-- the groups before a place: with what is left they are the whole
+pub record GroupsSoFar (octets : List ℕ) (at : ℕ) (groups : List ℕ) : Type 0 where
+  pub grows : (tail : List ℕ) → AreGroups (drop at octets) tail → AreGroups (drop 16 octets) (groups ++ tail)
+
+pub no_groups : (octets : List ℕ) → GroupsSoFar octets 16 []
+no_groups octets = record { grows = λ tail h. h }
 
 -- one group more
-pub groups_more : (value groups : List ℕ) (at group : ℕ) → ((k : ℕ) → slice_index value k < 256) → at + 4 ≤ length value → group ≡ number value at 4
-    → drop 16 value ≡ flat_map (big_bytes 4) groups ++ drop at value → drop 16 value ≡ flat_map (big_bytes 4) (groups ++ group ∷ []) ++ drop (at + 4) value
-groups_more value groups at group small room is text =
-    text ∙ ap (λ (xs : List ℕ). flat_map (big_bytes 4) groups ++ xs) (split_number 4 at value small room)
-    ∙ ap (λ (g : ℕ). flat_map (big_bytes 4) groups ++ (big_bytes 4 g ++ drop (at + 4) value)) (sym is)
-    ∙ sym (append_assoc (flat_map (big_bytes 4) groups) (big_bytes 4 group) (drop (at + 4) value))
-    ∙ ap (λ (xs : List ℕ). xs ++ drop (at + 4) value) (flat_map_more (big_bytes 4) [] groups group)
+pub one_group : (octets groups : List ℕ) (at group : ℕ) → GroupsSoFar octets at groups → at + 4 ≤ length octets → group ≡ number octets at 4 → GroupsSoFar octets (at + 4) (groups ++ group ∷ [])
+one_group octets groups at group s room is = record {
+  grows = λ tail h.
+      let P : List ℕ → Type 0 = λ gs. AreGroups (drop 16 octets) gs in
+      let Q : List ℕ → Type 0 = λ xs. AreGroups xs tail in
+      let fits : 4 ≤ length (drop at octets) = omega (arith, length-drop at octets) in
+      subst P (sym (append_assoc groups (group ∷ []) tail)) (s.grows (group ∷ tail) (fits, is, subst Q (sym (drop-drop 4 at octets)) h));
+}
+
+-- at the end all octets are groups
+pub all_groups : (octets groups : List ℕ) (at : ℕ) → GroupsSoFar octets at groups → length octets ≤ at → AreGroups (drop 16 octets) groups
+all_groups octets groups at s end =
+    let P : List ℕ → Type 0 = λ gs. AreGroups (drop 16 octets) gs in
+    subst P (append-nil groups) (s.grows [] (drop_of_length-le octets end))
 
 -- four octets each
-length_groups : (groups : List ℕ) → length (flat_map (big_bytes 4) groups) ≡ 4 * length groups
-length_groups [] = refl
-length_groups (g ∷ gs) =
-    let one : length (flat_map (big_bytes 4) (g ∷ gs)) ≡ 4 + length (flat_map (big_bytes 4) gs) = length-append (big_bytes 4 g) (flat_map (big_bytes 4) gs) in
-    let rest : length (flat_map (big_bytes 4) gs) ≡ 4 * length gs = length_groups gs in
-    omega arith
+length_groups : (octets groups : List ℕ) → AreGroups octets groups → length octets ≡ 4 * length groups
+length_groups octets [] are = ap length are
+length_groups octets (g ∷ gs) are =
+    let room : 4 ≤ length octets = are.0 in
+    let rest : length (drop 4 octets) ≡ 4 * length gs = length_groups (drop 4 octets) gs are.2 in
+    omega (arith, length-drop 4 octets)
+
+-- octets are one list of groups
+pub same_groups : (octets xs ys : List ℕ) → AreGroups octets xs → AreGroups octets ys → xs ≡ ys
+same_groups octets [] [] a b = refl
+same_groups octets [] (y ∷ ys) a b = absurd (let none : length octets ≡ 0 = ap length a in omega (arith, b.0))
+same_groups octets (x ∷ xs) [] a b = absurd (let none : length octets ≡ 0 = ap length b in omega (arith, a.0))
+same_groups octets (x ∷ xs) (y ∷ ys) a b =
+    ap (λ (g : ℕ). g ∷ xs) (a.1 ∙ sym b.1) ∙ ap (λ (gs : List ℕ). y ∷ gs) (same_groups (drop 4 octets) xs ys a.2 b.2)
 
 -- a value that says groups has no fault
 pub sound_risk : (value : List ℕ) (risk : Risk) → SaysRisk value risk → (at : ℕ) → RiskFault value at → ⊥
 sound_risk value risk says at fault =
     let whole : 16 ≤ length value = says.whole in
-    let groups : length (drop 16 value) ≡ 4 * length risk.groups = ap length says.groups ∙ length_groups risk.groups in
+    let groups : length (drop 16 value) ≡ 4 * length risk.groups = length_groups (drop 16 value) risk.groups says.groups in
     let long : length (drop 16 value) ≡ length value - 16 = length-drop 16 value in
     elim fault [
       | inl a ↦ omega (arith, a.0, a.1.1)

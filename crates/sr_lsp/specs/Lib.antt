@@ -1,5 +1,4 @@
 pub mod Header
-pub mod Pdu
 pub mod Fault
 pub mod Run
 pub mod Sub
@@ -8,4 +7,7 @@ pub mod Prefix
 pub mod Risk
 pub mod Capability
 pub mod Lsp
-pub mod Plain
+pub mod InRange
+pub mod Text
+pub mod WriteFault
+pub mod Widths

@@ -22,6 +22,10 @@ pub record PrefixEntry : Type 0 where
 abbrev pub bits_of : PrefixEntry → ℕ
 bits_of entry = entry.control % 64
 
+-- how many octets hold a prefix of so many bits
+abbrev pub prefix_octets : ℕ → ℕ
+prefix_octets bits = (bits + 7) / 8
+
 -- whether sub-TLVs are present, the control octet's bit 0x40
 abbrev pub has_subs : PrefixEntry → Bool
 has_subs entry = not (bit_and entry.control 0x40 == 0)
@@ -37,7 +41,7 @@ prefix_text entry = (big_bytes 4 entry.metric ++ entry.control ∷ entry.prefix)
 -- its metric fits its octets, its prefix has as few octets as hold its length, and there are sub-TLVs only where the bit says so
 pub record IsPrefixEntry (entry : PrefixEntry) : Type 0 where
   pub metric : entry.metric < 2 ^ 32
-  pub long : length entry.prefix ≡ (bits_of entry + 7) / 8
+  pub long : length entry.prefix ≡ prefix_octets (bits_of entry)
   pub none : MatchBool (has_subs entry) (Unit {0}) (entry.subs ≡ [])
 
 -- the entry at a place, whose prefix and sub-TLVs stand where the extent says

@@ -1,9 +1,12 @@
 -- Shared-risk link groups, TLV 138 (RFC 5307, 1.4).
-use Rattle.std.specs.Prelude.{◌≡◌, ◌≢◌, ℕ, ◌+◌, ◌*◌, ◌%◌, ◌<◌, ◌≤◌, ◌==◌, ◌⊎◌, List, length, drop}
-use Rattle.std.specs.List.{flat_map}
-use Rattle.byteorder.specs.Endian.{big_bytes}
+use Rattle.std.specs.Prelude.{◌≡◌, ◌≢◌, ℕ, ◌+◌, ◌*◌, ◌%◌, ◌<◌, ◌≤◌, ◌==◌, ◌⊎◌, List, [], ◌∷◌, length, drop}
 use Rattle.sr_subtlv.specs.Octets.{number, octet}
 use Rattle.sr_lsp.specs.declared.part.Risk.{Risk}
+
+-- the octets are these groups, four octets each
+abbrev pub AreGroups : List ℕ → List ℕ → Type 0
+AreGroups octets [] = octets ≡ []
+AreGroups octets (g ∷ gs) = (4 ≤ length octets) × (g ≡ number octets 0 4) × AreGroups (drop 4 octets) gs
 
 -- the neighbour's system id and pseudonode, flags whose lowest bit says that the link is numbered, two fields that name the link, and the groups
 pub record SaysRisk (value : List ℕ) (risk : Risk) : Type 0 where
@@ -13,7 +16,7 @@ pub record SaysRisk (value : List ℕ) (risk : Risk) : Type 0 where
   pub numbered : risk.numbered ≡ (octet value 7 % 2 == 1)
   pub local : risk.local ≡ number value 8 4
   pub remote : risk.remote ≡ number value 12 4
-  pub groups : drop 16 value ≡ flat_map (big_bytes 4) risk.groups
+  pub groups : AreGroups (drop 16 value) risk.groups
 
 -- a field of these octets, from this place on, passes the end of so many
 abbrev pub IsCut : ℕ → ℕ → ℕ → Type 0

@@ -1,18 +1,18 @@
 //! Reading a link-state PDU.
 
-ghost use Rattle.std.specs.Prelude.{◌≡◌, ℕ, ◌≤◌, ◌++◌, List, length, IfErr, MatchResult};
+ghost use Rattle.std.specs.Prelude.{◌≡◌, ℕ, ◌≤◌, ◌++◌, List, length, IfErr, IfOk, MatchResult};
 ghost use Rattle.sr_subtlv.specs.Tlv.{Tlv};
 ghost use Rattle.sr_lsp.specs.declared.fault.Check.TheVariants.{TlvExtent};
-ghost use Rattle.sr_lsp.specs.declared.fault.Malformed.{Malformed};
-ghost use Rattle.sr_lsp.specs.declared.lsp.Lsp.{Lsp};
 ghost use Rattle.sr_lsp.specs.declared.part.Part.{Part};
 ghost use Rattle.sr_lsp.specs.Fault.{IfMalformed};
+ghost use Rattle.sr_lsp.specs.InRange.{IsInRange};
 ghost use Rattle.sr_lsp.specs.Lsp.{IsBroken, Reads, SaysBody, TlvSays, ValueFault, tlv_layout};
 ghost use Rattle.sr_lsp.specs.Run.{RunFault};
 
 use crate::capability::read_capability;
 use crate::fault::{Check, Malformed};
-use crate::header::{HEADER, Header};
+use crate::header::{HEADER_OCTETS, Header};
+use crate::kinds::{EXTENDED_PREFIX, EXTENDED_REACH, ROUTER_CAPABILITY, SHARED_RISK};
 use crate::lsp::{Lsp, LspId, Parts};
 use crate::part::Part;
 use crate::prefix::read_prefixes;
@@ -22,29 +22,21 @@ use crate::risk::read_risk;
 use sr_subtlv::frame;
 use std::alloc::Global;
 
-/// The types of the TLVs that are read: extended IS reachability, extended IP reachability, shared-risk link groups and
-/// the router capability.
-const EXTENDED_REACH: u8 = 22;
-
-const EXTENDED_PREFIX: u8 = 135;
-
-const SHARED_RISK: u8 = 138;
-
-const ROUTER_CAPABILITY: u8 = 242;
-
 /// The value of a link-state PDU, with the known parts in order of place, or the first check that the octets fail.
-/// Unknown TLVs and sub-TLVs are stepped over, and octets past the PDU length are left unread.
+/// Unknown TLVs and sub-TLVs are stepped over, and octets past the PDU length are left unread. The layouts can hold each
+/// value that is read.
 pub fn read_lsp(alloc: Global, octets: &[u8]) -> Result<Lsp, ReadFault>
-    ensures { MatchResult result (λ lsp. Reads octets.now lsp) (λ fault. IfMalformed fault (λ malformed. IsBroken octets.now malformed)) }
+    ensures says { MatchResult result (λ lsp. Reads octets.now lsp) (λ fault. IfMalformed fault (λ malformed. IsBroken octets.now malformed)) }
+    ensures range { IfOk result (λ lsp. IsInRange lsp) }
 {
     let header = match Header::read(octets) {
         Ok(header) => header,
         Err(malformed) => return Err(ReadFault::Malformed(malformed)),
     };
-    let body = &octets[HEADER..usize::from(header.pdu_length)];
+    let body = &octets[HEADER_OCTETS..usize::from(header.pdu_length)];
     let parts = match read_parts(alloc, body) {
         Ok(parts) => parts,
-        Err(fault) => return Err(fault.behind(HEADER)),
+        Err(fault) => return Err(fault.behind(HEADER_OCTETS)),
     };
     Ok(Lsp {
         lifetime: header.lifetime,
@@ -109,8 +101,3 @@ fn push_parts(alloc: Global, kind: u8, value: &[u8], parts: &mut Vec<Part>) -> R
         _ => Ok(()),
     }
 }
-
-/// What octets are read as a value fail no check.
-pub fn what_is_read_is_not_broken()
-    ensures { (octets : List ℕ) (lsp : Lsp) (malformed : Malformed) → Reads octets lsp → IsBroken octets malformed → ⊥ }
-{}

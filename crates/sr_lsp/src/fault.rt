@@ -9,7 +9,7 @@ use thiserror::Error;
 pub enum Check {
     /// The octets are no whole header.
     HeaderOctets,
-    /// The first octet isn't that of IS-IS (ISO 10589, 9.1).
+    /// The first octet isn't that of IS-IS (ISO 10589, 9.9).
     Discriminator,
     /// The header's own length isn't 27.
     HeaderLength,

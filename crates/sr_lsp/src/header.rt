@@ -8,9 +8,9 @@ use sr_model::SystemId;
 use sr_subtlv::octets::{u16_at, u32_at};
 
 /// The octets of a header.
-pub const HEADER: usize = 27;
+pub(crate) const HEADER_OCTETS: usize = 27;
 
-/// The first octet of an IS-IS PDU (ISO 10589, 9.1).
+/// The first octet of an IS-IS PDU (ISO 10589, 9.9).
 const DISCRIMINATOR: u8 = 0x83;
 
 /// The version in the octets 2 and 5.
@@ -45,13 +45,13 @@ impl Header {
         ensures holds { IfOk result (λ header. (27 ≤ header.pdu_length) × (header.pdu_length ≤ length octets.now)) }
         ensures malformed { IfErr result (λ fault. header_fault octets.now ≡ Some fault) }
     {
-        if octets.len() < HEADER {
+        if octets.len() < HEADER_OCTETS {
             return Err(Malformed::at(octets.len(), Check::HeaderOctets));
         }
         if octets[0] != DISCRIMINATOR {
             return Err(Malformed::at(0, Check::Discriminator));
         }
-        if usize::from(octets[1]) != HEADER {
+        if usize::from(octets[1]) != HEADER_OCTETS {
             return Err(Malformed::at(1, Check::HeaderLength));
         }
         if octets[2] != VERSION {
@@ -102,5 +102,5 @@ fn is_id_length(octet: u8) -> bool
 fn is_pdu_length(length: usize, given: usize) -> bool
     ensures { result ≡ (nat_le 27 length && nat_le length given) }
 {
-    HEADER <= length && length <= given
+    HEADER_OCTETS <= length && length <= given
 }

@@ -1,36 +1,43 @@
-//! Link-state PDUs: their header, their TLVs, and the value that a plain one has.
+//! Link-state PDUs: how they are read, what they say, and how they are written.
 #![tactic(auto)]
 
-mod body;
+mod again;
 mod capability;
+mod capability_text;
 mod decoding;
-mod distinct;
-mod entry;
 mod fault;
+mod fitting;
 mod header;
+mod kinds;
+mod laws;
 mod lists;
 mod lsp;
-mod neighbour;
 mod octets;
 mod part;
-mod plain;
 mod prefix;
 mod prefix_extent;
+mod prefix_text;
 mod reach;
+mod reach_text;
 mod read_fault;
-mod reading;
 mod risk;
+mod risk_text;
+mod sid_length;
+mod widths;
+mod write_fault;
+mod writing;
 
-pub use decoding::{read_lsp, what_is_read_is_not_broken};
+pub use again::what_is_written_is_read_again;
+pub use decoding::read_lsp;
 pub use fault::{Check, Malformed};
-pub use header::{HEADER, Header};
+pub use fitting::in_range;
+pub use laws::{the_fault_is_determined, what_is_read_is_determined, what_is_read_is_not_broken};
 pub use lists::{AdjSids, Groups, PrefixSids};
 pub use lsp::{Lsp, LspId, Parts};
-pub use neighbour::Neighbour;
 pub use part::{Capability, Part, Prefix, Reach, Risk};
-pub use plain::Plain;
 pub use read_fault::ReadFault;
-pub use reading::{plain_pdu_is_determined, read_plain};
+pub use write_fault::WriteFault;
+pub use writing::write_lsp;
 
 #[cfg(test)]
 mod tests;

@@ -20,7 +20,7 @@ use sr_subtlv::{AdjSid, LinkIds, frame, read_addr, read_adj_sid, read_ids};
 use std::alloc::{AllocError, Global};
 
 /// The octets of an entry before its sub-TLVs.
-const ENTRY: usize = 11;
+const ENTRY_OCTETS: usize = 11;
 
 /// The types of its sub-TLVs: link identifiers, the own and the neighbour's address, and Adj-SIDs.
 const LINK_IDS: u8 = 4;
@@ -70,14 +70,14 @@ fn entry_end(value: &[u8], at: usize) -> Option<usize>
     ensures end { IfSome result (λ end. end ≡ at + 11 + slice_index value.now (at + 10)) }
 {
     let left = value.len() - at;
-    if left < ENTRY {
+    if left < ENTRY_OCTETS {
         return None;
     }
     let subs = usize::from(value[at + 10]);
-    if left - ENTRY < subs {
+    if left - ENTRY_OCTETS < subs {
         return None;
     }
-    Some(at + ENTRY + subs)
+    Some(at + ENTRY_OCTETS + subs)
 }
 
 /// The part that an entry says.
@@ -87,9 +87,9 @@ fn read_reach(alloc: Global, entry: &[u8]) -> Result<Reach, ReadFault>
         (λ fault. IfMalformed fault (λ malformed. entry_layout.fault (entry_of entry.now) malformed.offset malformed.check)) }
     ensures within { IfErr result (λ fault. IfMalformed fault (λ malformed. malformed.offset ≤ length entry.now)) }
 {
-    let subs = match read_subs(alloc, &entry[ENTRY..]) {
+    let subs = match read_subs(alloc, &entry[ENTRY_OCTETS..]) {
         Ok(subs) => subs,
-        Err(fault) => return Err(fault.behind(ENTRY)),
+        Err(fault) => return Err(fault.behind(ENTRY_OCTETS)),
     };
     Ok(Reach {
         neighbour: system_at(entry, 0),

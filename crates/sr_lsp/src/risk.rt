@@ -1,11 +1,9 @@
 //! Shared-risk link groups, TLV 138 (RFC 5307, 1.4).
 
 ghost use Rattle.std.specs.Prelude.{◌≡◌, ℕ, ◌*◌, ◌%◌, ◌+◌, ◌≤◌, List, length, drop, IfErr, IfOk, IfSome, MatchOption, MatchResult};
-ghost use Rattle.std.specs.List.{flat_map};
-ghost use Rattle.byteorder.specs.Endian.{big_bytes};
 ghost use Rattle.sr_lsp.specs.declared.fault.Check.TheVariants.{FieldExtent};
 ghost use Rattle.sr_lsp.specs.Fault.{IfMalformed};
-ghost use Rattle.sr_lsp.specs.Risk.{CutField, RiskFault, SaysRisk};
+ghost use Rattle.sr_lsp.specs.Risk.{AreGroups, CutField, RiskFault, SaysRisk};
 
 use crate::lists::Groups;
 use crate::octets::system_at;
@@ -43,7 +41,7 @@ pub fn read_risk(alloc: Global, value: &[u8]) -> Result<Risk, ReadFault>
 fn read_groups(alloc: Global, value: &[u8]) -> Result<Vec<u32>, AllocError>
     requires fixed { 16 ≤ length value.now }
     requires whole { length value.now % 4 ≡ 0 }
-    ensures { IfOk result (λ groups. drop 16 value.now ≡ flat_map (big_bytes 4) groups.items) }
+    ensures { IfOk result (λ groups. AreGroups (drop 16 value.now) groups.items) }
 {
     let mut groups = Vec::with_capacity(alloc, (value.len() - FIXED) / 4)?;
     let mut at = FIXED;

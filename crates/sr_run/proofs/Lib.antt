@@ -1,4 +1,1 @@
-pub mod LineLemmas
 pub mod SessionLemmas
-pub mod AnnouncedLemmas
-pub mod NetLemmas

@@ -1,95 +1,156 @@
--- What the session keeps.
-use Rattle.std.proofs.Common.{◌≡◌, ℕ, ◌+◌, ◌<◌, ◌≤◌, Bool, true, List, [], ◌∷◌, ◌++◌, length, Option, refl, sym, subst, arith, length-append, get_or, inl, inr, ⊎_elim}
-use Rattle.std.proofs.lemmas.List.Sums.{sum_by-append}
-use Rattle.std.proofs.lemmas.List.Elements.{All-append}
-use Rattle.std.proofs.lemmas.Bool.{cases_lt}
-use Rattle.std.proofs.lemmas.List.{get_or_push, get_or_append_left}
-use Rattle.sr_model.specs.Graph.{Graph}
-use Rattle.sr_lsp.specs.Plain.{PlainPdu, IsPlainReach}
-use Rattle.std.proofs.Common.{length-take}
-use Rattle.std.proofs.lemmas.List.{take_all}
+-- What the session's functions answer.
+use Rattle.std.proofs.Common.{◌≡◌, ℕ, ◌<◌, ◌≤◌, Bool, true, false, List, [], ◌++◌, length, Option, Some, None, refl, sym, ap, subst, arith, inl, inr, length-take}
+use Rattle.std.proofs.lemmas.Bool.Decides.{nat_tests}
+use Rattle.std.proofs.lemmas.List.{take_all, append-nil}
+use Rattle.std.specs.declared.result.Result.{Result}
+use Rattle.std.specs.declared.result.Result.TheVariants.{Ok, Err}
+use Rattle.sr_model.specs.declared.name.LinkKey.{LinkKey}
+use Rattle.sr_model.specs.Label.{Net}
+use Rattle.sr_lsp.specs.declared.lsp.Lsp.{Lsp}
+use Rattle.sr_lsp.specs.Lsp.{Reads}
+use Rattle.sr_lsdb.specs.declared.stage_fault.StageFault.{StageFault}
+use Rattle.sr_lsdb.specs.declared.stage_fault.StageFault.TheVariants.{Stale, Full, Memory}
+use Rattle.sr_lsdb.specs.Edit.{Edit}
+use Rattle.sr_lsdb.specs.Editing.{Editing}
+use Rattle.sr_lsdb.specs.Staging.{StagesLsp}
+use Rattle.sr_script.specs.declared.command.Command.{Command}
+use Rattle.sr_script.specs.declared.command.Command.TheVariants.{Lsp as LspWord, Cost, Down, Up, Depth, Commit, DropStaged, Dist, Next, Label, Spaces, Repair, Walk, WalkRepair, Audit, AuditFull, Hold, Watch, Join, Show}
+use Rattle.sr_script.specs.declared.line.Line.{Line}
+use Rattle.sr_script.specs.declared.line.Line.TheVariants.{Nothing, Word}
+use Rattle.sr_script.specs.declared.line.LineFault.{LineFault}
+use Rattle.sr_script.specs.declared.line.LineFault.TheVariants.{TooLong, UnknownWord, BadForm, BadHex, Memory as WantingMemory}
+use Rattle.sr_script.specs.LineSays.{LineSays, IsLineFault}
+use Rattle.sr_script.specs.Number.{number_in, number_of, within}
 use Rattle.sr_engine.specs.Lines.{head_of}
 use Rattle.sr_engine.specs.Replies.{AnswersHead}
-use Rattle.sr_run.specs.declared.command.Command.{Command}
-use Rattle.sr_run.specs.declared.command.Command.TheVariants.{Nothing, Announce, Commit, Distance}
-use Rattle.sr_run.specs.State.{State}
-use Rattle.sr_run.specs.Line.{IsPlainLine}
-use Rattle.sr_run.specs.Printed.{refused_line, not_built}
-use Rattle.sr_run.specs.Session.{AreGiven, IsKept, CanTake, entry_count, Answers, Carried, IsWellFormed}
+use Rattle.sr_print.specs.declared.refusal.Refusal.{Refusal}
+use Rattle.sr_print.specs.Printed.{staged_line}
+use Rattle.sr_print.specs.Refused.{refused_line}
+use Rattle.sr_run.specs.State.{State, with_editing}
+use Rattle.sr_run.specs.Session.{Answers, EditsLink, IsMissingLink, IsCarriedOut, CarriesOut, IsRefusedLine, IsAsked, IsToldAs}
 
-get_or-one : {A : Type 0} (x : A) (k : ℕ) (d : A) → k < 1 → get_or (x ∷ []) k d ≡ x
-get_or-one x k d lt = get_or_push [] x d k (omega arith)
+-- a missing link is refused
+pub missing_link : (edit : LinkKey → Edit) (current : Option Net) (from to n number : ℕ) (old : State) (reason : Refusal)
+    → IsMissingLink current from to n reason → EditsLink edit current from to n number old (refused_line number reason) true old
+missing_link edit None from to n number old reason is = (ap (refused_line number) is, refl, refl)
+missing_link edit (Some net) from to n number old reason (inl m) = inl (m.0, m.1, (ap (refused_line number) m.2, refl, refl))
+missing_link edit (Some net) from to n number old reason (inr m) = inr (inl (m.0, m.1, m.2, (ap (refused_line number) m.3, refl, refl)))
 
-get_or-front : {A : Type 0} (xs : List A) (x : A) (k : ℕ) (d : A) → k < length xs → get_or (xs ++ x ∷ []) k d ≡ get_or xs k d
-get_or-front xs x k d lt = get_or_append_left xs (x ∷ []) d k lt
-
-get_or-last : {A : Type 0} (xs : List A) (x : A) (k : ℕ) (d : A) → k ≡ length xs → get_or (xs ++ x ∷ []) k d ≡ x
-get_or-last xs x k d e = get_or_push xs x d k (sym e)
-
-pub entry_count-push : (given : List PlainPdu) (pdu : PlainPdu) → entry_count (given ++ pdu ∷ []) ≡ entry_count given + length pdu.reach
-entry_count-push given pdu = omega (arith, sum_by-append (λ (p : PlainPdu). length p.reach) given (pdu ∷ []))
-
-pub given-take : (given : List PlainPdu) (pdu : PlainPdu) → AreGiven given → CanTake given pdu → IsPlainReach pdu → AreGiven (given ++ pdu ∷ [])
-given-take given pdu are room plain = record {
-  plain = All-append IsPlainReach given (pdu ∷ []) are.plain (λ k d lt. rw (get_or-one pdu k d lt) plain);
-  apart = λ i j d before within. ⊎_elim
-      (λ (early : j < length given). rw (get_or-front given pdu i d (omega arith), get_or-front given pdu j d early) (are.apart i j d before early))
-      (λ (last : length given ≤ j).
-      let at : j ≡ length given = omega (arith, length-append given (pdu ∷ [])) in
-      rw (get_or-front given pdu i d (omega arith), get_or-last given pdu j d at) (room.fresh i d (omega arith)))
-      (cases_lt j (length given));
-  few_pdus = omega (arith, length-append given (pdu ∷ []), room.few_pdus);
-  few_entries = omega (arith, entry_count-push given pdu, room.few_entries);
+-- a refusal that was appended carries out a command that it refuses
+pub refused_so : (command : Command) (number : ℕ) (old : State) (before after : List ℕ) (refused : Bool) (reason : Refusal)
+    → CarriesOut command number old (refused_line number reason) true old → (refused ≡ true) × (after ≡ before ++ refused_line number reason)
+    → IsCarriedOut command number old before after refused old
+refused_so command number old before after refused reason carries is = record {
+  said = refused_line number reason;
+  appended = is.1;
+  carries = subst (λ (b : Bool). CarriesOut command number old (refused_line number reason) b old) (sym is.0) carries;
 }
 
-pub kept-take : (given : List PlainPdu) (pdu : PlainPdu) (entries staged versions : ℕ) (current : Option Graph) (more : ℕ) → more ≡ length pdu.reach
-    → IsKept given entries staged versions current → CanTake given pdu → IsPlainReach pdu → IsKept (given ++ pdu ∷ []) (entries + more) (staged + 1) versions current
-kept-take given pdu entries staged versions current more is k room plain = record {
-  given_are = given-take given pdu k.given_are room plain;
-  counted = omega (arith, entry_count-push given pdu, k.counted);
-  few_staged = omega (arith, length-append given (pdu ∷ []), k.few_staged);
-  few_versions = k.few_versions;
-  fresh = λ e. absurd (omega arith);
+-- a PDU that was staged, or not, as was told
+pub told_pdu : (octets : List ℕ) (number : ℕ) (lsp : Lsp) (old : State) (new : Editing) (staged : Result ℕ StageFault) (before after : List ℕ) (refused : Bool)
+    → Reads octets lsp → StagesLsp lsp old.editing new staged → IsToldAs staged number before after refused
+    → IsCarriedOut (LspWord octets) number old before after refused (with_editing old new)
+told_pdu octets number lsp old new (Ok count) before after refused reads stages told = record {
+  said = _;
+  appended = told.0;
+  carries = inr (lsp, reads, inr (stages.0, inr (stages.1.room, (ap staged_line stages.1.counted, told.1, ap (with_editing old) stages.1.state))));
 }
+told_pdu octets number lsp old new (Err (Stale stored given)) before after refused reads stages told = record {
+  said = _;
+  appended = told.0;
+  carries = inr (lsp, reads, inl (stored, given, stages.0, (refl, told.1, ap (with_editing old) stages.1)));
+}
+told_pdu octets number lsp old new (Err Full) before after refused reads stages told = record {
+  said = _;
+  appended = told.0;
+  carries = inr (lsp, reads, inr (stages.0, inl (stages.1, (refl, told.1, ap (with_editing old) stages.2))));
+}
+told_pdu octets number lsp old new (Err (Memory error)) before after refused reads stages told = absurd told
+
+-- an edit of a link that is missing
+pub edits_missing : (edit : LinkKey → Edit) (command : Command) (from to n number : ℕ) (old : State) (before after : List ℕ) (refused : Bool) (reason : Refusal)
+    → ((out : List ℕ) (told : Bool) (new : State) → EditsLink edit old.current from to n number old out told new → CarriesOut command number old out told new)
+    → IsMissingLink old.current from to n reason → (refused ≡ true) × (after ≡ before ++ refused_line number reason)
+    → IsCarriedOut command number old before after refused old
+edits_missing edit command from to n number old before after refused reason means missing is =
+    refused_so command number old before after refused reason (means (refused_line number reason) true old (missing_link edit old.current from to n number old reason missing)) is
 
 -- ---- lines of which only the head was seen
 
-short-head : (line : List ℕ) → length (head_of line) ≤ 140000 → head_of line ≡ line
+short_head : (line : List ℕ) → length (head_of line) ≤ 140000 → head_of line ≡ line
 unfolding head_of
-short-head line h = take_all 140001 line (omega (arith, length-take 140001 line))
+short_head line h = take_all 140001 line (omega (arith, length-take 140001 line))
 
-long-head : (line : List ℕ) → length line ≤ 140000 → head_of line ≡ line
+long_head : (line : List ℕ) → 140000 < length (head_of line) → 140000 < length line
 unfolding head_of
-long-head line h = take_all 140001 line (omega arith)
+long_head line h = omega (arith, length-take 140001 line)
 
 -- a line says what its head says
-pub plain-line : (line : List ℕ) (command : Command) → IsPlainLine (head_of line) command → IsPlainLine line command
-plain-line line command p = subst (λ l. IsPlainLine l command) (short-head line p.short) p
+pub line_says : (line : List ℕ) (said : Line) → LineSays (head_of line) said → LineSays line said
+line_says line said p = subst (λ (l : List ℕ). LineSays l said) (short_head line p.short) p
 
-pub plain-head : (line : List ℕ) (command : Command) → IsPlainLine line command → IsPlainLine (head_of line) command
-plain-head line command p = subst (λ l. IsPlainLine l command) (sym (long-head line p.short)) p
+-- a line has the fault of its head
+pub line_fault : (line : List ℕ) (fault : LineFault) → IsLineFault (head_of line) fault → IsLineFault line fault
+line_fault line TooLong p = long_head line p
+line_fault line UnknownWord p = subst (λ (l : List ℕ). IsLineFault l UnknownWord) (short_head line p.0) p
+line_fault line BadForm p = subst (λ (l : List ℕ). IsLineFault l BadForm) (short_head line p.0) p
+line_fault line BadHex p = subst (λ (l : List ℕ). IsLineFault l BadHex) (short_head line p.0) p
+line_fault line (WantingMemory error) p = tt
+
+-- the answer to a line that says nothing
+pub head_nothing : (old : State) (number : ℕ) (head before : List ℕ) → LineSays head Nothing → AnswersHead Answers old number head before before false old
+head_nothing old number head before p = record {
+  said = [];
+  appended = sym (append-nil before);
+  line = λ line is. inr (inl (line_says line Nothing (subst (λ (h : List ℕ). LineSays h Nothing) is p), (refl, refl, refl)));
+}
 
 -- the answer to a line that says a command
-pub head-said : (old new : State) (number : ℕ) (head before after : List ℕ) (refused : Bool) (command : Command)
-    → IsPlainLine head command → Carried command number old before after refused new → AnswersHead Answers old number head before after refused new
-head-said old new number head before after refused command p c = record {
+pub head_said : (old new : State) (number : ℕ) (head before after : List ℕ) (refused : Bool) (command : Command)
+    → LineSays head (Word command) → IsCarriedOut command number old before after refused new → AnswersHead Answers old number head before after refused new
+head_said old new number head before after refused command p c = record {
   said = c.said;
   appended = c.appended;
-  line = λ line is. inl (command, plain-line line command (subst (λ h. IsPlainLine h command) is p), c.carries);
+  line = λ line is. inr (inr (command, line_says line (Word command) (subst (λ (h : List ℕ). LineSays h (Word command)) is p), c.carries));
 }
 
--- the answer to a line that says none
-pub head-refused : (old : State) (number : ℕ) (head before after : List ℕ)
-    → ((command : Command) → IsPlainLine head command → ⊥) → after ≡ before ++ refused_line number not_built → AnswersHead Answers old number head before after true old
-head-refused old number head before after none is = record {
-  said = refused_line number not_built;
-  appended = is;
-  line = λ line same. inr ((λ command p. none command (subst (λ h. IsPlainLine h command) (sym same) (plain-head line command p))), (refl, refl, refl));
+-- the answer to a line that says no command
+pub head_refused : (old : State) (number : ℕ) (head before after : List ℕ) (refused : Bool) (fault : LineFault)
+    → IsLineFault head fault → IsRefusedLine fault number before after refused → AnswersHead Answers old number head before after refused old
+head_refused old number head before after refused fault p r = record {
+  said = refused_line number r.reason;
+  appended = r.appended;
+  line = λ line is. inl (fault, r.reason, line_fault line fault (subst (λ (h : List ℕ). IsLineFault h fault) is p), r.is, (refl, r.told, refl));
 }
 
--- a command that a line says is well formed
-pub said-well : (line : List ℕ) (command : Command) → IsPlainLine line command → IsWellFormed command
-said-well line Nothing p = tt
-said-well line (Announce pdu) p = p.says.2.reads.entries
-said-well line Commit p = tt
-said-well line (Distance from to) p = tt
+-- a number in a range lies in it
+within_bounds : (low high : ℕ) (o : Option ℕ) (n : ℕ) → within low high o ≡ Some n → (low ≤ n) × (n ≤ high)
+within_bounds low high None n e = grind (arith, nat_tests)
+within_bounds low high (Some m) n e = grind (arith, nat_tests)
+
+number_bounds : (low high : ℕ) (word : List ℕ) (n : ℕ) → number_in low high word ≡ Some n → (low ≤ n) × (n ≤ high)
+unfolding number_in
+number_bounds low high word n e = within_bounds low high (number_of word) n e
+
+-- the arguments of a command that a line says are in range
+pub said_well : (line : List ℕ) (command : Command) → LineSays line (Word command) → IsAsked command
+said_well line (Cost from to n metric) p = let b = number_bounds 1 16777214 p.says.3 metric p.says.6 in (omega (arith, b.0), omega (arith, b.1))
+said_well line (Depth depth) p = (number_bounds 0 12 p.says.0 depth p.says.2).1
+said_well line (LspWord octets) p = tt
+said_well line (Down from to n) p = tt
+said_well line (Up from to n) p = tt
+said_well line Commit p = tt
+said_well line DropStaged p = tt
+said_well line (Dist from to) p = tt
+said_well line (Next from to) p = tt
+said_well line (Label node label) p = tt
+said_well line (Spaces kind from to n dest) p = tt
+said_well line (Repair kind from to n dest) p = tt
+said_well line (Walk from dest choice) p = tt
+said_well line (WalkRepair kind from to n dest choice) p = tt
+said_well line Audit p = tt
+said_well line AuditFull p = tt
+said_well line Hold p = tt
+said_well line (Watch watchers rounds) p = tt
+said_well line Join p = tt
+said_well line Show p = tt

@@ -1,7 +1,5 @@
-pub mod Printed
-pub mod Line
 pub mod State
-pub mod PlainNet
+pub mod Refusals
 pub mod Session
 pub mod Words
 pub mod Program

@@ -18,7 +18,7 @@ pub record Devices : Type 0 where
 abbrev pub devices_of : Option (List ℕ) → Option (List ℕ) → ℕ → ℕ → Devices
 devices_of left held read_faults write_faults = record { left = left; held = held; read_faults = read_faults; write_faults = write_faults }
 
--- the words ask for a run exactly where they are the one word `run`; then the bytes taken are a script of plain lines, the bytes written are its answers, and the status says how far both go
+-- the words ask for a run exactly where they are the one word `run`; then the bytes taken are a script, the bytes written are its answers, and the status says how far both go
 abbrev pub RunsTo : List (String Global) → Devices → Devices → ℕ → Type 0
 RunsTo words old new status =
     Outcome (AskRun words) Answers Ends opening old.left new.left old.held new.held old.read_faults new.read_faults old.write_faults new.write_faults status

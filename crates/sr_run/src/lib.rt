@@ -1,12 +1,12 @@
 //! The program's session, and its top call.
 #![tactic(auto)]
 
-mod announced;
-mod answer;
-mod command;
-mod line;
-mod net;
+mod commit;
+mod edits;
+mod names;
 mod program;
+mod questions;
+mod refusals;
 mod session;
 mod version;
 

@@ -3,7 +3,7 @@ ghost use Rattle.std.specs.Prelude.{◌↔◌, IsTrue};
 ghost use Rattle.sr_run.specs.Words.{AskRun};
 ghost use Rattle.sr_run.specs.Program.{devices_of, RunsTo, RunsThrough};
 
-use crate::session::PlainSession;
+use crate::session::DomainSession;
 use sr_base::{Sink, Source};
 use sr_engine::run_script;
 use std::alloc::AllocGlobal;
@@ -18,12 +18,12 @@ fn ask_run(words: &[String]) -> bool
     words[0].as_bytes() == b"run".as_slice()
 }
 
-/// The program: where the words are the one word `run`, it reads a script from the source and writes the answers to the
-/// sink. The answer is the program's status.
+/// The program: where the words are the one word `run`, it reads a script from the source and
+/// writes the answers to the sink. The answer is the program's status.
 ///
-/// 0: the script was read to its end, and no line was refused; 1: it was read to its end, and a line was refused; 2: the
-/// words aren't a command, and nothing was read; 3: a read failed; 4: a write failed; 5: memory was wanting; 6: the script
-/// has more than 33,554,432 bytes.
+/// 0: the script was read to its end, and no line was refused; 1: it was read to its end, and a
+/// line was refused; 2: the words aren't a command, and nothing was read; 3: a read failed; 4: a
+/// write failed; 5: memory was wanting; 6: the script has more than 33,554,432 bytes.
 pub fn tilfa<R: AllocGlobal, S: Source, K: Sink>(
     rt: &R,
     words: &[String],
@@ -41,7 +41,7 @@ pub fn tilfa<R: AllocGlobal, S: Source, K: Sink>(
         return 2;
     }
     let alloc = rt.alloc();
-    let session = PlainSession::new(alloc);
+    let session = DomainSession::new(alloc);
     let (end, _session) = run_script(alloc, session, source, sink);
     end.status()
 }

@@ -1,4 +1,4 @@
-//! The longest line and the longest script.
+//! The longest line, the longest script, and as many edits and versions as there may be.
 
 use super::words;
 use sr_base::{SteadySink, SteadySource};
@@ -19,16 +19,10 @@ fn a_script_has_at_most_33_554_432_bytes(rt: HostRuntime) -> Result<(), AllocErr
     Ok(())
 }
 
-/// A line that takes a plain PDU, with so many digits behind the PDU that the line has this many bytes. What lies behind a
-/// PDU is left unread.
-fn long_line(alloc: Global, bytes: usize) -> Result<Vec<u8>, AllocError> {
-    let mut line = Vec::from_slice(
-        alloc,
-        b"lsp 831b010014010000001b04b0000000000001000000000001000003",
-    )?;
-    let rest = bytes.saturating_sub(line.len());
-    let padding = vec![in alloc; b'0'; rest]?;
-    line.extend_from_slice(&padding)?;
+/// A line of so many letters x.
+fn letters(alloc: Global, bytes: usize) -> Result<Vec<u8>, AllocError> {
+    let mut line = vec![in alloc; b'x'; bytes]?;
+    line.push(b'\n')?;
     Ok(line)
 }
 
@@ -37,23 +31,54 @@ fn a_line_has_at_most_140_000_bytes(rt: HostRuntime) -> Result<(), AllocError> {
     let alloc = rt.alloc();
     let words = words(alloc, "run")?;
     let cases: [(usize, &[u8]); 3] = [
-        (140_000, b"staged 1\nversion 1 nodes 1 links 0\n"),
-        (
-            140_001,
-            b"refused 1 29 NotBuilt\nversion 1 nodes 0 links 0\n",
-        ),
-        (
-            140_002,
-            b"refused 1 29 NotBuilt\nversion 1 nodes 0 links 0\n",
-        ),
+        (140_000, b"refused 1 1 UnknownWord\n"),
+        (140_001, b"refused 1 27 LineTooLong\n"),
+        (140_002, b"refused 1 27 LineTooLong\n"),
     ];
     for (bytes, answers) in cases {
-        let mut script = long_line(alloc, bytes)?;
-        script.extend_from_slice(b"\ncommit\n")?;
-        let mut source = SteadySource::new(script);
+        let mut source = SteadySource::new(letters(alloc, bytes)?);
         let mut sink = SteadySink::new(alloc);
-        let _status = tilfa(&rt, words.as_slice(), &mut source, &mut sink);
+        let status = tilfa(&rt, words.as_slice(), &mut source, &mut sink);
         assert_eq!(rt; sink.bytes(), answers, "{bytes} bytes");
+        assert_eq!(rt; status, 1, "{bytes} bytes");
+    }
+    Ok(())
+}
+
+/// A line so many times, and what follows.
+fn repeated(alloc: Global, line: &[u8], times: usize, last: &[u8]) -> Result<Vec<u8>, AllocError> {
+    let mut script = Vec::new(alloc);
+    for _ in 0..times {
+        script.extend_from_slice(line)?;
+    }
+    script.extend_from_slice(last)?;
+    Ok(script)
+}
+
+#[test]
+fn edits_and_versions_have_a_most(rt: HostRuntime) -> Result<(), AllocError> {
+    let alloc = rt.alloc();
+    let words = words(alloc, "run")?;
+    let cases: [(&[u8], usize, &[u8], &[u8]); 2] = [
+        (
+            b"depth 3\n",
+            4_097,
+            b"drop\n",
+            b"staged 4096\nrefused 4097 6 StagedFull\ndropped 4096\n",
+        ),
+        (
+            b"commit\n",
+            65_536,
+            b"",
+            b"version 65535 nodes 0 links 0\nrefused 65536 28 VersionsFull\n",
+        ),
+    ];
+    for (line, times, last, answers) in cases {
+        let mut source = SteadySource::new(repeated(alloc, line, times, last)?);
+        let mut sink = SteadySink::new(alloc);
+        let status = tilfa(&rt, words.as_slice(), &mut source, &mut sink);
+        assert!(rt; sink.bytes().ends_with(answers), "{times} lines");
+        assert_eq!(rt; status, 1, "{times} lines");
     }
     Ok(())
 }

@@ -3,8 +3,8 @@ use Rattle.std.proofs.lemmas.List.{get_or-drop}
 use Rattle.sr_lsp.proofs.ReachLemmas.{entry_room}
 use Rattle.sr_lsp.proofs.reach.entry_end.Goals as goal
 
-pub returns-then-left-lt-ENTRY-clause-none : goal.returns-then-left-lt-ENTRY-clause-none
-returns-then-left-lt-ENTRY-clause-none c = λ entry rest e.
+pub returns-then-left-lt-ENTRY_OCTETS-clause-none : goal.returns-then-left-lt-ENTRY_OCTETS-clause-none
+returns-then-left-lt-ENTRY_OCTETS-clause-none c = λ entry rest e.
     let room : 11 + slice_index (drop c.args.at c.args.value.now) 10 ≤ length (drop c.args.at c.args.value.now) = entry_room (drop c.args.at c.args.value.now) entry rest e in
     omega (arith, length-drop c.args.at c.args.value.now)
 

@@ -1,0 +1,6 @@
+use Rattle.std.proofs.Common.{◌≡◌, ◌++◌}
+use Rattle.sr_domain.specs.Announced.{announced_in, announcements_of}
+use Rattle.sr_domain.proofs.announced.announcements.Given as goal
+
+abbrev pub invariant-loop-id : goal.invariant-loop-id
+invariant-loop-id l = l.out.items ++ announced_in l.facts l.id-iterator ≡ announcements_of l.facts

@@ -1,0 +1,15 @@
+use Rattle.std.proofs.Common.{List, subst}
+use Rattle.sr_domain.specs.declared.announced.Announcement.{Announcement}
+use Rattle.sr_domain.specs.Announced.{AreKeysOf}
+use Rattle.sr_domain.proofs.NetLemmas.{accepted, net-of}
+use Rattle.sr_domain.proofs.net.assemble.Goals as goal
+
+pub new-requires : goal.new-requires
+new-requires c =
+    rw c.in_ok-adj.ensures (accepted c.args.facts.now c.args.links.now c.args.graph c.requires.graph c.requires.same c.requires.kept c.args.labels.items c.in_ok-announced.announced.items c.requires.labels c.requires.ranges
+    (subst (λ (l : List Announcement). AreKeysOf l c.in_ok-announced.announced.items) c.requires.two_way c.in_ok-announced.ensures) c.requires.depth)
+
+pub returns : goal.returns
+returns c =
+    rw (c.new.ensures, c.in_ok-adj.ensures) (net-of c.args.facts.now c.args.links.now c.args.graph c.requires.graph c.requires.same c.requires.kept c.args.labels.items c.in_ok-announced.announced.items c.requires.labels c.requires.ranges
+    (subst (λ (l : List Announcement). AreKeysOf l c.in_ok-announced.announced.items) c.requires.two_way c.in_ok-announced.ensures) c.requires.depth)

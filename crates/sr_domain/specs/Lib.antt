@@ -1,0 +1,10 @@
+pub mod Announced
+pub mod Nodes
+pub mod Least
+pub mod Links
+pub mod Groups
+pub mod GroupTables
+pub mod Rules
+pub mod Net
+pub mod Named
+pub mod Steps

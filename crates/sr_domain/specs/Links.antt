@@ -1,0 +1,73 @@
+-- The links of a domain: two-way announcements with their effective metrics, and the adjacency labels with the nodes that give them (this project's rules).
+use Rattle.std.specs.Prelude.{◌≢◌, Contains, ℕ, ◌+◌, Bool, not, ◌==◌, ◌&&◌, if◌then◌else◌, List, [], ◌∷◌, Option, Some, None}
+use Rattle.std.specs.List.{filter_map, list_any}
+use Rattle.std.specs.Option.{unwrap_or, option_map}
+use Rattle.std.specs.BTreeMap.{is_at}
+use Rattle.std.specs.Map.{lookup}
+use Rattle.sr_model.specs.declared.name.LinkKey.{LinkKey}
+use Rattle.sr_model.specs.declared.name.PairKey.{PairKey}
+use Rattle.sr_model.specs.declared.label.AdjLabel.{AdjLabel}
+use Rattle.sr_model.specs.declared.link.Link.{Link}
+use Rattle.sr_model.specs.Key.{pair_of}
+use Rattle.sr_model.specs.KeyOrder.{key_cmp}
+use Rattle.sr_lsdb.specs.declared.facts.Facts.{Facts}
+use Rattle.sr_lsdb.specs.Order.{pair_cmp}
+use Rattle.sr_domain.specs.declared.announced.Announcement.{Announcement}
+use Rattle.sr_domain.specs.declared.links.FoundLink.{FoundLink}
+use Rattle.sr_domain.specs.Announced.{two_way_of}
+use Rattle.sr_domain.specs.Nodes.{nodes_of}
+
+-- the effective metric: the one that is set for the key, otherwise the announced one
+abbrev pub effective_metric : Facts → Announcement → ℕ
+effective_metric facts announcement = unwrap_or (lookup (is_at (key_cmp announcement.key)) facts.costs) announcement.metric
+
+-- the pair is down
+abbrev pub is_down : Facts → PairKey → Bool
+is_down facts pair = list_any (is_at (pair_cmp pair)) facts.downs
+
+-- neither the maximum metric (RFC 5305, 3: it isn't considered in the computation) nor a pair that is down
+abbrev pub is_in_use : Facts → Announcement → Bool
+is_in_use facts announcement = not (effective_metric facts announcement == 16777215) && not (is_down facts (pair_of announcement.key))
+
+-- the link of an announcement
+abbrev pub link_of : Facts → Announcement → FoundLink
+link_of facts announcement = record { key = announcement.key; metric = effective_metric facts announcement; label = announcement.label }
+
+-- the same where it is in use
+abbrev pub link_by : Facts → Announcement → Option FoundLink
+link_by facts announcement = if is_in_use facts announcement then Some (link_of facts announcement) else None
+
+-- the links, with repeats, in the order of their announcements
+abbrev pub links_of : Facts → List FoundLink
+links_of facts = filter_map (link_by facts) (two_way_of facts)
+
+-- the place of a node in a list: how many stand before it
+abbrev pub place_in : List ℕ → ℕ → ℕ
+place_in [] node = 0
+place_in (first ∷ nodes) node = if first == node then 0 else place_in nodes node + 1
+
+-- the adjacency label of a link, with the place of the node at which it begins
+abbrev pub adj_label_by : List ℕ → FoundLink → Option AdjLabel
+adj_label_by nodes link = option_map (λ (label : ℕ). record { node = place_in nodes link.key.from; label = label }) link.label
+
+-- the adjacency labels of the links, with repeats
+abbrev pub found_adj_labels : Facts → List AdjLabel
+found_adj_labels facts = filter_map (adj_label_by (nodes_of facts)) (links_of facts)
+
+-- links of a graph, each with its adjacency label
+abbrev pub labelled : List Link → List (Option ℕ) → List FoundLink
+labelled [] labels = []
+labelled (link ∷ links) [] = []
+labelled (link ∷ links) (label ∷ labels) = record { key = link.key; metric = link.metric; label = label } ∷ labelled links labels
+
+-- the key of a link
+abbrev pub link_key : FoundLink → LinkKey
+link_key link = link.key
+
+-- the adjacency label of a link
+abbrev pub link_label : FoundLink → Option ℕ
+link_label link = link.label
+
+-- the link's ends are two of these nodes
+abbrev pub HasEnds : List ℕ → FoundLink → Type 0
+HasEnds nodes link = Contains nodes link.key.from × Contains nodes link.key.to × (link.key.from ≢ link.key.to)

@@ -1,0 +1,123 @@
+-- The rules of the profile on the facts of a domain, in their order, and what is said of the first that is broken (this project's rules).
+use Rattle.std.specs.Prelude.{◌≡◌, ℕ, ◌<◌, ◌≤◌, true, List, length, Some, None, Contains, count_by, slice_get}
+use Rattle.sr_model.specs.declared.label.Range.{Range}
+use Rattle.sr_model.specs.declared.name.LinkKey.{LinkKey}
+use Rattle.sr_model.specs.KeyOrder.{same_key}
+use Rattle.sr_model.specs.Label.{IsSrgb}
+use Rattle.sr_model.specs.Rule.{IsLeastDuplicate, IsLeastOutside, IsLeastClash, NoDuplicate, NoOutside, NoAdjClash}
+use Rattle.sr_graph.specs.Draft.{AreLeast}
+use Rattle.sr_lsdb.specs.declared.facts.Facts.{Facts}
+use Rattle.sr_domain.specs.declared.links.FoundLink.{FoundLink}
+use Rattle.sr_domain.specs.declared.fault.DomainRule.{DomainRule}
+use Rattle.sr_domain.specs.declared.fault.DomainRule.TheVariants.{NoSrgb, SrgbBad, DuplicateIndex, IndexOutside, AdjLabelClash, ZeroMetric, DuplicateLink, TooManyNodes, TooManyLinks, Overload}
+use Rattle.sr_domain.specs.declared.fault.DomainFault.{DomainFault}
+use Rattle.sr_domain.specs.declared.fault.DomainFault.TheVariants.{Rule, Memory}
+use Rattle.sr_domain.specs.Nodes.{nodes_of, srgb_of, all_labels, is_overloaded}
+use Rattle.sr_domain.specs.Links.{links_of, found_adj_labels}
+
+-- of these nodes the least of which the fact holds
+pub record IsLeastNode (nodes : List ℕ) (P : ℕ → Type 0) (node : ℕ) : Type 0 where
+  pub among : Contains nodes node
+  pub holds : P node
+  pub least : (other : ℕ) → Contains nodes other → P other → node ≤ other
+
+-- the fact holds of none of these nodes
+abbrev pub NoNode : List ℕ → (ℕ → Type 0) → Type 0
+NoNode nodes P = (node : ℕ) → Contains nodes node → P node → ⊥
+
+-- the node announces no SR-Capabilities
+abbrev pub LacksSrgb : Facts → ℕ → Type 0
+LacksSrgb facts node = srgb_of facts node ≡ None
+
+-- the label ranges that the node announces are no SRGB
+abbrev pub HasBadSrgb : Facts → ℕ → Type 0
+HasBadSrgb facts node = (ranges : List Range) × (srgb_of facts node ≡ Some ranges) × (IsSrgb ranges → ⊥)
+
+-- the node has the overload bit
+abbrev pub IsOverloaded : Facts → ℕ → Type 0
+IsOverloaded facts node = is_overloaded facts node ≡ true
+
+-- a link of this key has the effective metric 0
+abbrev pub HasZeroMetric : List FoundLink → LinkKey → Type 0
+HasZeroMetric links key = (link : FoundLink) × Contains links link × (link.key ≡ key) × (link.metric ≡ 0)
+
+-- two links or more have this key
+abbrev pub IsRepeated : List FoundLink → LinkKey → Type 0
+IsRepeated links key = 2 ≤ count_by (λ (link : FoundLink). same_key key link.key) links
+
+-- the fact holds of no key
+abbrev pub NoKey : (LinkKey → Type 0) → Type 0
+NoKey P = (key : LinkKey) → P key → ⊥
+
+-- the present node at this place, counted from 0 in order of system id
+abbrev pub IsNodeAt : Facts → ℕ → ℕ → Type 0
+IsNodeAt facts place node = slice_get (nodes_of facts) place ≡ Some node
+
+-- the least index of two nodes, with the two least nodes that announce it
+pub record IsSharedIndex (facts : Facts) (index low high : ℕ) : Type 0 where
+  pub low_place : ℕ
+  pub high_place : ℕ
+  pub least : IsLeastDuplicate (all_labels facts) index low_place high_place
+  pub low_is : IsNodeAt facts low_place low
+  pub high_is : IsNodeAt facts high_place high
+
+-- the least index of some node that lies outside the ranges of a node, with the least such node
+pub record IsOutsideIndex (facts : Facts) (index node : ℕ) : Type 0 where
+  pub place : ℕ
+  pub least : IsLeastOutside (all_labels facts) index place
+  pub node_is : IsNodeAt facts place node
+
+-- the least node with an adjacency label that is reserved, in its ranges or of two of its links, with the least such label
+pub record IsClashingLabel (facts : Facts) (label node : ℕ) : Type 0 where
+  pub place : ℕ
+  pub least : IsLeastClash (all_labels facts) (found_adj_labels facts) (record { node = place; label = label })
+  pub node_is : IsNodeAt facts place node
+
+-- the rule is broken, and these are the least that break it
+abbrev pub IsBroken : Facts → DomainRule → Type 0
+IsBroken facts (NoSrgb node) = IsLeastNode (nodes_of facts) (LacksSrgb facts) node
+IsBroken facts (SrgbBad node) = IsLeastNode (nodes_of facts) (HasBadSrgb facts) node
+IsBroken facts (DuplicateIndex index low high) = IsSharedIndex facts index low high
+IsBroken facts (IndexOutside index node) = IsOutsideIndex facts index node
+IsBroken facts (AdjLabelClash label node) = IsClashingLabel facts label node
+IsBroken facts (ZeroMetric from to) = AreLeast (HasZeroMetric (links_of facts)) from to
+IsBroken facts (DuplicateLink from to) = AreLeast (IsRepeated (links_of facts)) from to
+IsBroken facts (TooManyNodes count) = (256 < count) × (count ≡ length (nodes_of facts))
+IsBroken facts (TooManyLinks count) = (2048 < count) × (count ≡ length (links_of facts))
+IsBroken facts (Overload node) = IsLeastNode (nodes_of facts) (IsOverloaded facts) node
+
+-- how many rules come before
+abbrev pub rank : DomainRule → ℕ
+rank (NoSrgb node) = 0
+rank (SrgbBad node) = 1
+rank (DuplicateIndex index low high) = 2
+rank (IndexOutside index node) = 3
+rank (AdjLabelClash label node) = 4
+rank (ZeroMetric from to) = 5
+rank (DuplicateLink from to) = 6
+rank (TooManyNodes count) = 7
+rank (TooManyLinks count) = 8
+rank (Overload node) = 9
+
+-- the first so many of the ten rules are kept
+pub record AreKept (facts : Facts) (count : ℕ) : Type 0 where
+  pub srgbs : 0 < count → NoNode (nodes_of facts) (LacksSrgb facts)
+  pub ranges : 1 < count → NoNode (nodes_of facts) (HasBadSrgb facts)
+  pub indices : 2 < count → NoDuplicate (all_labels facts)
+  pub inside : 3 < count → NoOutside (all_labels facts)
+  pub adj_labels : 4 < count → NoAdjClash (all_labels facts) (found_adj_labels facts)
+  pub metrics : 5 < count → NoKey (HasZeroMetric (links_of facts))
+  pub keys : 6 < count → NoKey (IsRepeated (links_of facts))
+  pub few_nodes : 7 < count → length (nodes_of facts) ≤ 256
+  pub few_links : 8 < count → length (links_of facts) ≤ 2048
+  pub overload : 9 < count → NoNode (nodes_of facts) (IsOverloaded facts)
+
+-- the rule is broken, and all earlier ones are kept
+pub record IsFirstBroken (facts : Facts) (rule : DomainRule) : Type 0 where
+  pub broken : IsBroken facts rule
+  pub earlier : AreKept facts (rank rule)
+
+-- why the facts give no net: the first broken rule; memory may be wanting at any time
+abbrev pub IsDomainFault : Facts → DomainFault → Type 0
+IsDomainFault facts (Rule rule) = IsFirstBroken facts rule
+IsDomainFault facts (Memory fault) = Unit {0}

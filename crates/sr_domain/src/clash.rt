@@ -1,0 +1,102 @@
+//! The rules on the labels of all nodes together.
+ghost use Rattle.std.specs.Prelude.{◌≡◌, ◌<◌, ℕ, length, map, All, Contains, IfOk, IfErr};
+ghost use Rattle.std.specs.List.{filter_map};
+ghost use Rattle.std.specs.List.Sorted.{IsStrictlyIncreasing};
+ghost use Rattle.sr_labels.specs.Rules.{AreOfNodes, HaveSrgbs};
+ghost use Rattle.sr_domain.specs.declared.links.FoundLink.{FoundLink as Found};
+ghost use Rattle.sr_domain.specs.Nodes.{nodes_of, labels_of as labels_in};
+ghost use Rattle.sr_domain.specs.Links.{place_in, adj_label_by, links_of, HasEnds};
+ghost use Rattle.sr_domain.specs.Rules.{AreKept, IsDomainFault};
+ghost use Rattle.sr_domain.specs.Named.{AreWithin, Names};
+
+use crate::fault::{DomainFault, DomainRule};
+use crate::links::FoundLink;
+use sr_labels::{NodeLabels, first_clash};
+use sr_lsdb::Facts;
+use sr_model::{AdjLabel, LabelRule, SystemId};
+use std::alloc::{AllocError, Global};
+
+/// The place of a node that there is.
+fn place_of(nodes: &[SystemId], node: SystemId) -> usize
+    requires ascending { IsStrictlyIncreasing nodes.now }
+    requires there { Contains nodes.now node }
+    ensures place { result ≡ place_in nodes.now node }
+    ensures within { result < length nodes.now }
+{
+    match nodes.binary_search(&node) {
+        Ok(at) => at,
+        Err(_) => 0,
+    }
+}
+
+/// The adjacency labels of the links, each with the place of its node.
+fn adj_labels(
+    alloc: Global,
+    nodes: &[SystemId],
+    links: &[FoundLink],
+) -> Result<Vec<AdjLabel>, AllocError>
+    requires ascending { IsStrictlyIncreasing nodes.now }
+    requires ends { All (HasEnds nodes.now) links.now }
+    ensures labels { IfOk result (λ v. v.items ≡ filter_map (adj_label_by nodes.now) links.now) }
+    ensures nodes { IfOk result (λ v. AreOfNodes (length nodes.now) v.items) }
+{
+    let mut out = Vec::new(alloc);
+    for link in links {
+        match link.label {
+            None => {}
+            Some(label) => out.push(AdjLabel {
+                node: place_of(nodes, link.key.from),
+                label,
+            })?,
+        }
+    }
+    Ok(out)
+}
+
+/// The rule on labels with the nodes' system ids in place of their places.
+fn named(nodes: &[SystemId], rule: LabelRule) -> DomainRule
+    requires { AreWithin (length nodes.now) rule }
+    ensures { Names nodes.now rule result }
+{
+    match rule {
+        LabelRule::DuplicateIndex { index, low, high } => DomainRule::DuplicateIndex {
+            index,
+            low: nodes[low],
+            high: nodes[high],
+        },
+        LabelRule::IndexOutside { index, node } => DomainRule::IndexOutside {
+            index,
+            node: nodes[node],
+        },
+        LabelRule::AdjLabelClash { label, node } => DomainRule::AdjLabelClash {
+            label,
+            node: nodes[node],
+        },
+    }
+}
+
+/// Refuses the first broken rule on labels.
+pub(crate) fn check_labels(
+    alloc: Global,
+    facts: &Facts,
+    nodes: &[SystemId],
+    labels: &[NodeLabels],
+    links: &[FoundLink],
+) -> Result<(), DomainFault>
+    requires nodes { nodes.now ≡ nodes_of facts.now }
+    requires ascending { IsStrictlyIncreasing nodes.now }
+    requires labels { labels.now ≡ map (labels_in facts.now) nodes.now }
+    requires links { links.now ≡ links_of facts.now }
+    requires ends { All (HasEnds nodes.now) links.now }
+    requires kept { AreKept facts.now 2 }
+    ensures kept { IfOk result (λ _. AreKept facts.now 5) }
+    ensures ranges { IfOk result (λ _. HaveSrgbs labels.now) }
+    ensures fault { IfErr result (IsDomainFault facts.now) }
+{
+    let adj = adj_labels(alloc, nodes, links)?;
+    let broken = first_clash(alloc, labels, &adj)?;
+    match broken {
+        None => Ok(()),
+        Some(rule) => Err(DomainFault::Rule(named(nodes, rule))),
+    }
+}

@@ -1,0 +1,90 @@
+//! What the nodes announce, and the rules on it.
+ghost use Rattle.std.specs.Prelude.{◌≡◌, map, IfOk, IfErr};
+ghost use Rattle.std.specs.List.Sorted.{IsStrictlyIncreasing};
+ghost use Rattle.sr_domain.specs.Nodes.{nodes_of, ranges_of, node_sid_of, labels_with, labels_of as labels_in};
+ghost use Rattle.sr_domain.specs.Rules.{AreKept, IsDomainFault};
+
+use crate::fault::{DomainFault, DomainRule};
+use crate::nodes::{node_sid, srgb_of};
+use sr_labels::{NodeLabels, Srgb};
+use sr_lsdb::Facts;
+use sr_model::SystemId;
+use sr_subtlv::Ranges;
+use std::alloc::{AllocError, Global};
+
+/// The label ranges of each node. The first node without them is refused.
+fn all_ranges(alloc: Global, facts: &Facts, nodes: &[SystemId]) -> Result<Vec<Ranges>, DomainFault>
+    requires nodes { nodes.now ≡ nodes_of facts.now }
+    requires ascending { IsStrictlyIncreasing nodes.now }
+    ensures ranges { IfOk result (λ v. v.items ≡ map (ranges_of facts.now) nodes.now) }
+    ensures kept { IfOk result (λ _. AreKept facts.now 1) }
+    ensures fault { IfErr result (IsDomainFault facts.now) }
+{
+    let mut out = Vec::new(alloc);
+    for node in nodes {
+        match srgb_of(alloc, facts, *node) {
+            Err(fault) => return Err(DomainFault::Memory(fault)),
+            Ok(None) => return Err(DomainFault::Rule(DomainRule::NoSrgb { node: *node })),
+            Ok(Some(ranges)) => match out.push(Ranges::new(ranges)) {
+                Ok(()) => {}
+                Err(_) => return Err(DomainFault::Memory(AllocError)),
+            },
+        }
+    }
+    Ok(out)
+}
+
+/// What the node announces, with this SRGB.
+fn labels_of(facts: &Facts, node: SystemId, srgb: Srgb) -> NodeLabels
+    ensures { result ≡ labels_with srgb (node_sid_of facts.now node) }
+{
+    match node_sid(facts, node) {
+        None => NodeLabels::new(srgb, None, false, false, None),
+        Some(sid) => NodeLabels::new(srgb, Some(sid.index), sid.keep, sid.explicit, None),
+    }
+}
+
+/// What each node announces, by its label ranges. The first node whose ranges are no SRGB is refused.
+fn with_ranges(
+    alloc: Global,
+    facts: &Facts,
+    nodes: &[SystemId],
+    ranges: Vec<Ranges>,
+) -> Result<Vec<NodeLabels>, DomainFault>
+    requires nodes { nodes.now ≡ nodes_of facts.now }
+    requires ascending { IsStrictlyIncreasing nodes.now }
+    requires ranges { ranges.items ≡ map (ranges_of facts.now) nodes.now }
+    requires kept { AreKept facts.now 1 }
+    ensures labels { IfOk result (λ v. v.items ≡ map (labels_in facts.now) nodes.now) }
+    ensures kept { IfOk result (λ _. AreKept facts.now 2) }
+    ensures fault { IfErr result (IsDomainFault facts.now) }
+{
+    let mut out = Vec::new(alloc);
+    for ranges in ranges {
+        let node = nodes[out.len()];
+        match Srgb::new(ranges.into_vec()) {
+            Err(_) => return Err(DomainFault::Rule(DomainRule::SrgbBad { node })),
+            Ok(srgb) => match out.push(labels_of(facts, node, srgb)) {
+                Ok(()) => {}
+                Err(_) => return Err(DomainFault::Memory(AllocError)),
+            },
+        }
+    }
+    Ok(out)
+}
+
+/// What the nodes announce. The first node without label ranges is refused, then the first whose ranges are no SRGB.
+pub(crate) fn node_labels(
+    alloc: Global,
+    facts: &Facts,
+    nodes: &[SystemId],
+) -> Result<Vec<NodeLabels>, DomainFault>
+    requires nodes { nodes.now ≡ nodes_of facts.now }
+    requires ascending { IsStrictlyIncreasing nodes.now }
+    ensures labels { IfOk result (λ v. v.items ≡ map (labels_in facts.now) nodes.now) }
+    ensures kept { IfOk result (λ _. AreKept facts.now 2) }
+    ensures fault { IfErr result (IsDomainFault facts.now) }
+{
+    let ranges = all_ranges(alloc, facts, nodes)?;
+    with_ranges(alloc, facts, nodes, ranges)
+}

@@ -1,0 +1,24 @@
+//! The net of a domain's facts: its graph and labels, or the first rule of the profile that the facts break.
+#![tactic(auto)]
+
+mod announced;
+mod clash;
+mod draft;
+mod fault;
+mod gathered;
+mod groups;
+mod labels;
+mod laws;
+mod links;
+mod net;
+mod nodes;
+mod overload;
+mod risks;
+#[cfg(test)]
+mod tests;
+mod topology;
+mod two_way;
+
+pub use fault::{DomainFault, DomainRule};
+pub use laws::{adjacency_labels_are_the_least, node_sids_are_the_first_least};
+pub use net::net_of;

@@ -1,0 +1,95 @@
+//! The net of the facts, or the first broken rule.
+ghost use Rattle.std.specs.Prelude.{◌≡◌, ◌≤◌, All, IfOk, IfErr};
+ghost use Rattle.std.specs.List.Sorted.{IsPermutation};
+ghost use Rattle.sr_lsdb.specs.Facts.{AreInRange};
+ghost use Rattle.sr_labels.specs.Rules.{HaveSrgbs};
+ghost use Rattle.sr_domain.specs.Announced.{two_way_of};
+ghost use Rattle.sr_domain.specs.Nodes.{nodes_of, all_labels};
+ghost use Rattle.sr_domain.specs.Links.{links_of};
+ghost use Rattle.sr_domain.specs.Rules.{AreKept, IsDomainFault};
+ghost use Rattle.sr_domain.specs.Steps.{AreGathered, IsGraphOf};
+ghost use Rattle.sr_domain.specs.Net.{IsNetOf};
+
+use crate::announced::Announcement;
+use crate::clash::check_labels;
+use crate::draft::{label_list, pair_groups, sort};
+use crate::fault::{DomainFault, DomainRule};
+use crate::gathered::{Gathered, gather};
+use crate::labels::node_labels;
+use crate::links::FoundLink;
+use crate::overload::first_overloaded;
+use crate::topology::graph_of;
+use crate::two_way::keys_of;
+use sr_graph::Graph;
+use sr_labels::{Net, NodeLabels};
+use sr_lsdb::Facts;
+use std::alloc::{AllocError, Global};
+
+/// The net of this graph and these labels.
+fn assemble(
+    alloc: Global,
+    facts: &Facts,
+    graph: Graph,
+    labels: Vec<NodeLabels>,
+    links: &[FoundLink],
+    two_way: &[Announcement],
+) -> Result<Net, AllocError>
+    requires depth { facts.now.depth ≤ 12 }
+    requires graph { IsGraphOf facts.now (nodes_of facts.now) links.now graph }
+    requires labels { labels.items ≡ all_labels facts.now }
+    requires ranges { HaveSrgbs labels.items }
+    requires same { IsPermutation (links_of facts.now) links.now }
+    requires two_way { two_way.now ≡ two_way_of facts.now }
+    requires kept { AreKept facts.now 10 }
+    ensures { IfOk result (IsNetOf facts.now) }
+{
+    let adj = label_list(alloc, links)?;
+    let announced = keys_of(alloc, two_way)?;
+    Ok(Net::new(graph, labels, adj, announced, facts.depth))
+}
+
+/// The net of what is gathered, or the first broken rule on links and overload.
+fn net_with(
+    alloc: Global,
+    facts: &Facts,
+    gathered: Gathered,
+    labels: Vec<NodeLabels>,
+) -> Result<Net, DomainFault>
+    requires depth { facts.now.depth ≤ 12 }
+    requires gathered { AreGathered facts.now gathered }
+    requires labels { labels.items ≡ all_labels facts.now }
+    requires ranges { HaveSrgbs labels.items }
+    requires kept { AreKept facts.now 5 }
+    ensures net { IfOk result (IsNetOf facts.now) }
+    ensures fault { IfErr result (IsDomainFault facts.now) }
+{
+    let Gathered {
+        announced,
+        two_way,
+        nodes,
+        mut links,
+    } = gathered;
+    sort(&mut links);
+    let overloaded = first_overloaded(facts, &nodes);
+    let by_pair = pair_groups(alloc, facts, &announced)?;
+    let graph = graph_of(alloc, facts, nodes, &links, &by_pair)?;
+    match overloaded {
+        Some(node) => return Err(DomainFault::Rule(DomainRule::Overload { node })),
+        None => {}
+    }
+    let net = assemble(alloc, facts, graph, labels, &links, &two_way)?;
+    Ok(net)
+}
+
+/// The net of the facts, or the first rule of the profile that they break, with the least that breaks it, or
+/// `DomainFault::Memory` where memory is wanting.
+pub fn net_of(alloc: Global, facts: &Facts) -> Result<Net, DomainFault>
+    requires { AreInRange facts.now }
+    ensures net { IfOk result (IsNetOf facts.now) }
+    ensures fault { IfErr result (IsDomainFault facts.now) }
+{
+    let gathered = gather(alloc, facts)?;
+    let labels = node_labels(alloc, facts, &gathered.nodes)?;
+    check_labels(alloc, facts, &gathered.nodes, &labels, &gathered.links)?;
+    net_with(alloc, facts, gathered, labels)
+}

@@ -1,0 +1,226 @@
+//! The nodes of a domain, their label ranges and their indices.
+ghost use Rattle.std.specs.Prelude.{◌≡◌, map, IfOk};
+ghost use Rattle.std.specs.Option.{option_map};
+ghost use Rattle.std.specs.List.{filter_map};
+ghost use Rattle.std.specs.List.Sorted.{IsStrictlyIncreasing};
+ghost use Rattle.sr_domain.specs.Nodes.{past_own, nodes_of, first_ranges, srgb_of as srgb_in, node_sid_by, lesser_sid, least_sid, sid_of_part, least_of_parts, node_sid_of, is_overloaded as is_overloaded_in};
+ghost use Rattle.sr_domain.specs.Announced.{first_id};
+
+use sr_lsdb::Facts;
+use sr_lsp::{LspId, Part};
+use sr_model::{Range, SystemId};
+use sr_subtlv::{PrefixSid, Sid};
+use std::alloc::{AllocError, Global};
+
+/// The flag R of a Prefix-SID: the prefix comes from another level or another protocol (RFC 8667, 2.1.1).
+const READVERTISED: u8 = 0x80;
+
+/// The flag N of a Prefix-SID: it is that of a node (RFC 8667, 2.1.1).
+const NODE: u8 = 0x40;
+
+/// The flag P of a Prefix-SID: the neighbour before the node keeps the label (RFC 8667, 2.1.1).
+const KEEP: u8 = 0x20;
+
+/// The flag E of a Prefix-SID: the neighbour before the node puts the explicit null label in its place (RFC 8667, 2.1.1).
+const EXPLICIT: u8 = 0x10;
+
+/// The overload bit of an LSP (ISO 10589, 9.9).
+const OVERLOAD: u8 = 0x04;
+
+/// The index of a node with its flags P (`keep`) and E (`explicit`).
+#[derive(Clone, Copy, Debug, PartialEq, Eq)]
+pub(crate) struct NodeSid {
+    pub index: u32,
+    pub keep: bool,
+    pub explicit: bool,
+}
+
+/// The nodes whose LSP with pseudonode 0 and fragment 0 is live, in the order of the database.
+fn gather_nodes(alloc: Global, facts: &Facts) -> Result<Vec<SystemId>, AllocError>
+    ensures { IfOk result (λ v. v.items ≡ nodes_of facts.now) }
+{
+    let mut out = Vec::new(alloc);
+    let database = facts.database.as_map();
+    for (id, stored) in database {
+        if id.pseudonode == 0 && id.fragment == 0 && stored.live.is_some() {
+            out.push(id.system)?;
+        }
+    }
+    Ok(out)
+}
+
+/// The present nodes, ascending.
+pub(crate) fn node_list(alloc: Global, facts: &Facts) -> Result<Vec<SystemId>, AllocError>
+    ensures nodes { IfOk result (λ v. v.items ≡ nodes_of facts.now) }
+    ensures ascending { IfOk result (λ v. IsStrictlyIncreasing v.items) }
+{
+    let _count = facts.database.as_map().len();
+    let out = gather_nodes(alloc, facts)?;
+    Ok(out)
+}
+
+/// A copy of the label ranges of the first SR-Capabilities among the parts.
+fn first_ranges(alloc: Global, parts: &[Part]) -> Result<Option<Vec<Range>>, AllocError>
+    ensures { IfOk result (λ o. option_map (λ v. v.items) o ≡ first_ranges parts.now) }
+{
+    for part in parts {
+        match part {
+            Part::Capability(capability) => match &capability.srgb {
+                Some(cap) => return Ok(Some(Vec::from_slice(alloc, cap.ranges.as_slice())?)),
+                None => {}
+            },
+            _ => {}
+        }
+    }
+    Ok(None)
+}
+
+/// The first id of the node's own LSPs, and the first after them.
+fn own_ids(node: SystemId) -> (LspId, LspId)
+    ensures { result ≡ (first_id node, past_own node) }
+{
+    (
+        LspId {
+            system: node,
+            pseudonode: 0,
+            fragment: 0,
+        },
+        LspId {
+            system: node,
+            pseudonode: 1,
+            fragment: 0,
+        },
+    )
+}
+
+/// A copy of the label ranges of the node.
+pub(crate) fn srgb_of(
+    alloc: Global,
+    facts: &Facts,
+    node: SystemId,
+) -> Result<Option<Vec<Range>>, AllocError>
+    ensures { IfOk result (λ o. option_map (λ v. v.items) o ≡ srgb_in facts.now node) }
+{
+    let (first, past) = own_ids(node);
+    let database = facts.database.as_map();
+    for (_id, stored) in database.range(first..past) {
+        match &stored.live {
+            Some(shared) => match first_ranges(alloc, shared.lsp().parts.as_slice())? {
+                Some(ranges) => return Ok(Some(ranges)),
+                None => {}
+            },
+            None => {}
+        }
+    }
+    Ok(None)
+}
+
+/// The index that the Prefix-SID gives its node.
+fn node_sid_by(sid: PrefixSid) -> Option<NodeSid>
+    ensures { result ≡ node_sid_by sid }
+{
+    if sid.algorithm != 0 {
+        return None;
+    }
+    match sid.sid {
+        Sid::Label(_) => None,
+        Sid::Index(index) => {
+            if sid.flags & (READVERTISED | NODE) == NODE {
+                Some(NodeSid {
+                    index,
+                    keep: sid.flags & KEEP != 0,
+                    explicit: sid.flags & EXPLICIT != 0,
+                })
+            } else {
+                None
+            }
+        }
+    }
+}
+
+/// The one of the lesser index, and of equal ones the first.
+fn lesser_sid(first: Option<NodeSid>, second: Option<NodeSid>) -> Option<NodeSid>
+    ensures { result ≡ lesser_sid first second }
+{
+    match first {
+        None => second,
+        Some(x) => match second {
+            None => first,
+            Some(y) => { if y.index < x.index { second } else { first } }
+        },
+    }
+}
+
+/// The least index of these Prefix-SIDs.
+fn least_sid(sids: &[PrefixSid]) -> Option<NodeSid>
+    ensures { result ≡ least_sid sids.now }
+{
+    let mut found = None;
+    for sid in sids {
+        found = lesser_sid(found, node_sid_by(*sid));
+    }
+    found
+}
+
+/// The index that the part gives its node.
+fn sid_of_part(part: &Part) -> Option<NodeSid>
+    ensures { result ≡ sid_of_part part.now }
+{
+    match part {
+        Part::Prefix(prefix) => {
+            if prefix.length == 32 {
+                least_sid(prefix.sids.as_slice())
+            } else {
+                None
+            }
+        }
+        _ => None,
+    }
+}
+
+/// The least index of these parts.
+fn least_of_parts(parts: &[Part]) -> Option<NodeSid>
+    ensures { result ≡ least_of_parts parts.now }
+{
+    let mut found = None;
+    for part in parts {
+        found = lesser_sid(found, sid_of_part(part));
+    }
+    found
+}
+
+/// The index of the node.
+pub(crate) fn node_sid(facts: &Facts, node: SystemId) -> Option<NodeSid>
+    ensures { result ≡ node_sid_of facts.now node }
+{
+    let (first, past) = own_ids(node);
+    let mut found = None;
+    let database = facts.database.as_map();
+    for (_id, stored) in database.range(first..past) {
+        match &stored.live {
+            Some(shared) => {
+                found = lesser_sid(found, least_of_parts(shared.lsp().parts.as_slice()))
+            }
+            None => {}
+        }
+    }
+    found
+}
+
+/// Whether the node's LSP with pseudonode 0 and fragment 0 has the overload bit.
+pub(crate) fn is_overloaded(facts: &Facts, node: SystemId) -> bool
+    ensures { result ≡ is_overloaded_in facts.now node }
+{
+    let first = LspId {
+        system: node,
+        pseudonode: 0,
+        fragment: 0,
+    };
+    match facts.database.as_map().get(&first) {
+        Some(stored) => match &stored.live {
+            Some(shared) => shared.lsp().flags & OVERLOAD != 0,
+            None => false,
+        },
+        None => false,
+    }
+}

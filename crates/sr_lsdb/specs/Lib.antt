@@ -1,0 +1,9 @@
+pub mod Order
+pub mod Facts
+pub mod Edit
+pub mod Tables
+pub mod Touched
+pub mod Sides
+pub mod Editing
+pub mod Staging
+pub mod Draft

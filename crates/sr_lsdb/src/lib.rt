@@ -1,0 +1,21 @@
+//! The link-state database and the rest of the facts of a domain, and the edits that are staged and accepted.
+#![tactic(auto)]
+
+mod editor;
+mod facts;
+mod laws;
+mod shared;
+mod sides;
+mod stage_fault;
+mod tables;
+mod touched;
+
+pub use editor::Editor;
+pub use facts::{Facts, Stored};
+pub use laws::{edits_keep_the_range, ids_are_ordered, pairs_are_ordered};
+pub use shared::SharedLsp;
+pub use stage_fault::StageFault;
+pub use tables::{Database, DownPairs, LinkCosts};
+
+#[cfg(test)]
+mod tests;

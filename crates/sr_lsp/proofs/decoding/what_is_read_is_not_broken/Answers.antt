@@ -1,5 +1,0 @@
-use Rattle.sr_lsp.proofs.LspLemmas.{not_broken}
-use Rattle.sr_lsp.proofs.decoding.what_is_read_is_not_broken.Goals as goal
-
-pub returns : goal.returns
-returns c = not_broken

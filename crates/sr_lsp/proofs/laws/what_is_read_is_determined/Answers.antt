@@ -1,0 +1,5 @@
+use Rattle.sr_lsp.proofs.SameLspLemmas.{same_lsp}
+use Rattle.sr_lsp.proofs.laws.what_is_read_is_determined.Goals as goal
+
+pub returns : goal.returns
+returns c = same_lsp

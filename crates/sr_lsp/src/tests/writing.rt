@@ -1,0 +1,197 @@
+//! What is written, and what has no spelling.
+
+use super::AS_A_ROUTER_WRITES;
+use crate::{
+    AdjSids, Capability, Groups, Lsp, LspId, Part, Parts, Prefix, PrefixSids, Reach, Risk,
+    WriteFault, in_range, read_lsp, write_lsp,
+};
+use sr_model::{Range, SystemId};
+use sr_subtlv::{AdjSid, LinkIds, Msds, PrefixSid, Ranges, Sid, SrCap};
+use std::alloc::{AllocError, Global};
+use std::test::Fail;
+
+/// The octets of a PDU, or nothing where its fields don't fit, or it has no spelling.
+fn written(alloc: Global, lsp: &Lsp) -> Option<Vec<u8>> {
+    if !in_range(lsp) {
+        return None;
+    }
+    match write_lsp(alloc, lsp) {
+        Ok(octets) => Some(octets),
+        Err(_) => None,
+    }
+}
+
+/// Why a PDU isn't written.
+fn refused(alloc: Global, lsp: &Lsp) -> Option<WriteFault> {
+    if !in_range(lsp) {
+        return None;
+    }
+    match write_lsp(alloc, lsp) {
+        Ok(_) => None,
+        Err(fault) => Some(fault),
+    }
+}
+
+/// The first PDU of system 1, with these parts.
+fn first_of(parts: Vec<Part>) -> Lsp {
+    Lsp {
+        lifetime: 1200,
+        id: LspId {
+            system: system(1),
+            pseudonode: 0,
+            fragment: 0,
+        },
+        sequence: 1,
+        checksum: 0,
+        flags: 3,
+        parts: Parts::new(parts),
+    }
+}
+
+/// The system id of a number.
+fn system(number: u32) -> SystemId {
+    SystemId::new(u64::from(number)).unwrap()
+}
+
+/// An Adj-SID that is a label.
+fn adj_sid(label: u32) -> AdjSid {
+    AdjSid {
+        flags: 0x30,
+        weight: 0,
+        sid: Sid::Label(label),
+    }
+}
+
+/// A link of metric 1 to a system, with link identifiers and Adj-SIDs.
+fn reach(neighbour: u32, link: u32, adj: Vec<AdjSid>) -> Part {
+    Part::Reach(Reach {
+        neighbour: system(neighbour),
+        pseudonode: 0,
+        metric: 1,
+        ids: Some(LinkIds {
+            local: link,
+            remote: link,
+        }),
+        local: None,
+        remote: None,
+        adj: AdjSids::new(adj),
+    })
+}
+
+/// A router capability with one block of labels.
+fn capability(alloc: Global) -> Result<Part, AllocError> {
+    let block = Range {
+        first: 16000,
+        size: 8000,
+    };
+    Ok(Part::Capability(Capability {
+        router: 0x0a00_0001,
+        flags: 0,
+        srgb: Some(SrCap {
+            flags: 0x80,
+            ranges: Ranges::new(vec![in alloc; block]?),
+        }),
+        msd: Msds::new(Vec::new(alloc)),
+    }))
+}
+
+/// A prefix of 32 bits with one Prefix-SID.
+fn prefix(alloc: Global) -> Result<Part, AllocError> {
+    let sid = PrefixSid {
+        flags: 0x40,
+        algorithm: 0,
+        sid: Sid::Index(1),
+    };
+    Ok(Part::Prefix(Prefix {
+        metric: 0,
+        down: false,
+        length: 32,
+        prefix: 0x0a00_0001,
+        sids: PrefixSids::new(vec![in alloc; sid]?),
+    }))
+}
+
+/// What router 1 of a ring announces, in its one spelling.
+const WRITTEN: [u8; 125] = [
+    0x83, 0x1b, 0x01, 0x00, 0x14, 0x01, 0x00, 0x00, 0x00, 0x7d, 0x04, 0xb0, // to the lifetime
+    0x00, 0x00, 0x00, 0x00, 0x00, 0x01, 0x00, 0x00, 0x00, 0x00, 0x00, 0x01, 0x00, 0x00, 0x03, //
+    0xf2, 0x10, 0x0a, 0x00, 0x00, 0x01, 0x00, // the router capability
+    0x02, 0x09, 0x80, 0x00, 0x1f, 0x40, 0x01, 0x03, 0x00, 0x3e, 0x80, // SR-Capabilities
+    0x87, 0x12, 0x00, 0x00, 0x00, 0x00, 0x60, 0x0a, 0x00, 0x00, 0x01, // a prefix
+    0x08, 0x03, 0x06, 0x40, 0x00, 0x00, 0x00, 0x00, 0x01, // its Prefix-SID
+    0x16, 0x1c, 0x00, 0x00, 0x00, 0x00, 0x00, 0x02, 0x00, 0x00, 0x00, 0x01, 0x11, // an entry
+    0x04, 0x08, 0x00, 0x00, 0x00, 0x01, 0x00, 0x00, 0x00, 0x01, // its link identifiers
+    0x1f, 0x05, 0x30, 0x00, 0x00, 0x5d, 0xc1, // its Adj-SID
+    0x16, 0x1c, 0x00, 0x00, 0x00, 0x00, 0x00, 0x04, 0x00, 0x00, 0x00, 0x01, 0x11, // another
+    0x04, 0x08, 0x00, 0x00, 0x00, 0x04, 0x00, 0x00, 0x00, 0x04, //
+    0x1f, 0x05, 0x30, 0x00, 0x00, 0x5d, 0xc4, //
+];
+
+#[test]
+fn parts_in_their_order(rt: HostRuntime) -> Result<(), Fail> {
+    let alloc = rt.alloc();
+    let mut parts = Vec::new(alloc);
+    parts.push(capability(alloc)?)?;
+    parts.push(prefix(alloc)?)?;
+    parts.push(reach(2, 1, vec![in alloc; adj_sid(24001)]?))?;
+    parts.push(reach(4, 4, vec![in alloc; adj_sid(24004)]?))?;
+    match written(alloc, &first_of(parts)) {
+        Some(octets) => assert_eq!(rt; octets.as_slice(), WRITTEN.as_slice()),
+        None => assert!(rt; false, "refused"),
+    }
+    Ok(())
+}
+
+/// What a router wrote, in its one spelling: without the parts outside the profile.
+const WRITTEN_AGAIN: [u8; 101] = [
+    0x83, 0x1b, 0x01, 0x00, 0x14, 0x01, 0x00, 0x00, 0x00, 0x65, 0x04, 0xb0, // to the lifetime
+    0x00, 0x00, 0x00, 0x00, 0x00, 0x01, 0x00, 0x00, 0x00, 0x00, 0x00, 0x01, 0x00, 0x00, 0x03, //
+    0xf2, 0x14, 0x0a, 0x00, 0x00, 0x01, 0x00, // the router capability
+    0x02, 0x09, 0xc0, 0x00, 0x1f, 0x40, 0x01, 0x03, 0x00, 0x3e, 0x80, // SR-Capabilities
+    0x17, 0x02, 0x01, 0x0a, // maximum SID depths
+    0x16, 0x1e, 0x00, 0x00, 0x00, 0x00, 0x00, 0x02, 0x00, 0x00, 0x00, 0x0a, 0x13, // an entry
+    0x06, 0x04, 0x0a, 0x01, 0x00, 0x01, 0x08, 0x04, 0x0a, 0x01, 0x00, 0x02, // its addresses
+    0x1f, 0x05, 0x30, 0x00, 0x00, 0x5d, 0xc1, // its Adj-SID
+    0x87, 0x12, 0x00, 0x00, 0x00, 0x00, 0x60, 0x0a, 0x00, 0x00, 0x01, // a prefix
+    0x08, 0x03, 0x06, 0x40, 0x00, 0x00, 0x00, 0x00, 0x01, // its Prefix-SID
+];
+
+#[test]
+fn written_again(rt: HostRuntime) -> Result<(), Fail> {
+    let alloc = rt.alloc();
+    let lsp = match read_lsp(alloc, &AS_A_ROUTER_WRITES) {
+        Ok(lsp) => lsp,
+        Err(_) => return Ok(assert!(rt; false)),
+    };
+    match written(alloc, &lsp) {
+        Some(octets) => assert_eq!(rt; octets.as_slice(), WRITTEN_AGAIN.as_slice()),
+        None => assert!(rt; false, "refused"),
+    }
+    Ok(())
+}
+
+#[test]
+fn too_long(rt: HostRuntime) -> Result<(), Fail> {
+    let alloc = rt.alloc();
+    let wide = reach(2, 1, vec![in alloc; adj_sid(24001); 40]?);
+    match refused(alloc, &first_of(vec![in alloc; wide]?)) {
+        Some(WriteFault::PartTooLong { part }) => assert_eq!(rt; part, 0),
+        _ => assert!(rt; false, "another answer"),
+    }
+    let mut parts = Vec::new(alloc);
+    for _ in 0..258 {
+        parts.push(Part::Risk(Risk {
+            neighbour: system(2),
+            pseudonode: 0,
+            numbered: true,
+            local: 0x0a01_0001,
+            remote: 0x0a01_0002,
+            groups: Groups::new(vec![in alloc; 7; 59]?),
+        }))?;
+    }
+    match refused(alloc, &first_of(parts)) {
+        Some(WriteFault::PduTooLong { length }) => assert_eq!(rt; length, 65559),
+        _ => assert!(rt; false, "another answer"),
+    }
+    Ok(())
+}
