@@ -32,7 +32,7 @@ same-itself : (a : LinkKey) → same_key a a ≡ true
 same-itself a = ap is_eq (tied_itself key_total a)
 
 -- a test that some element passes
-any-to : {X : Type 0} (p : X → Bool) (xs : List X) → list_any p xs ≡ true → (x : X) × Contains xs x × (p x ≡ true)
+pub any-to : {X : Type 0} (p : X → Bool) (xs : List X) → list_any p xs ≡ true → (x : X) × Contains xs x × (p x ≡ true)
 any-to p [] e = absurd (cc)
 any-to {X} p (x ∷ xs) e = by (λ h. any-to p xs h) (p x) refl e
   where
@@ -40,7 +40,7 @@ any-to {X} p (x ∷ xs) e = by (λ h. any-to p xs h) (p x) refl e
     by rest true h g = (x, here x xs, h)
     by rest false h g = let r = rest g in (r.0, later x xs r.0 r.1, r.2)
 
-any-from : {X : Type 0} (p : X → Bool) (xs : List X) (x : X) → Contains xs x → p x ≡ true → list_any p xs ≡ true
+pub any-from : {X : Type 0} (p : X → Bool) (xs : List X) (x : X) → Contains xs x → p x ≡ true → list_any p xs ≡ true
 any-from p xs x c e = list_any_at p xs c.0 x c.1 (ap p c.2 ∙ e)
 
 key-contained : (keys : List LinkKey) (key : LinkKey) → list_any (same_key key) keys ≡ true → Contains keys key

@@ -1,6 +1,7 @@
 pub mod AnnouncedLemmas
 pub mod NodesLemmas
 pub mod GroupsLemmas
+pub mod RunsLemmas
 pub mod KeptLemmas
 pub mod LeastLemmas
 pub mod FlatLemmas

@@ -1,8 +1,6 @@
 -- From the links of the facts to their graph.
 use Rattle.std.proofs.Common.{◌≡◌, ◌≢◌, ℕ, ◌+◌, ◌<◌, ◌≤◌, ⊎_elim, Bool, true, false, cond, List, [], ◌∷◌, map, length, refl, arith, ap, sym, ◌∙◌, subst}
 use Rattle.std.specs.Prelude.{Contains, All, count_by, nat_le, if◌then◌else◌}
-use Rattle.std.specs.BTreeMap.{BTreeMap, get}
-use Rattle.std.specs.BTreeSet.{BTreeSet}
 use Rattle.std.specs.List.Sorted.{IsPermutation, IsStrictlyIncreasing}
 use Rattle.std.proofs.lemmas.Bool.Decides.{nat_tests}
 use Rattle.std.proofs.lemmas.List.{length-map}
@@ -17,9 +15,9 @@ use Rattle.sr_model.specs.Key.{mirror, turned, pair_of, IsSamePair}
 use Rattle.sr_model.specs.KeyOrder.{same_key}
 use Rattle.sr_graph.specs.declared.draft.DraftLink.{DraftLink}
 use Rattle.sr_graph.specs.Draft.{IsDraft, AreLeast, HasZero, IsTwice}
-use Rattle.sr_lsdb.specs.Order.{pair_cmp}
 use Rattle.sr_domain.specs.declared.links.FoundLink.{FoundLink}
-use Rattle.sr_domain.specs.GroupTables.{draft_link, listed}
+use Rattle.sr_domain.specs.declared.groups.PairGroup.{PairGroup}
+use Rattle.sr_domain.specs.GroupTables.{draft_link, groups_in}
 use Rattle.sr_domain.specs.Links.{HasEnds}
 use Rattle.sr_domain.specs.Rules.{HasZeroMetric, IsRepeated}
 use Rattle.sr_domain.specs.Steps.{IsBelowMaximum}
@@ -47,7 +45,7 @@ pub same-pair : (a b : LinkKey) → b.from ≢ b.to → IsSamePair a b → pair_
 same-pair a b differ same = ⊎_elim (λ (e : a ≡ b). ap pair_of e) (λ (e : a ≡ mirror b). ap pair_of e ∙ pair-turned b differ) same
 
 -- what a graph is built from
-pub draft-fits : (m : BTreeMap PairKey (BTreeSet ℕ)) (nodes : List ℕ) (links : List FoundLink) (drafts : List DraftLink) → IsStrictlyIncreasing nodes → All (HasEnds nodes) links → All IsBelowMaximum links → drafts ≡ map (draft_link m) links → All (λ (d : DraftLink). IsStrictlyIncreasing d.groups) drafts → IsDraft (record { nodes = nodes; links = drafts })
+pub draft-fits : (m : List PairGroup) (nodes : List ℕ) (links : List FoundLink) (drafts : List DraftLink) → IsStrictlyIncreasing nodes → All (HasEnds nodes) links → All IsBelowMaximum links → drafts ≡ map (draft_link m) links → All (λ (d : DraftLink). IsStrictlyIncreasing d.groups) drafts → IsDraft (record { nodes = nodes; links = drafts })
 draft-fits m nodes links drafts up ends metrics are groups = record {
   nodes = up;
   ends = subst (λ (ds : List DraftLink). All (λ (d : DraftLink). Contains nodes d.key.from × Contains nodes d.key.to × (d.key.from ≢ d.key.to)) ds) (sym are) (All-map (λ (d : DraftLink). Contains nodes d.key.from × Contains nodes d.key.to × (d.key.from ≢ d.key.to)) (draft_link m) links ends);
@@ -58,9 +56,9 @@ draft-fits m nodes links drafts up ends metrics are groups = record {
       let y = mapped-from (draft_link m) links b (subst (λ (ds : List DraftLink). Contains ds b) are in_b) in
       let differ : b.key.from ≢ b.key.to = subst (λ (d : DraftLink). d.key.from ≢ d.key.to) y.2 (All-contains (HasEnds nodes) links y.0 ends y.1).2 in
       ap (λ (d : DraftLink). d.groups) (sym x.2)
-      ∙ ap (λ (k : LinkKey). listed (get pair_cmp m (pair_of k))) (ap (λ (d : DraftLink). d.key) x.2)
-      ∙ ap (λ p. listed (get pair_cmp m p)) (same-pair a.key b.key differ same)
-      ∙ ap (λ (k : LinkKey). listed (get pair_cmp m (pair_of k))) (sym (ap (λ (d : DraftLink). d.key) y.2))
+      ∙ ap (λ (k : LinkKey). groups_in m (pair_of k)) (ap (λ (d : DraftLink). d.key) x.2)
+      ∙ ap (λ p. groups_in m p) (same-pair a.key b.key differ same)
+      ∙ ap (λ (k : LinkKey). groups_in m (pair_of k)) (sym (ap (λ (d : DraftLink). d.key) y.2))
       ∙ ap (λ (d : DraftLink). d.groups) y.2;
 }
 
@@ -73,7 +71,7 @@ least-moved P Q forth back from to a = record {
   is = record { holds = forth a.key a.is.holds; least = λ other q. a.is.least other (back other q) };
 }
 
-module _ (m : BTreeMap PairKey (BTreeSet ℕ)) (found links : List FoundLink) (drafts : List DraftLink) (moved : IsPermutation found links) (are : drafts ≡ map (draft_link m) links) where
+module _ (m : List PairGroup) (found links : List FoundLink) (drafts : List DraftLink) (moved : IsPermutation found links) (are : drafts ≡ map (draft_link m) links) where
   pub zero-to : (k : LinkKey) → HasZero drafts k → HasZeroMetric found k
   zero-to k z =
       let x = mapped-from (draft_link m) links z.0 (subst (λ (ds : List DraftLink). Contains ds z.0) are z.1) in

@@ -1,22 +1,20 @@
 //! The links of a domain as a graph takes them, with their shared-risk groups.
 ghost use Rattle.std.specs.Prelude.{◌≡◌, map, All, IfOk};
-ghost use Rattle.std.specs.List.Sorted.{IsPermutation, IsSortedByKey, IsStrictlyIncreasing};
+ghost use Rattle.std.specs.List.Sorted.{IsPermutation, IsSortedByKey, IsStrictlyIncreasing, IsStrictlySortedBy};
 ghost use Rattle.sr_model.specs.KeyOrder.{key_cmp};
 ghost use Rattle.sr_graph.specs.declared.draft.DraftLink.{DraftLink as Drafted};
 ghost use Rattle.sr_domain.specs.Announced.{announcements_of};
 ghost use Rattle.sr_domain.specs.Groups.{notes_of};
-ghost use Rattle.sr_domain.specs.GroupTables.{AreByPair, draft_link};
+ghost use Rattle.sr_domain.specs.GroupTables.{AreByPair, draft_link, entry_cmp};
 ghost use Rattle.sr_domain.specs.Links.{link_key, link_label};
 
 use crate::announced::Announcement;
-use crate::groups::{by_name, by_pair, groups_of};
+use crate::groups::{PairGroup, by_name, by_pair, groups_of};
 use crate::links::FoundLink;
 use crate::risks::notes;
 use sr_graph::{DraftLink, Groups};
 use sr_lsdb::Facts;
-use sr_model::PairKey;
 use std::alloc::{AllocError, Global};
-use std::collections::{BTreeMap, BTreeSet};
 
 /// Sorts the links by key.
 pub(crate) fn sort(links: &mut [FoundLink])
@@ -31,22 +29,23 @@ pub(crate) fn pair_groups(
     alloc: Global,
     facts: &Facts,
     announced: &[Announcement],
-) -> Result<BTreeMap<PairKey, BTreeSet<u32>>, AllocError>
+) -> Result<Vec<PairGroup>, AllocError>
     requires { announced.now ≡ announcements_of facts.now }
-    ensures { IfOk result (λ m. AreByPair m (announcements_of facts.now) (notes_of facts.now)) }
+    ensures { IfOk result (λ v. AreByPair v.items (announcements_of facts.now) (notes_of facts.now)) }
 {
     let said = notes(alloc, facts)?;
-    let named = by_name(alloc, &said)?;
-    let table = by_pair(alloc, announced, &named)?;
+    let ordered = by_name(said);
+    let table = by_pair(alloc, announced, &ordered)?;
     Ok(table)
 }
 
 /// The links with the groups of their pairs.
 pub(crate) fn draft_links(
     alloc: Global,
-    by_pair: &BTreeMap<PairKey, BTreeSet<u32>>,
+    by_pair: &[PairGroup],
     links: &[FoundLink],
 ) -> Result<Vec<DraftLink>, AllocError>
+    requires { IsStrictlySortedBy entry_cmp by_pair.now }
     ensures links { IfOk result (λ v. v.items ≡ map (draft_link by_pair.now) links.now) }
     ensures groups { IfOk result (λ v. All (λ (d : Drafted). IsStrictlyIncreasing d.groups) v.items) }
 {

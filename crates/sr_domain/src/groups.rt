@@ -1,129 +1,182 @@
 //! The shared-risk groups of pairs of links.
-ghost use Rattle.std.specs.Prelude.{◌≡◌, List, IfOk, OnOk};
-ghost use Rattle.std.specs.BTreeMap.{get};
-ghost use Rattle.std.specs.BTreeSet.{contains};
-ghost use Rattle.std.specs.Ordering.{nat_cmp};
-ghost use Rattle.std.specs.List.Sorted.{IsStrictlyIncreasing};
+ghost use Rattle.std.specs.Prelude.{◌≡◌, ℕ, ◌<◌, ◌≤◌, ◌++◌, true, false, length, map, slice_index_or, IfOk, OnOk};
+ghost use Rattle.std.specs.List.{filter};
+ghost use Rattle.std.specs.List.Sorted.{IsPermutation, IsStrictlyIncreasing, IsStrictlySortedBy};
+ghost use Rattle.std.specs.Ordering.{is_gt};
 ghost use Rattle.sr_lsdb.specs.Order.{pair_cmp};
+ghost use Rattle.sr_domain.specs.Groups.{name_cmp};
 ghost use Rattle.sr_domain.specs.declared.risks.RiskNote.{RiskNote as Spoken};
-ghost use Rattle.sr_domain.specs.GroupTables.{has_by, AddsUnder, AddsAll, AreByName, AreByPair, listed};
+ghost use Rattle.sr_domain.specs.declared.groups.PairGroup.{PairGroup as Grouped};
+ghost use Rattle.sr_domain.specs.GroupTables.{AddsAll, AreByPair, AreInOrder, HasGroups, entry_cmp, entry_group, entry_of, groups_in, is_noted, is_of, is_under};
 
 use crate::announced::Announcement;
 use crate::risks::{RiskName, RiskNote, numbered_name, unnumbered_name};
 use sr_model::PairKey;
 use std::alloc::{AllocError, Global};
-use std::collections::{BTreeMap, BTreeSet};
 
-/// Adds the number to those under the key.
-fn add_under<K: Ord + Drop>(
-    alloc: Global,
-    map: &mut BTreeMap<K, BTreeSet<u32>>,
-    key: K,
-    value: u32,
-) -> Result<(), AllocError>
-    ensures { OnOk result (AddsUnder K.cmp map.old map.new key value) }
+/// A pair of links with a group of it; in order of pairs, and then of groups.
+#[derive(Clone, Copy, Debug, PartialEq, Eq, PartialOrd, Ord)]
+pub struct PairGroup {
+    pub pair: PairKey,
+    pub group: u32,
+}
+
+/// The notes in order of names.
+pub(crate) fn by_name(mut notes: Vec<RiskNote>) -> Vec<RiskNote>
+    ensures same { IsPermutation notes.items result.items }
+    ensures ascending { AreInOrder result.items }
 {
-    match map.get_mut(&key) {
-        Some(values) => {
-            values.insert(value)?;
-            return Ok(());
+    notes.sort_unstable_by_key(|note| note.name);
+    notes
+}
+
+/// How many of the notes come before one of a later name.
+fn notes_until_later(notes: &[RiskNote], name: &RiskName) -> usize
+    ensures bound { result ≤ length notes.now }
+    ensures before { (k : ℕ) (d : Spoken) → k < result →
+        is_gt (name_cmp (slice_index_or notes.now k d).name name.now) ≡ false }
+    ensures later { (d : Spoken) → result < length notes.now →
+        is_gt (name_cmp (slice_index_or notes.now result d).name name.now) ≡ true }
+{
+    for (place, note) in notes.iter().enumerate() {
+        if note.name.cmp(name).is_gt() {
+            return place;
         }
-        None => {}
     }
-    let mut values = BTreeSet::new(alloc);
-    values.insert(value)?;
-    map.insert(key, values)?;
-    Ok(())
+    notes.len()
 }
 
-/// The groups by the names that the notes give.
-pub(crate) fn by_name(
-    alloc: Global,
+/// The notes under the name, of notes in order of names.
+fn notes_under<'a>(notes: &'a [RiskNote], name: &RiskName) -> &'a [RiskNote]
+    requires { AreInOrder notes.now }
+    ensures { result.now ≡ filter (is_under name.now) notes.now }
+{
+    let start = notes.partition_point(|note| note.name.cmp(name).is_lt());
+    let rest = &notes[start..];
+    let count = notes_until_later(rest, name);
+    &rest[..count]
+}
+
+/// Appends the pair with the group of each note.
+fn add_groups(
+    pair: &PairKey,
     notes: &[RiskNote],
-) -> Result<BTreeMap<RiskName, BTreeSet<u32>>, AllocError>
-    ensures { IfOk result (λ m. AreByName m notes.now) }
-{
-    let mut map = BTreeMap::new(alloc);
-    for note in notes {
-        add_under(alloc, &mut map, note.name, note.group)?;
-    }
-    Ok(map)
-}
-
-/// Adds the set's numbers to those under the pair.
-fn add_all(
-    alloc: Global,
-    map: &mut BTreeMap<PairKey, BTreeSet<u32>>,
-    pair: &PairKey,
-    groups: &BTreeSet<u32>,
+    out: &mut Vec<PairGroup>,
 ) -> Result<(), AllocError>
-    ensures { OnOk result (AddsAll map.old map.new pair.now (contains nat_cmp groups.now)) }
+    ensures { OnOk result (out.new.items ≡ out.old.items ++ map (entry_of pair.now) notes.now) }
 {
-    for group in groups {
-        add_under(alloc, map, *pair, *group)?;
+    for note in notes {
+        out.push(PairGroup {
+            pair: *pair,
+            group: note.group,
+        })?;
     }
     Ok(())
 }
 
-/// Adds the numbers under the name to those under the pair.
+/// Appends the pair with the groups that the notes give the name.
 fn add_named(
-    alloc: Global,
-    map: &mut BTreeMap<PairKey, BTreeSet<u32>>,
+    notes: &[RiskNote],
     pair: &PairKey,
-    by_name: &BTreeMap<RiskName, BTreeSet<u32>>,
     name: Option<RiskName>,
+    out: &mut Vec<PairGroup>,
 ) -> Result<(), AllocError>
-    ensures { OnOk result (AddsAll map.old map.new pair.now (has_by by_name.now name)) }
+    requires { AreInOrder notes.now }
+    ensures { OnOk result (AddsAll out.old.items out.new.items pair.now (is_noted notes.now name)) }
 {
     match name {
         None => Ok(()),
-        Some(name) => match by_name.get(&name) {
-            None => Ok(()),
-            Some(groups) => add_all(alloc, map, pair, groups),
-        },
+        Some(name) => {
+            add_groups(pair, notes_under(notes, &name), out)?;
+            Ok(())
+        }
     }
 }
 
-/// The groups by pair, of the pairs that are announced.
-pub(crate) fn by_pair(
+/// The groups of the announced pairs, with repeats.
+fn entries(
     alloc: Global,
     announcements: &[Announcement],
-    by_name: &BTreeMap<RiskName, BTreeSet<u32>>,
-) -> Result<BTreeMap<PairKey, BTreeSet<u32>>, AllocError>
-    ensures { IfOk result (λ m. (notes : List Spoken) → AreByName by_name.now notes →
-        AreByPair m announcements.now notes) }
+    notes: &[RiskNote],
+) -> Result<Vec<PairGroup>, AllocError>
+    requires { AreInOrder notes.now }
+    ensures { IfOk result (λ v. HasGroups v.items announcements.now notes.now) }
 {
-    let mut map = BTreeMap::new(alloc);
+    // Room for one entry a note: mostly a note names one announcement.
+    let mut out = Vec::with_capacity(alloc, notes.len())?;
     for announcement in announcements {
         let pair = announcement.key.pair();
         let numbered = numbered_name(announcement);
-        add_named(alloc, &mut map, &pair, by_name, numbered)?;
+        add_named(notes, &pair, numbered, &mut out)?;
         let unnumbered = unnumbered_name(announcement);
-        add_named(alloc, &mut map, &pair, by_name, unnumbered)?;
+        add_named(notes, &pair, unnumbered, &mut out)?;
     }
-    Ok(map)
+    Ok(out)
 }
 
-/// The numbers of the set, ascending.
-fn numbers_of(alloc: Global, set: &BTreeSet<u32>) -> Result<Vec<u32>, AllocError>
-    ensures ascending { IsStrictlyIncreasing set.now.keys }
-    ensures keys { IfOk result (λ v. v.items ≡ set.now.keys) }
+/// The groups of the announced pairs, in order, by notes in order of names.
+pub(crate) fn by_pair(
+    alloc: Global,
+    announcements: &[Announcement],
+    notes: &[RiskNote],
+) -> Result<Vec<PairGroup>, AllocError>
+    requires { AreInOrder notes.now }
+    ensures { IfOk result (λ v. AreByPair v.items announcements.now notes.now) }
 {
-    let _count = set.len();
-    set.iter().copied().collect(alloc)
+    let mut table = entries(alloc, announcements, notes)?;
+    table.sort_unstable();
+    table.dedup();
+    Ok(table)
+}
+
+/// How many of the entries come before one of a later pair.
+fn entries_until_later(entries: &[PairGroup], pair: &PairKey) -> usize
+    ensures bound { result ≤ length entries.now }
+    ensures before { (k : ℕ) (d : Grouped) → k < result →
+        is_gt (pair_cmp (slice_index_or entries.now k d).pair pair.now) ≡ false }
+    ensures later { (d : Grouped) → result < length entries.now →
+        is_gt (pair_cmp (slice_index_or entries.now result d).pair pair.now) ≡ true }
+{
+    for (place, entry) in entries.iter().enumerate() {
+        if entry.pair.cmp(pair).is_gt() {
+            return place;
+        }
+    }
+    entries.len()
+}
+
+/// The entries of the pair.
+fn entries_of<'a>(by_pair: &'a [PairGroup], pair: &PairKey) -> &'a [PairGroup]
+    requires { IsStrictlySortedBy entry_cmp by_pair.now }
+    ensures { result.now ≡ filter (is_of pair.now) by_pair.now }
+{
+    let start = by_pair.partition_point(|entry| entry.pair.cmp(pair).is_lt());
+    let rest = &by_pair[start..];
+    let count = entries_until_later(rest, pair);
+    &rest[..count]
+}
+
+/// The groups of these entries.
+fn numbers_of(alloc: Global, entries: &[PairGroup]) -> Result<Vec<u32>, AllocError>
+    ensures { IfOk result (λ v. v.items ≡ map entry_group entries.now) }
+{
+    let mut out = Vec::with_capacity(alloc, entries.len())?;
+    for entry in entries {
+        out.push(entry.group)?;
+    }
+    Ok(out)
 }
 
 /// The groups of the pair, ascending.
 pub(crate) fn groups_of(
     alloc: Global,
-    by_pair: &BTreeMap<PairKey, BTreeSet<u32>>,
+    by_pair: &[PairGroup],
     pair: &PairKey,
 ) -> Result<Vec<u32>, AllocError>
+    requires { IsStrictlySortedBy entry_cmp by_pair.now }
     ensures ascending { IfOk result (λ v. IsStrictlyIncreasing v.items) }
-    ensures groups { IfOk result (λ v. v.items ≡ listed (get pair_cmp by_pair.now pair.now)) }
+    ensures groups { IfOk result (λ v. v.items ≡ groups_in by_pair.now pair.now) }
 {
-    match by_pair.get(pair) {
-        None => Ok(Vec::new(alloc)),
-        Some(groups) => numbers_of(alloc, groups),
-    }
+    let groups = numbers_of(alloc, entries_of(by_pair, pair))?;
+    Ok(groups)
 }

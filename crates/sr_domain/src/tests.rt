@@ -75,7 +75,7 @@ fn a_pair_has_the_groups_that_either_end_gives_it(rt: HostRuntime) -> Result<(),
         },
     ]
     .to_vec(rt.alloc())?;
-    let named = by_name(rt.alloc(), &notes)?;
+    let named = by_name(notes);
     let all = [there, back].to_vec(rt.alloc())?;
     let table = by_pair(rt.alloc(), &all, &named)?;
     let groups = groups_of(rt.alloc(), &table, &back.key.pair())?;

@@ -13,12 +13,12 @@ ghost use Rattle.sr_domain.specs.Steps.{IsBelowMaximum, IsGraphOf};
 
 use crate::draft::draft_links;
 use crate::fault::{DomainFault, DomainRule};
+use crate::groups::PairGroup;
 use crate::links::FoundLink;
 use sr_graph::{Draft, DraftLinks, Graph, GraphFault, SystemIds};
 use sr_lsdb::Facts;
-use sr_model::{PairKey, SystemId};
+use sr_model::SystemId;
 use std::alloc::{AllocError, Global};
-use std::collections::{BTreeMap, BTreeSet};
 
 /// Why the graph is refused, as a rule of the profile.
 fn domain_fault(fault: &GraphFault) -> DomainFault
@@ -49,7 +49,7 @@ pub(crate) fn graph_of(
     facts: &Facts,
     nodes: Vec<SystemId>,
     links: &[FoundLink],
-    by_pair: &BTreeMap<PairKey, BTreeSet<u32>>,
+    by_pair: &[PairGroup],
 ) -> Result<Graph, DomainFault>
     requires nodes { nodes.items ≡ nodes_of facts.now }
     requires ascending { IsStrictlyIncreasing nodes.items }

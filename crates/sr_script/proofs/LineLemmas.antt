@@ -14,7 +14,7 @@ use Rattle.sr_script.specs.declared.line.Line.TheVariants.{Nothing, Word}
 use Rattle.sr_script.specs.declared.line.LineFault.{LineFault}
 use Rattle.sr_script.specs.declared.line.LineFault.TheVariants.{TooLong, UnknownWord, BadForm, BadHex, Memory}
 use Rattle.sr_script.specs.declared.script_word.ScriptWord.{ScriptWord}
-use Rattle.sr_script.specs.Words.{word_at, words_of}
+use Rattle.sr_script.specs.Words.{pieces, word_at, words, words_of}
 use Rattle.sr_script.specs.Says.{Says}
 use Rattle.sr_script.specs.LineSays.{script_words, IsRemark, SaysNothing, IsUnknown, IsKnown, IsLspOf, WordsSay, IsBadForm, IsBadHex, IsWordsFault, IsShort, LineSays, IsLineFault, IsMemory}
 use Rattle.sr_script.specs.Form.{text_of, command_of, edit_words, question_words, round_words, IsOther, IsHexFault}
@@ -211,3 +211,12 @@ line-said line eight (Err fault) short is s = tt
 pub line-fault : (line : List ℕ) (eight : List (List ℕ)) (read : Result Line LineFault) → IsShort line → eight ≡ take 8 (words_of line) → IfErr read (IsWordsFault eight) → IfErr read (IsLineFault line)
 line-fault line eight (Ok said) short is f = tt
 line-fault line eight (Err fault) short is f = line-refused line fault short (eight-refuse (words_of line) fault (subst (λ ws. IsWordsFault ws fault) is f))
+
+-- a line without bytes says nothing
+empty-line : LineSays [] Nothing
+unfolding words pieces
+empty-line = record { short = omega arith; says = tt }
+
+pub empty-said : (line : List ℕ) → length line ≡ 0 → LineSays line Nothing
+empty-said [] e = empty-line
+empty-said (byte ∷ bytes) e = absurd (omega (arith, e))

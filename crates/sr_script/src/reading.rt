@@ -115,6 +115,10 @@ pub fn read_line(alloc: Global, line: &[u8]) -> Result<Line, LineFault>
     if line.len() > LONGEST_LINE {
         return Err(LineFault::TooLong);
     }
+    // Many scripts have empty lines, and these need no words.
+    if line.is_empty() {
+        return Ok(Line::Nothing);
+    }
     let words = Words::of(without_return(line));
     read_words(alloc, &words)
 }

@@ -1,0 +1,7 @@
+use Rattle.std.proofs.Common.{rules}
+use Rattle.std.proofs.lemmas.List.Sorted.{answers_always}
+use Rattle.sr_domain.specs.GroupTables.{note_name}
+use Rattle.sr_domain.proofs.groups.by_name.Goals as goal
+
+pub returns-clause-ascending : goal.returns-clause-ascending
+returns-clause-ascending c = c.sort_unstable_by_key.ensures.sorted note_name (answers_always _ _ _ (λ f a r f' k. search rules))
