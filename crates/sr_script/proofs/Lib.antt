@@ -3,3 +3,6 @@ mod KeptLemmas
 mod FormLemmas
 mod SaidLemmas
 mod LineLemmas
+mod DigitLemmas
+mod OctetLemmas
+mod BlankLemmas

@@ -3,3 +3,4 @@ pub mod Number
 pub mod Says
 pub mod LineSays
 pub mod Form
+pub mod Digits

@@ -1,10 +1,14 @@
 -- The words of a line (this project's rule). A line comes without its line feed.
-use Rattle.std.specs.Prelude.{ℕ, ◌-◌, ◌==◌, ◌||◌, Bool, true, false, if◌then◌else◌, List, [], ◌∷◌, length, take, filter, slice_index, slice_index_or}
+use Rattle.std.specs.Prelude.{◌≡◌, ℕ, ◌-◌, ◌<◌, ◌==◌, ◌||◌, Bool, true, false, if◌then◌else◌, List, [], ◌∷◌, length, take, filter, slice_index, slice_index_or}
 use Rattle.std.specs.List.{slice_split}
 
 -- a space or a tab
 abbrev pub is_blank : ℕ → Bool
 is_blank byte = byte == 32 || byte == 9
+
+-- the first n bytes are blanks
+abbrev pub AreBlanks : List ℕ → ℕ → Type 0
+AreBlanks text n = (k : ℕ) → k < n → is_blank (slice_index text k) ≡ true
 
 -- a piece that isn't empty
 abbrev pub is_written : List ℕ → Bool

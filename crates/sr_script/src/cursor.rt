@@ -1,9 +1,10 @@
 //! The next word of a text.
 
 ghost use Rattle.std.specs.Prelude.{◌≡◌, ◌<◌, ◌≤◌, ℕ, true, false, [], ◌∷◌, length, slice_index, MatchOption};
-ghost use Rattle.sr_script.specs.Words.{words, is_blank as blank_test};
+ghost use Rattle.sr_script.specs.Words.{words, is_blank as blank_test, AreBlanks};
 
 use crate::blank::is_blank;
+use crate::blank_block::blank_blocks;
 use memchr::memchr2;
 
 /// The first word of a text, and the text behind it.
@@ -13,18 +14,36 @@ pub(crate) struct NextWord<'a> {
     pub rest: &'a [u8],
 }
 
+/// From which length on a text is looked at in blocks: shorter lines gain nothing by it.
+const LONG_TEXT: usize = 128;
+
+/// How many blanks the text begins with, where the first ones are known.
+fn blanks_from(text: &[u8], known: usize) -> usize
+    requires within { known ≤ length text.now }
+    requires blanks { AreBlanks text.now known }
+    ensures within { result ≤ length text.now }
+    ensures before { AreBlanks text.now result }
+    ensures found { result < length text.now → blank_test (slice_index text.now result) ≡ false }
+{
+    for i in known..text.len() {
+        if !is_blank(text[i]) {
+            return i;
+        }
+    }
+    text.len()
+}
+
 /// How many blanks the text begins with.
 fn blanks_before(text: &[u8]) -> usize
     ensures within { result ≤ length text.now }
     ensures before { (k : ℕ) → k < result → blank_test (slice_index text.now k) ≡ true }
     ensures found { result < length text.now → blank_test (slice_index text.now result) ≡ false }
 {
-    for (i, byte) in text.iter().enumerate() {
-        if !is_blank(*byte) {
-            return i;
-        }
+    if text.len() < LONG_TEXT {
+        blanks_from(text, 0)
+    } else {
+        blanks_from(text, blank_blocks(text))
     }
-    text.len()
 }
 
 /// How many bytes stand before the first blank of the text, or before its end.

@@ -3,9 +3,11 @@
 
 mod argument;
 mod blank;
+mod blank_block;
 mod case_form;
 mod command;
 mod cursor;
+mod digits;
 mod end_form;
 mod hexadecimal;
 mod law;

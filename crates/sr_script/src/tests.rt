@@ -225,6 +225,30 @@ fn octets_are_pairs_of_digits(rt: HostRuntime) {
     expect(&rt, rt.alloc(), &lines[4..], "bad form");
 }
 
+// Two blocks of 32 digits, and four digits more.
+#[test]
+fn digits_of_blocks_are_read(rt: HostRuntime) -> Result<(), Fail> {
+    let alloc = rt.alloc();
+    expect_command(
+        &rt,
+        alloc,
+        "lsp 00112233445566778899aAbBcCdDeEfF0123456789abcdefFEDCBA98765432107f80",
+        "Lsp { octets: Octets { items: [0, 17, 34, 51, 68, 85, 102, 119, 136, 153, 170, 187, 204, 221, 238, 255, \
+         1, 35, 69, 103, 137, 171, 205, 239, 254, 220, 186, 152, 118, 84, 50, 16, 127, 128] } }",
+    )?;
+    let lines = [
+        "lsp 00112233445566778899aAbBcCdDeEf/",
+        "lsp 00112233445566778899aAbBcCdDeE:F",
+        "lsp @0112233445566778899aAbBcCdDeEfF",
+        "lsp 0G112233445566778899aAbBcCdDeEfF",
+        "lsp 00112233445566`78899aAbBcCdDeEfF",
+        "lsp 00112233445566778899aAbBcCdDeEfF0123456789abcdefFEDCBA98765432g0",
+        "lsp 00112233445566778899aAbBcCdDeEfF0123456789abcdefFEDCBA98765432107g",
+    ];
+    expect(&rt, alloc, &lines, "bad hex");
+    Ok(())
+}
+
 #[test]
 fn long_lines_are_refused_first(rt: HostRuntime) -> Result<(), Fail> {
     let alloc = rt.alloc();
