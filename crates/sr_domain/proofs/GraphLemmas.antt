@@ -1,10 +1,12 @@
 -- The graph that is built has the links of its draft, in order, with their labels and groups.
 use Rattle.std.proofs.Common.{◌≡◌, ℕ, zero, suc, ◌+◌, ◌<◌, List, [], ◌∷◌, map, length, get_or, refl, arith, ap, sym, ◌∙◌, subst, None}
+use Rattle.std.specs.Prelude.{Contains}
 use Rattle.std.specs.List.{list_any}
 use Rattle.std.specs.List.Sorted.{IsPermutation, IsSortedByKey}
 use Rattle.std.proofs.lemmas.List.{length-map, get_or-map}
 use Rattle.std.proofs.lemmas.List.Sorted.{IsPermutation-sym, Contains-permutation}
 use Rattle.sr_model.specs.declared.name.Ident.TheVariants.{None as NoIdent}
+use Rattle.sr_model.specs.declared.name.LinkKey.{LinkKey}
 use Rattle.sr_model.specs.declared.link.Link.{Link}
 use Rattle.sr_model.specs.Key.{pair_of}
 use Rattle.sr_model.specs.KeyOrder.{key_cmp}
@@ -18,12 +20,14 @@ use Rattle.sr_graph.proofs.OrderLemmas.{far-below}
 use Rattle.sr_lsdb.specs.declared.facts.Facts.{Facts}
 use Rattle.sr_domain.specs.declared.links.FoundLink.{FoundLink}
 use Rattle.sr_domain.specs.Announced.{announcements_of}
-use Rattle.sr_domain.specs.Groups.{notes_of, same_number}
+use Rattle.sr_domain.specs.Groups.{notes_of, same_number, is_group_of}
 use Rattle.sr_domain.proofs.GroupsLemmas.{in-table}
 use Rattle.sr_domain.specs.declared.groups.PairGroup.{PairGroup}
-use Rattle.sr_domain.specs.GroupTables.{draft_link, groups_in, AreByPair}
-use Rattle.sr_domain.specs.Links.{link_key, link_label, labelled}
+use Rattle.sr_domain.specs.GroupTables.{draft_link, gives, groups_in, AreByPair}
+use Rattle.sr_domain.specs.Links.{KeysAscend, link_key, link_label, labelled}
 use Rattle.sr_domain.specs.Steps.{IsGraphOf}
+use Rattle.sr_domain.proofs.NetLemmas.{found-at}
+use Rattle.std.specs.declared.cmp.Ordering.TheVariants.{Less}
 use Rattle.sr_domain.proofs.SortedLemmas.{Rises, rises-from_far, same-sorted}
 
 abbrev no_found : FoundLink
@@ -53,6 +57,16 @@ sorted-map : (m : List PairGroup) (links : List FoundLink) → IsSortedByKey lin
 sorted-map m links sorted k d low high =
     let next : k + 1 < length links = omega (arith, length-map links (draft_link m)) in
     rw (get_or-map (draft_link m) links (k + 1) no_found d next, get_or-map (draft_link m) links k no_found d (omega arith)) (sorted k no_found low next)
+
+pub keys-ascend : (m : List PairGroup) (links : List FoundLink) (drafts : List DraftLink) → drafts ≡ map (draft_link m) links → IsSortedByKey link_key key_cmp links → NoneTwice drafts → KeysAscend links
+keys-ascend m links drafts are sorted once k d within =
+    let made : List DraftLink = map (draft_link m) links in
+    let e : DraftLink = draft_link m d in
+    let long : length made ≡ length links = length-map links (draft_link m) in
+    let up : key_cmp (get_or made k e).key (get_or made (k + 1) e).key ≡ Less = (ascend-from_once made (sorted-map m links sorted) (subst (λ (ds : List DraftLink). NoneTwice ds) are once)).at k e (omega arith) in
+    let here : get_or made k e ≡ draft_link m (get_or links k d) = get_or-map (draft_link m) links k d e (omega arith) in
+    let next : get_or made (k + 1) e ≡ draft_link m (get_or links (k + 1) d) = get_or-map (draft_link m) links (k + 1) d e within in
+    ap (λ (x : DraftLink). key_cmp x.key (get_or links (k + 1) d).key) (sym here) ∙ ap (λ (y : DraftLink). key_cmp (get_or made k e).key y.key) (sym next) ∙ up
 
 drafts-same : (g : Graph) (drafts : List DraftLink) → IsNamed g → IsGrouped g → AreSorted drafts → NoneTwice drafts → IsPermutation drafts (drafted g.links g.groups) → drafted g.links g.groups ≡ drafts
 drafts-same g drafts named grouped sorted once moved = same-sorted (drafted g.links g.groups) drafts (rises-graph g named grouped) (rises-drafts drafts sorted once)
@@ -85,23 +99,28 @@ module _ (m : List PairGroup) where
       let parts = head-same (record { key = l.key; metric = l.metric; groups = g }) (draft_link m f) (drafted ls gs) (map (draft_link m) fs) same in
       groups-same ls gs fs (omega arith) parts.1 i (omega arith)
 
-pub graph-of : (facts : Facts) (m : List PairGroup) (nodes : List ℕ) (links : List FoundLink) (drafts : List DraftLink) (g : Graph) → drafts ≡ map (draft_link m) links → IsSortedByKey link_key key_cmp links → NoneTwice drafts → AreByPair m (announcements_of facts) (notes_of facts) → IsBuilt (record { nodes = nodes; links = drafts }) g → IsGraphOf facts nodes links g
+groups-at : (facts : Facts) (m : List PairGroup) (links : List FoundLink) (key : LinkKey) (x : FoundLink) → AreByPair m links (announcements_of facts) (notes_of facts) → Contains links x → x.key ≡ key → (group : ℕ) → list_any (gives (pair_of key) group) m ≡ is_group_of (announcements_of facts) (notes_of facts) (pair_of key) group
+groups-at facts m links key x groups there e group = subst (λ (k : LinkKey). list_any (gives (pair_of k) group) m ≡ is_group_of (announcements_of facts) (notes_of facts) (pair_of k) group) e (groups x group there)
+
+pub graph-of : (facts : Facts) (m : List PairGroup) (nodes : List ℕ) (links : List FoundLink) (drafts : List DraftLink) (g : Graph) → drafts ≡ map (draft_link m) links → IsSortedByKey link_key key_cmp links → NoneTwice drafts → AreByPair m links (announcements_of facts) (notes_of facts) → IsBuilt (record { nodes = nodes; links = drafts }) g → IsGraphOf facts nodes links g
 graph-of facts m nodes links drafts g are sorted once groups built =
     let sorted' : AreSorted drafts = subst (λ (ds : List DraftLink). AreSorted ds) (sym are) (sorted-map m links sorted) in
     let same : drafted g.links g.groups ≡ map (draft_link m) links = drafts-same g drafts built.named built.grouped sorted' once built.links ∙ are in
     let long : length g.groups ≡ length g.links = built.grouped.long in
+    let long' : length g.links ≡ length links = sym (drafted-length g.links g.groups long) ∙ ap length same ∙ length-map links (draft_link m) in
     record {
       systems = built.systems;
       overloaded = built.overloaded;
       graph = built.graph;
       named = built.named;
       grouped = built.grouped;
-      long = sym (drafted-length g.links g.groups long) ∙ ap length same ∙ length-map links (draft_link m);
+      long = long';
       same = labelled-same m g.links g.groups links long same;
       groups = λ l lt.
           let here : groups_at g l ≡ groups_in m (pair_of (link_at g l).key) = groups-same m g.links g.groups links long same l lt in
+          let found = found-at g.links links (sym long') (labelled-same m g.links g.groups links long same) l lt in
           record {
             ascending = built.grouped.ascending l lt;
-            each = λ group. ap (list_any (same_number group)) here ∙ in-table m (pair_of (link_at g l).key) group ∙ groups.each (pair_of (link_at g l).key) group;
+            each = λ group. ap (list_any (same_number group)) here ∙ in-table m (pair_of (link_at g l).key) group ∙ groups-at facts m links (link_at g l).key found.0 groups found.1 found.2 group;
           };
     }

@@ -1,31 +1,41 @@
 -- The groups of pairs, by the names of their announcements.
-use Rattle.std.proofs.Common.{◌≡◌, ℕ, ◌+◌, ◌<◌, arith, ◌||◌, ◌&&◌, Bool, true, false, cond, List, [], ◌∷◌, ◌++◌, map, filter, length, get_or, take, Option, Some, None, refl, ap, sym, ◌∙◌}
+use Rattle.std.proofs.Common.{◌≡◌, ℕ, ◌+◌, ◌-◌, ◌<◌, ◌≤◌, arith, ◌||◌, ◌&&◌, Bool, true, false, cond, List, [], ◌∷◌, ◌++◌, map, filter, length, get_or, take, Option, Some, None, refl, ap, sym, ◌∙◌, append_assoc}
 use Rattle.std.specs.Cmp.{IsTotalOrder, IsEquivalence, both_ways}
-use Rattle.std.specs.List.{list_any, dedup, AllByRecursion}
-use Rattle.std.specs.List.Sorted.{IsPermutation, IsSorted, IsSortedBy, IsStrictlyIncreasing, IsStrictlySortedBy}
-use Rattle.std.specs.Ordering.{eq_by_cmp, is_eq, is_lt, nat_cmp, ordering_reverse, ordering_then}
+use Rattle.std.specs.List.{list_any, dedup, AllByRecursion, AllWithin}
+use Rattle.std.specs.List.Sorted.{IsPartitionedBy, IsPermutation, IsSorted, IsSortedBy, IsStrictlyIncreasing, IsStrictlySortedBy}
+use Rattle.std.specs.Ordering.{bool_cmp, eq_by_cmp, is_eq, is_lt, nat_cmp, ordering_reverse, ordering_then}
 use Rattle.std.specs.declared.cmp.Ordering.{Ordering}
 use Rattle.std.specs.declared.cmp.Ordering.TheVariants.{Less, Equal, Greater}
 use Rattle.std.proofs.lemmas.Cmp.{tied_itself, eq_by_cmp_equiv}
 use Rattle.std.proofs.lemmas.List.{take_more}
 use Rattle.std.proofs.lemmas.List.Folds.{list_any-append}
 use Rattle.std.proofs.lemmas.List.Kept.{Contains-dedup, Contains-from_dedup, IsStrictlySortedBy-dedup}
-use Rattle.std.proofs.lemmas.List.Sorted.{list_any-IsPermutation}
+use Rattle.std.proofs.lemmas.List.Sorted.{Contains-permutation, list_any-IsPermutation}
+use Rattle.std.proofs.lemmas.Map.Views.{any-filter_same}
+use Rattle.std.proofs.lemmas.Map.Steps.{list_any_congr}
 use Rattle.std.proofs.lemmas.Map.Keys.{IsStrictlyIncreasing-from_sorted, Less-from_sorted}
-use Rattle.std.proofs.lemmas.Map.Lookups.{exact_pairs, exact_unsigned}
+use Rattle.std.proofs.lemmas.Map.Lookups.{CmpEqualImpliesEq, exact_pairs, exact_unsigned}
 use Rattle.sr_model.specs.declared.name.PairKey.{PairKey}
 use Rattle.sr_domain.specs.declared.announced.Announcement.{Announcement}
 use Rattle.sr_domain.specs.declared.groups.PairGroup.{PairGroup}
 use Rattle.sr_domain.specs.declared.risks.RiskNote.{RiskNote}
 use Rattle.sr_domain.specs.declared.risks.RiskName.{RiskName}
+use Rattle.sr_domain.specs.declared.links.FoundLink.{FoundLink}
+use Rattle.sr_domain.specs.declared.names.PairName.{PairName}
+use Rattle.sr_domain.specs.contracts.names.PairNameOrd.TheImpl as pair_name
+use Rattle.sr_domain.specs.contracts.names.PairNameOrd.TheImpl.Laws as pair_name_laws
+use Rattle.sr_domain.specs.contracts.risks.RiskNoteOrd.TheImpl as risk_note
+use Rattle.sr_domain.specs.contracts.risks.RiskNoteOrd.TheImpl.Laws as note_laws
 use Rattle.sr_domain.specs.contracts.risks.RiskNameOrd.TheImpl.Laws as name_laws
 use Rattle.sr_domain.specs.contracts.groups.PairGroupOrd.TheImpl.Laws as entry_laws
 use Rattle.sr_model.specs.Key.{pair_of}
 use Rattle.sr_lsdb.specs.Order.{pair_cmp}
 use Rattle.sr_lsdb.proofs.OrderLemmas.{pair_total, pair_exact}
 use Rattle.sr_domain.proofs.KeyLemmas.{any-to, any-from}
-use Rattle.sr_domain.specs.Groups.{name_cmp, is_name, numbered_name, unnumbered_name, speaks_of, same_pair, same_number}
-use Rattle.sr_domain.specs.GroupTables.{AddsAll, AreByPair, HasGroups, entry_cmp, entry_group, entry_of, gives, groups_in, is_noted, is_of, is_under}
+use Rattle.sr_domain.proofs.MemberLemmas.{mapped-to}
+use Rattle.sr_domain.proofs.RunsLemmas.{partitioned-lt}
+use Rattle.sr_domain.specs.Groups.{name_cmp, is_name, numbered_name, unnumbered_name, speaks_of, same_pair, same_number, is_group_of}
+use Rattle.sr_domain.specs.GroupTables.{AddsAll, AreByName, AreByPair, AreInOrder, HasNamedGroups, HaveSameNames, HaveSameNotes, comes_before, entry_cmp, entry_group, entry_of, gives, groups_in, is_in, is_noted, is_of, is_under, link_pair, named, names_from, note_name}
 
 pub name_total : IsTotalOrder name_cmp
 name_total = name_laws.total-law
@@ -33,10 +43,17 @@ name_total = name_laws.total-law
 pub entry_total : IsTotalOrder entry_cmp
 entry_total = entry_laws.total-law
 
-or_and : (a p s r : Bool) → ((a || p && s) || p && r) ≡ (a || p && (s || r))
-or_and true p s r = refl
-or_and false true s r = refl
-or_and false false s r = refl
+abbrev pub note_cmp : RiskNote → RiskNote → Ordering
+note_cmp = risk_note.cmp-value.it
+
+note_total : IsTotalOrder note_cmp
+note_total = note_laws.total-law
+
+abbrev pub pair_name_cmp : PairName → PairName → Ordering
+pair_name_cmp = pair_name.cmp-value.it
+
+pair_name_total : IsTotalOrder pair_name_cmp
+pair_name_total = pair_name_laws.total-law
 
 last_or : (a b : Bool) → (a || b) ≡ (a || (b || false))
 last_or true b = refl
@@ -71,17 +88,24 @@ and_false : (b : Bool) → false ≡ (b && false)
 and_false true = refl
 and_false false = refl
 
-or_false : (b c : Bool) → c ≡ false → b ≡ (b || c)
-or_false true c e = refl
-or_false false c e = sym e
-
 -- without a name nothing is noted
 not-noted : (notes : List RiskNote) (v : ℕ) → is_noted notes None v ≡ false
 not-noted [] v = refl
 not-noted (n ∷ ns) v = ap (λ b. b || is_noted ns None v) (sym (and_false (same_number v n.group))) ∙ not-noted ns v
 
-pub nothing-added : (table : List PairGroup) (notes : List RiskNote) (pair : PairKey) (name : Option RiskName) → name ≡ None → AddsAll table table pair (is_noted notes name)
-nothing-added table notes pair name none = λ q v. or_false (list_any (gives q v) table) (same_pair q pair && is_noted notes name v) (ap (λ o. same_pair q pair && is_noted notes o v) none ∙ ap (λ b. same_pair q pair && b) (not-noted notes v) ∙ sym (and_false (same_pair q pair)))
+-- where the notes of a name begin
+note-partitioned : (notes : List RiskNote) (name : RiskName) → AreInOrder notes → IsPartitionedBy (comes_before name) notes
+note-partitioned notes name up = partitioned-lt name_total note_name notes name up
+
+pub all-earlier : (notes : List RiskNote) (name : RiskName) (at : ℕ) → AreInOrder notes → 0 < at → at ≤ length notes → ((d : RiskNote) → comes_before name (get_or notes (at - 1) d) ≡ true) → AllWithin (λ (n : RiskNote). comes_before name n ≡ true) notes 0 at
+all-earlier notes name at up some within last k d low less = note-partitioned notes name up k (at - 1) d (omega arith) (omega arith) (last d)
+
+pub none-earlier : (notes : List RiskNote) (name : RiskName) (at : ℕ) → AreInOrder notes → at < length notes → ((d : RiskNote) → comes_before name (get_or notes at d) ≡ false) → AllWithin (λ (n : RiskNote). comes_before name n ≡ false) notes at (length notes)
+none-earlier notes name at up within first k d low less = by (comes_before name (get_or notes k d)) refl
+  where
+    by : (b : Bool) → comes_before name (get_or notes k d) ≡ b → b ≡ false
+    by false e = refl
+    by true e = let bad : true ≡ false = sym (note-partitioned notes name up at k d low less e) ∙ first d in absurd (cc)
 
 -- the groups of notes under a name
 any-under : (notes : List RiskNote) (pair : PairKey) (name : RiskName) (q : PairKey) (v : ℕ) → list_any (gives q v) (map (entry_of pair) (filter (is_under name) notes)) ≡ (same_pair q pair && is_noted notes (Some name) v)
@@ -101,33 +125,49 @@ any-under (n ∷ ns) pair name q v = by (any-under ns pair name q v) (is_under n
     by rest true = kept (same_pair q pair) (same_number v n.group) (list_any (gives q v) (map (entry_of pair) (filter (is_under name) ns))) (is_noted ns (Some name) v) rest
     by rest false = left (same_pair q pair) (same_number v n.group) (list_any (gives q v) (map (entry_of pair) (filter (is_under name) ns))) (is_noted ns (Some name) v) rest
 
-pub groups-added : (old new : List PairGroup) (notes under : List RiskNote) (pair : PairKey) (name : RiskName) (o : Option RiskName) → o ≡ Some name → under ≡ filter (is_under name) notes → new ≡ old ++ map (entry_of pair) under → AddsAll old new pair (is_noted notes o)
-groups-added old new notes under pair name o some its are = λ q v.
+pub groups-added : (old new : List PairGroup) (notes under : List RiskNote) (pair : PairKey) (name : RiskName) → under ≡ filter (is_under name) notes → new ≡ old ++ map (entry_of pair) under → AddsAll old new pair (is_noted notes (Some name))
+groups-added old new notes under pair name its are = λ q v.
     ap (list_any (gives q v)) (are ∙ ap (λ u. old ++ map (entry_of pair) u) its)
     ∙ list_any-append (gives q v) old (map (entry_of pair) (filter (is_under name) notes))
     ∙ ap (λ b. list_any (gives q v) old || b) (any-under notes pair name q v)
-    ∙ ap (λ n. list_any (gives q v) old || same_pair q pair && is_noted notes n v) (sym some)
 
 spoken : (notes : List RiskNote) (a : Announcement) (g : ℕ) → (is_noted notes (numbered_name a) g || is_noted notes (unnumbered_name a) g) ≡ list_any (λ (n : RiskNote). same_number g n.group && speaks_of n a) notes
 spoken notes a g = any-or (λ (n : RiskNote). same_number g n.group) (λ (n : RiskNote). is_name n.name (numbered_name a)) (λ (n : RiskNote). is_name n.name (unnumbered_name a)) notes
 
--- one more announcement
-pub groups-more : (notes : List RiskNote) (anns : List Announcement) (i : ℕ) (a : Announcement) (old mid new : List PairGroup) → i < length anns → a ≡ get_or anns i a → HasGroups old (take i anns) notes
-    → AddsAll old mid (pair_of a.key) (is_noted notes (numbered_name a))
-    → AddsAll mid new (pair_of a.key) (is_noted notes (unnumbered_name a))
-    → HasGroups new (take (i + 1) anns) notes
-groups-more notes anns i a old mid new within is before first second = λ q v.
-    let p : Bool = same_pair q (pair_of a.key) in
-    let test : Announcement → Bool = λ b. same_pair q (pair_of b.key) && list_any (λ (n : RiskNote). same_number v n.group && speaks_of n b) notes in
-    second q v
-    ∙ ap (λ b. b || p && is_noted notes (unnumbered_name a) v) (first q v)
-    ∙ or_and (list_any (gives q v) old) p (is_noted notes (numbered_name a) v) (is_noted notes (unnumbered_name a) v)
-    ∙ ap (λ b. list_any (gives q v) old || p && b) (spoken notes a v)
-    ∙ ap (λ b. b || test a) (before q v)
-    ∙ last_or (list_any test (take i anns)) (test a)
-    ∙ ap (λ (b : Announcement). list_any test (take i anns) || (test b || false)) is
-    ∙ sym (list_any-append test (take i anns) (get_or anns i a ∷ []))
-    ∙ ap (list_any test) (sym (take_more anns i a within))
+-- one more name
+pub groups-more : (notes : List RiskNote) (names : List PairName) (i : ℕ) (n : PairName) (old new : List PairGroup) → i < length names → n ≡ get_or names i n → HasNamedGroups old (take i names) notes
+    → AddsAll old new n.pair (is_noted notes (Some n.name))
+    → HasNamedGroups new (take (i + 1) names) notes
+groups-more notes names i n old new within is before adds = λ q v.
+    let test : PairName → Bool = λ m. same_pair q m.pair && is_noted notes (Some m.name) v in
+    adds q v
+    ∙ ap (λ b. b || test n) (before q v)
+    ∙ last_or (list_any test (take i names)) (test n)
+    ∙ ap (λ (m : PairName). list_any test (take i names) || (test m || false)) is
+    ∙ sym (list_any-append test (take i names) (get_or names i n ∷ []))
+    ∙ ap (list_any test) (sym (take_more names i n within))
+
+-- the names of the announcements stand for them
+or_both : (p s t b : Bool) → (p && s || (p && t || b)) ≡ (p && (s || t) || b)
+or_both true true t b = refl
+or_both true false t b = refl
+or_both false s t b = refl
+
+any-named : (notes : List RiskNote) (q pair : PairKey) (o : Option RiskName) (g : ℕ) (rest : List PairName) → list_any (λ (n : PairName). same_pair q n.pair && is_noted notes (Some n.name) g) (named pair o ++ rest) ≡ (same_pair q pair && is_noted notes o g || list_any (λ (n : PairName). same_pair q n.pair && is_noted notes (Some n.name) g) rest)
+any-named notes q pair None g rest = ap (λ b. b || list_any (λ (n : PairName). same_pair q n.pair && is_noted notes (Some n.name) g) rest) (and_false (same_pair q pair) ∙ ap (λ b. same_pair q pair && b) (sym (not-noted notes g)))
+any-named notes q pair (Some name) g rest = refl
+
+any-names : (notes : List RiskNote) (q : PairKey) (g : ℕ) (anns : List Announcement) → list_any (λ (n : PairName). same_pair q n.pair && is_noted notes (Some n.name) g) (names_from anns) ≡ is_group_of anns notes q g
+any-names notes q g [] = refl
+any-names notes q g (a ∷ anns) =
+    let test : PairName → Bool = λ n. same_pair q n.pair && is_noted notes (Some n.name) g in
+    let pair : PairKey = pair_of a.key in
+    ap (list_any test) (append_assoc (named pair (numbered_name a)) (named pair (unnumbered_name a)) (names_from anns))
+    ∙ any-named notes q pair (numbered_name a) g (named pair (unnumbered_name a) ++ names_from anns)
+    ∙ ap (λ b. same_pair q pair && is_noted notes (numbered_name a) g || b) (any-named notes q pair (unnumbered_name a) g (names_from anns))
+    ∙ or_both (same_pair q pair) (is_noted notes (numbered_name a) g) (is_noted notes (unnumbered_name a) g) (list_any test (names_from anns))
+    ∙ ap (λ b. same_pair q pair && b || list_any test (names_from anns)) (spoken notes a g)
+    ∙ ap (λ b. same_pair q pair && list_any (λ (n : RiskNote). same_number g n.group && speaks_of n a) notes || b) (any-names notes q g anns)
 
 -- entries in strict order are in order of pairs
 first-no_later : (r s : Ordering) → ordering_then r s ≡ Less → is_lt (ordering_reverse r) ≡ false
@@ -168,49 +208,119 @@ groups-rise pair (e ∷ es) up = by (groups-rise pair es up.1) (is_of pair e) re
     by rest true of_e = (groups-below pair e of_e es up.0, rest)
     by rest false of_e = rest
 
+pub none-ascend : (es : List PairGroup) → es ≡ [] → IsStrictlySortedBy entry_cmp es
+unfolding IsStrictlySortedBy
+none-ascend [] e = tt
+none-ascend (x ∷ es) e = absurd (cc)
+
 pub groups-ascend : (pair : PairKey) (es : List PairGroup) → IsStrictlySortedBy entry_cmp es → IsStrictlyIncreasing (groups_in es pair)
 groups-ascend pair es up = IsStrictlyIncreasing-from_sorted (groups_in es pair) (groups-rise pair es up)
 
--- a sort and a dedup keep what the entries give
-entry-exact : (a b : PairGroup) → entry_cmp a b ≡ Equal → a ≡ b
-entry-exact a b h = ap made (exact_pairs pair_cmp nat_cmp pair_exact exact_unsigned (a.pair, a.group) (b.pair, b.group) h)
-  where
-    made : PairKey × ℕ → PairGroup
-    made n = record { pair = n.0; group = n.1 }
-
+-- a sort and a dedup keep what a test finds
 is_eq-true : (r : Ordering) → is_eq r ≡ true → r ≡ Equal
 is_eq-true Less e = absurd (cc)
 is_eq-true Equal e = refl
 is_eq-true Greater e = absurd (cc)
 
-module _ (eq : PairGroup → PairGroup → Bool) (ties : (a b : PairGroup) → eq a b ≡ eq_by_cmp entry_cmp a b) where
-  equivalence : IsEquivalence eq
-  equivalence = record {
-    refl = λ x. ties x x ∙ ap is_eq (tied_itself entry_total x);
-    symm = λ x y. ties x y ∙ (eq_by_cmp_equiv entry_total).symm x y ∙ sym (ties y x);
-    congr = λ x y z e. ties x z ∙ (eq_by_cmp_equiv entry_total).congr x y z (sym (ties x y) ∙ e) ∙ sym (ties y z);
-  }
+pub any-kept : {X : Type 0} {R : X → X → Ordering} (o : IsTotalOrder R) → CmpEqualImpliesEq R → (eq : X → X → Bool) → ((a b : X) → eq a b ≡ eq_by_cmp R a b) → (xs sorted : List X) → IsPermutation xs sorted → (p : X → Bool) → list_any p (dedup eq sorted) ≡ list_any p xs
+any-kept {X} {R} o exact eq ties xs sorted moved p =
+    both_ways (list_any p (dedup eq sorted)) (list_any p sorted)
+    (λ h. let r = any-to p (dedup eq sorted) h in any-from p sorted r.0 (Contains-from_dedup eq sorted r.0 r.1) r.2)
+    (λ h. let r = any-to p sorted h in any-from p (dedup eq sorted) r.0 (Contains-dedup equivalence same sorted r.0 r.1) r.2)
+    ∙ sym (list_any-IsPermutation p xs sorted moved)
+  where
+    equivalence : IsEquivalence eq
+    equivalence = record {
+      refl = λ x. ties x x ∙ ap is_eq (tied_itself o x);
+      symm = λ x y. ties x y ∙ (eq_by_cmp_equiv o).symm x y ∙ sym (ties y x);
+      congr = λ x y z e. ties x z ∙ (eq_by_cmp_equiv o).congr x y z (sym (ties x y) ∙ e) ∙ sym (ties y z);
+    }
 
-  exact : (a b : PairGroup) → eq a b ≡ true → a ≡ b
-  exact a b e = entry-exact a b (is_eq-true (entry_cmp a b) (sym (ties a b) ∙ e))
+    same : (a b : X) → eq a b ≡ true → a ≡ b
+    same a b e = exact a b (is_eq-true (R a b) (sym (ties a b) ∙ e))
 
-  any-dedup : (p : PairGroup → Bool) (es : List PairGroup) → list_any p (dedup eq es) ≡ list_any p es
-  any-dedup p es = both_ways (list_any p (dedup eq es)) (list_any p es)
-      (λ h. let r = any-to p (dedup eq es) h in any-from p es r.0 (Contains-from_dedup eq es r.0 r.1) r.2)
-      (λ h. let r = any-to p es h in any-from p (dedup eq es) r.0 (Contains-dedup equivalence exact es r.0 r.1) r.2)
+entry_exact : CmpEqualImpliesEq entry_cmp
+entry_exact a b h = ap made (exact_pairs pair_cmp nat_cmp pair_exact exact_unsigned (a.pair, a.group) (b.pair, b.group) h)
+  where
+    made : PairKey × ℕ → PairGroup
+    made n = record { pair = n.0; group = n.1 }
 
-  pub table-sorted : (anns : List Announcement) (notes : List RiskNote) (es sorted : List PairGroup) → HasGroups es anns notes → IsPermutation es sorted → IsSorted entry_cmp sorted → AreByPair (dedup eq sorted) anns notes
-  table-sorted anns notes es sorted groups moved up = record {
-    ascending = IsStrictlySortedBy-dedup entry_total ties sorted up;
-    each = λ pair g. any-dedup (gives pair g) sorted ∙ sym (list_any-IsPermutation (gives pair g) es sorted moved) ∙ groups pair g;
-  }
-
--- the order of the notes doesn't matter
-pub groups-of_moved : (table : List PairGroup) (anns : List Announcement) (said moved : List RiskNote) → IsPermutation said moved → AreByPair table anns moved → AreByPair table anns said
-groups-of_moved table anns said moved same groups = record {
-  ascending = groups.ascending;
-  each = λ pair g. groups.each pair g ∙ any-same anns (tested moved pair g) (tested said pair g) (λ a. ap (λ b. same_pair pair (pair_of a.key) && b) (sym (list_any-IsPermutation (λ (n : RiskNote). same_number g n.group && speaks_of n a) said moved same)));
+pub table-sorted : (eq : PairGroup → PairGroup → Bool) → ((a b : PairGroup) → eq a b ≡ eq_by_cmp entry_cmp a b) → (names : List PairName) (notes : List RiskNote) (es sorted : List PairGroup) → HasNamedGroups es names notes → IsPermutation es sorted → IsSorted entry_cmp sorted → AreByName (dedup eq sorted) names notes
+table-sorted eq ties names notes es sorted groups moved up = record {
+  ascending = IsStrictlySortedBy-dedup entry_total ties sorted up;
+  each = λ pair g. any-kept entry_total entry_exact eq ties es sorted moved (gives pair g) ∙ groups pair g;
 }
+
+-- names and notes in order of names
+exact_bool : CmpEqualImpliesEq bool_cmp
+exact_bool true true e = refl
+exact_bool true false e = absurd (cc)
+exact_bool false true e = absurd (cc)
+exact_bool false false e = refl
+
+abbrev numbers_cmp : ℕ × ℕ → ℕ × ℕ → Ordering
+numbers_cmp x y = ordering_then (nat_cmp x.0 y.0) (nat_cmp x.1 y.1)
+
+abbrev labels_cmp : Bool × (ℕ × ℕ) → Bool × (ℕ × ℕ) → Ordering
+labels_cmp x y = ordering_then (bool_cmp x.0 y.0) (numbers_cmp x.1 y.1)
+
+abbrev ends_cmp : ℕ × (Bool × (ℕ × ℕ)) → ℕ × (Bool × (ℕ × ℕ)) → Ordering
+ends_cmp x y = ordering_then (nat_cmp x.0 y.0) (labels_cmp x.1 y.1)
+
+pub name_exact : CmpEqualImpliesEq name_cmp
+name_exact a b h = ap made (exact_pairs nat_cmp ends_cmp exact_unsigned (exact_pairs nat_cmp labels_cmp exact_unsigned (exact_pairs bool_cmp numbers_cmp exact_bool (exact_pairs nat_cmp nat_cmp exact_unsigned exact_unsigned))) (parts a) (parts b) h)
+  where
+    parts : RiskName → ℕ × (ℕ × (Bool × (ℕ × ℕ)))
+    parts n = (n.from, (n.to, (n.numbered, (n.local, n.remote))))
+
+    made : ℕ × (ℕ × (Bool × (ℕ × ℕ))) → RiskName
+    made n = record { from = n.0; to = n.1.0; numbered = n.1.1.0; local = n.1.1.1.0; remote = n.1.1.1.1 }
+
+note_exact : CmpEqualImpliesEq note_cmp
+note_exact a b h = ap made (exact_pairs name_cmp nat_cmp name_exact exact_unsigned (a.name, a.group) (b.name, b.group) h)
+  where
+    made : RiskName × ℕ → RiskNote
+    made n = record { name = n.0; group = n.1 }
+
+pub notes-kept : (eq : RiskNote → RiskNote → Bool) → ((a b : RiskNote) → eq a b ≡ eq_by_cmp note_cmp a b) → (notes sorted : List RiskNote) → IsPermutation notes sorted → HaveSameNotes notes (dedup eq sorted)
+notes-kept eq ties notes sorted moved = any-kept note_total note_exact eq ties notes sorted moved
+
+pub notes-in_order : (eq : RiskNote → RiskNote → Bool) → ((a b : RiskNote) → eq a b ≡ eq_by_cmp note_cmp a b) → (sorted : List RiskNote) → IsSorted note_cmp sorted → AreInOrder (dedup eq sorted)
+notes-in_order eq ties sorted up k d low high =
+    let ns : List RiskNote = dedup eq sorted in
+    let a : RiskNote = get_or ns k d in
+    let b : RiskNote = get_or ns (k + 1) d in
+    let less : note_cmp a b ≡ Less = Less-from_sorted note_cmp ns k (k + 1) d (IsStrictlySortedBy-dedup note_total ties sorted up) (omega arith) high in
+    ap is_lt (name_total.antisymm b.name a.name) ∙ first-no_later (name_cmp a.name b.name) (nat_cmp a.group b.group) less
+
+-- from the names to the announcements
+pub groups-of_names : (table : List PairGroup) (links : List FoundLink) (names : List PairName) (anns : List Announcement) (said notes : List RiskNote) → HaveSameNotes said notes → HaveSameNames links (names_from anns) names → AreByName table names notes → AreByPair table links anns said
+groups-of_names table links names anns said notes same its groups = λ link g there.
+    let p : PairKey = link_pair link in
+    groups.each p g
+    ∙ its link (λ n. is_noted notes (Some n.name) g) there
+    ∙ any-names notes p g anns
+    ∙ any-same anns (tested notes p g) (tested said p g) (λ a. ap (λ b. same_pair p (pair_of a.key) && b) (same (λ (n : RiskNote). same_number g n.group && speaks_of n a)))
   where
     tested : List RiskNote → PairKey → ℕ → Announcement → Bool
     tested notes pair g a = same_pair pair (pair_of a.key) && list_any (λ (n : RiskNote). same_number g n.group && speaks_of n a) notes
+
+-- the names that are kept
+name-exact_pairs : CmpEqualImpliesEq pair_name_cmp
+name-exact_pairs a b h = ap made (exact_pairs pair_cmp name_cmp pair_exact name_exact (a.pair, a.name) (b.pair, b.name) h)
+  where
+    made : PairKey × RiskName → PairName
+    made n = record { pair = n.0; name = n.1 }
+
+pub names-kept : (eq : PairName → PairName → Bool) → ((a b : PairName) → eq a b ≡ eq_by_cmp pair_name_cmp a b) → (links : List FoundLink) (pairs : List PairKey) (names sorted out : List PairName) → IsPermutation (map link_pair links) pairs → IsPermutation names sorted → out ≡ filter (is_in pairs) (dedup eq sorted) → HaveSameNames links names out
+names-kept eq ties links pairs names sorted out same moved are = λ link test there.
+    let p : PairKey = link_pair link in
+    let full : PairName → Bool = λ n. same_pair p n.pair && test n in
+    let among : list_any (same_pair p) pairs ≡ true = any-from (same_pair p) pairs p (Contains-permutation (map link_pair links) pairs p same (mapped-to link_pair links link there)) (ap is_eq (tied_itself pair_total p)) in
+    ap (list_any full) are
+    ∙ any-filter_same full (is_in pairs) true (λ n e. list_any_congr (eq_by_cmp_equiv pair_total) n.pair p pairs ((eq_by_cmp_equiv pair_total).symm n.pair p ∙ first-true (same_pair p n.pair) (test n) e) ∙ among) (dedup eq sorted)
+    ∙ any-kept pair_name_total name-exact_pairs eq ties names sorted moved full
+  where
+    first-true : (b c : Bool) → (b && c) ≡ true → b ≡ true
+    first-true true c e = refl
+    first-true false c e = e

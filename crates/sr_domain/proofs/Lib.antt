@@ -17,3 +17,4 @@ pub mod GatheredLemmas
 pub mod AdjLemmas
 pub mod NetLemmas
 pub mod KeyLemmas
+pub mod NamesLemmas

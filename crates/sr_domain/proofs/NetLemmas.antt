@@ -57,7 +57,7 @@ adj-made nodes (l ∷ ls) (f ∷ fs) e same places =
     by (Some t) place rest = ap (λ (n : ℕ). let a : AdjLabel = record { node = n; label = t } in a ∷ adj_labels_of ls (map link_label fs)) place ∙ ap (λ r. let a : AdjLabel = record { node = place_in nodes f.key.from; label = t } in a ∷ r) rest
 
 -- each link of the graph was found
-found-at : (ls : List Link) (fs : List FoundLink) → length fs ≡ length ls → labelled ls (map link_label fs) ≡ fs → (i : ℕ) → i < length ls → (x : FoundLink) × Contains fs x × (x.key ≡ (get_or ls i no_link).key)
+pub found-at : (ls : List Link) (fs : List FoundLink) → length fs ≡ length ls → labelled ls (map link_label fs) ≡ fs → (i : ℕ) → i < length ls → (x : FoundLink) × Contains fs x × (x.key ≡ (get_or ls i no_link).key)
 found-at [] fs e same i lt = absurd (omega arith)
 found-at (l ∷ ls) [] e same i lt = absurd (omega arith)
 found-at (l ∷ ls) (f ∷ fs) e same zero lt =

@@ -62,6 +62,9 @@ draft-fits m nodes links drafts up ends metrics are groups = record {
       ∙ ap (λ (d : DraftLink). d.groups) y.2;
 }
 
+pub few-links : (m : List PairGroup) (links : List FoundLink) (drafts : List DraftLink) → drafts ≡ map (draft_link m) links → length drafts ≤ 2048 → length links ≤ 2048
+few-links m links drafts are few = omega (arith, ap length are, length-map links (draft_link m))
+
 -- facts on keys carry over
 pub least-moved : (P Q : LinkKey → Type 0) → ((k : LinkKey) → P k → Q k) → ((k : LinkKey) → Q k → P k) → (from to : ℕ) → AreLeast P from to → AreLeast Q from to
 least-moved P Q forth back from to a = record {

@@ -1,9 +1,10 @@
 -- The links of a domain: two-way announcements with their effective metrics, and the adjacency labels with the nodes that give them (this project's rules).
-use Rattle.std.specs.Prelude.{◌≢◌, Contains, ℕ, ◌+◌, Bool, not, ◌==◌, ◌&&◌, if◌then◌else◌, List, [], ◌∷◌, Option, Some, None}
+use Rattle.std.specs.Prelude.{◌≡◌, ◌≢◌, Contains, ℕ, ◌+◌, ◌<◌, length, slice_index_or, Bool, not, ◌==◌, ◌&&◌, if◌then◌else◌, List, [], ◌∷◌, Option, Some, None}
 use Rattle.std.specs.List.{filter_map, list_any}
 use Rattle.std.specs.Option.{unwrap_or, option_map}
 use Rattle.std.specs.BTreeMap.{is_at}
 use Rattle.std.specs.Map.{lookup}
+use Rattle.std.specs.declared.cmp.Ordering.TheVariants.{Less}
 use Rattle.sr_model.specs.declared.name.LinkKey.{LinkKey}
 use Rattle.sr_model.specs.declared.name.PairKey.{PairKey}
 use Rattle.sr_model.specs.declared.label.AdjLabel.{AdjLabel}
@@ -63,6 +64,10 @@ labelled (link ∷ links) (label ∷ labels) = record { key = link.key; metric =
 -- the key of a link
 abbrev pub link_key : FoundLink → LinkKey
 link_key link = link.key
+
+-- the key of each link is below that of the next
+abbrev pub KeysAscend : List FoundLink → Type 0
+KeysAscend links = (k : ℕ) (d : FoundLink) → k + 1 < length links → key_cmp (slice_index_or links k d).key (slice_index_or links (k + 1) d).key ≡ Less
 
 -- the adjacency label of a link
 abbrev pub link_label : FoundLink → Option ℕ

@@ -40,7 +40,7 @@ fn adj_labels(
     ensures labels { IfOk result (λ v. v.items ≡ filter_map (adj_label_by nodes.now) links.now) }
     ensures nodes { IfOk result (λ v. AreOfNodes (length nodes.now) v.items) }
 {
-    let mut out = Vec::new(alloc);
+    let mut out = Vec::with_capacity(alloc, links.len())?;
     for link in links {
         match link.label {
             None => {}

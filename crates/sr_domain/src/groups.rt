@@ -1,16 +1,16 @@
 //! The shared-risk groups of pairs of links.
-ghost use Rattle.std.specs.Prelude.{◌≡◌, ℕ, ◌<◌, ◌≤◌, ◌++◌, true, false, length, map, slice_index_or, IfOk, OnOk};
-ghost use Rattle.std.specs.List.{filter};
-ghost use Rattle.std.specs.List.Sorted.{IsPermutation, IsStrictlyIncreasing, IsStrictlySortedBy};
+ghost use Rattle.std.specs.Prelude.{◌≡◌, ℕ, ◌+◌, ◌<◌, ◌≤◌, ◌++◌, true, false, length, map, slice_index_or, Some, IfOk, OnOk};
+ghost use Rattle.std.specs.List.{AllWithin, filter};
+ghost use Rattle.std.specs.List.Sorted.{IsStrictlyIncreasing, IsStrictlySortedBy};
 ghost use Rattle.std.specs.Ordering.{is_gt};
 ghost use Rattle.sr_lsdb.specs.Order.{pair_cmp};
 ghost use Rattle.sr_domain.specs.Groups.{name_cmp};
 ghost use Rattle.sr_domain.specs.declared.risks.RiskNote.{RiskNote as Spoken};
 ghost use Rattle.sr_domain.specs.declared.groups.PairGroup.{PairGroup as Grouped};
-ghost use Rattle.sr_domain.specs.GroupTables.{AddsAll, AreByPair, AreInOrder, HasGroups, entry_cmp, entry_group, entry_of, groups_in, is_noted, is_of, is_under};
+ghost use Rattle.sr_domain.specs.GroupTables.{AddsAll, AreByName, AreInOrder, BeginsAt, HasNamedGroups, HaveSameNotes, comes_before, entry_cmp, entry_group, entry_of, groups_in, is_noted, is_of, is_under};
 
-use crate::announced::Announcement;
-use crate::risks::{RiskName, RiskNote, numbered_name, unnumbered_name};
+use crate::names::PairName;
+use crate::risks::{RiskName, RiskNote};
 use sr_model::PairKey;
 use std::alloc::{AllocError, Global};
 
@@ -21,12 +21,13 @@ pub struct PairGroup {
     pub group: u32,
 }
 
-/// The notes in order of names.
+/// The notes in order of names, each once.
 pub(crate) fn by_name(mut notes: Vec<RiskNote>) -> Vec<RiskNote>
-    ensures same { IsPermutation notes.items result.items }
+    ensures same { HaveSameNotes notes.items result.items }
     ensures ascending { AreInOrder result.items }
 {
-    notes.sort_unstable_by_key(|note| note.name);
+    notes.sort_unstable();
+    notes.dedup();
     notes
 }
 
@@ -46,12 +47,58 @@ fn notes_until_later(notes: &[RiskNote], name: &RiskName) -> usize
     notes.len()
 }
 
-/// The notes under the name, of notes in order of names.
-fn notes_under<'a>(notes: &'a [RiskNote], name: &RiskName) -> &'a [RiskNote]
-    requires { AreInOrder notes.now }
-    ensures { result.now ≡ filter (is_under name.now) notes.now }
+/// Whether the note at the place is of an earlier name.
+fn is_earlier(notes: &[RiskNote], at: usize, name: &RiskName) -> bool
+    requires { at < length notes.now }
+    ensures { (d : Spoken) → result ≡ comes_before name.now (slice_index_or notes.now at d) }
 {
-    let start = notes.partition_point(|note| note.name.cmp(name).is_lt());
+    notes[at].name.cmp(name).is_lt()
+}
+
+/// Whether all notes before the place are of earlier names.
+fn are_earlier(notes: &[RiskNote], at: usize, name: &RiskName) -> bool
+    requires order { AreInOrder notes.now }
+    requires within { at ≤ length notes.now }
+    ensures { result ≡ true → AllWithin (λ (n : Spoken). comes_before name.now n ≡ true) notes.now 0 at }
+{
+    if at == 0 {
+        return true;
+    }
+    is_earlier(notes, at - 1, name)
+}
+
+/// Whether no note from the place on is of an earlier name.
+fn none_is_earlier(notes: &[RiskNote], at: usize, name: &RiskName) -> bool
+    requires order { AreInOrder notes.now }
+    requires within { at ≤ length notes.now }
+    ensures { result ≡ true → AllWithin (λ (n : Spoken). comes_before name.now n ≡ false) notes.now at (length notes.now) }
+{
+    if at == notes.len() {
+        return true;
+    }
+    !is_earlier(notes, at, name)
+}
+
+/// The place of the first note that isn't of an earlier name. It is sought only where it isn't `near`.
+fn start_of(notes: &[RiskNote], name: &RiskName, near: usize) -> usize
+    requires { AreInOrder notes.now }
+    ensures within { result ≤ length notes.now }
+    ensures begins { BeginsAt notes.now name.now result }
+{
+    if near <= notes.len() && are_earlier(notes, near, name) && none_is_earlier(notes, near, name) {
+        return near;
+    }
+    notes.partition_point(|note| note.name.cmp(name).is_lt())
+}
+
+/// The notes under the name, which begin at the place, of notes in order of names.
+fn notes_under<'a>(notes: &'a [RiskNote], start: usize, name: &RiskName) -> &'a [RiskNote]
+    requires order { AreInOrder notes.now }
+    requires within { start ≤ length notes.now }
+    requires begins { BeginsAt notes.now name.now start }
+    ensures notes { result.now ≡ filter (is_under name.now) notes.now }
+    ensures bound { start + length result.now ≤ length notes.now }
+{
     let rest = &notes[start..];
     let count = notes_until_later(rest, name);
     &rest[..count]
@@ -74,56 +121,52 @@ fn add_groups(
     Ok(())
 }
 
-/// Appends the pair with the groups that the notes give the name.
+/// Appends the pair with the groups that the notes give its name, and answers where these notes end. They are thought to
+/// begin near a place.
 fn add_named(
     notes: &[RiskNote],
-    pair: &PairKey,
-    name: Option<RiskName>,
+    named: &PairName,
+    near: usize,
     out: &mut Vec<PairGroup>,
-) -> Result<(), AllocError>
+) -> Result<usize, AllocError>
     requires { AreInOrder notes.now }
-    ensures { OnOk result (AddsAll out.old.items out.new.items pair.now (is_noted notes.now name)) }
+    ensures { OnOk result (AddsAll out.old.items out.new.items named.now.pair (is_noted notes.now (Some named.now.name))) }
 {
-    match name {
-        None => Ok(()),
-        Some(name) => {
-            add_groups(pair, notes_under(notes, &name), out)?;
-            Ok(())
-        }
-    }
+    let start = start_of(notes, &named.name, near);
+    let under = notes_under(notes, start, &named.name);
+    add_groups(&named.pair, under, out)?;
+    Ok(start + under.len())
 }
 
-/// The groups of the announced pairs, with repeats.
+/// The groups of the pairs by their names, with repeats.
 fn entries(
     alloc: Global,
-    announcements: &[Announcement],
+    names: &[PairName],
     notes: &[RiskNote],
 ) -> Result<Vec<PairGroup>, AllocError>
     requires { AreInOrder notes.now }
-    ensures { IfOk result (λ v. HasGroups v.items announcements.now notes.now) }
+    ensures { IfOk result (λ v. HasNamedGroups v.items names.now notes.now) }
 {
     // Room for one entry a note: mostly a note names one announcement.
     let mut out = Vec::with_capacity(alloc, notes.len())?;
-    for announcement in announcements {
-        let pair = announcement.key.pair();
-        let numbered = numbered_name(announcement);
-        add_named(notes, &pair, numbered, &mut out)?;
-        let unnumbered = unnumbered_name(announcement);
-        add_named(notes, &pair, unnumbered, &mut out)?;
+    // Where nodes announce their links in order, the notes of one name begin where those of the name before end.
+    let mut near = 0;
+    for named in names {
+        near = add_named(notes, named, near, &mut out)?;
     }
     Ok(out)
 }
 
-/// The groups of the announced pairs, in order, by notes in order of names.
+/// The groups of the pairs by their names, in order, by notes in order of names.
 pub(crate) fn by_pair(
     alloc: Global,
-    announcements: &[Announcement],
+    names: &[PairName],
     notes: &[RiskNote],
 ) -> Result<Vec<PairGroup>, AllocError>
     requires { AreInOrder notes.now }
-    ensures { IfOk result (λ v. AreByPair v.items announcements.now notes.now) }
+    ensures { IfOk result (λ v. AreByName v.items names.now notes.now) }
 {
-    let mut table = entries(alloc, announcements, notes)?;
+    let mut table = entries(alloc, names, notes)?;
     table.sort_unstable();
     table.dedup();
     Ok(table)

@@ -10,6 +10,7 @@ mod groups;
 mod labels;
 mod laws;
 mod links;
+mod names;
 mod net;
 mod nodes;
 mod overload;

@@ -53,7 +53,7 @@ pub(crate) fn link_list(
 ) -> Result<Vec<FoundLink>, AllocError>
     ensures { IfOk result (λ v. v.items ≡ filter_map (link_by facts.now) two_way.now) }
 {
-    let mut out = Vec::new(alloc);
+    let mut out = Vec::with_capacity(alloc, two_way.len())?;
     for announcement in two_way {
         match link_by(facts, announcement) {
             Some(link) => out.push(link)?,

@@ -71,7 +71,7 @@ fn net_with(
     } = gathered;
     sort(&mut links);
     let overloaded = first_overloaded(facts, &nodes);
-    let by_pair = pair_groups(alloc, facts, &announced)?;
+    let by_pair = pair_groups(alloc, facts, &announced, &links)?;
     let graph = graph_of(alloc, facts, nodes, &links, &by_pair)?;
     match overloaded {
         Some(node) => return Err(DomainFault::Rule(DomainRule::Overload { node })),

@@ -19,8 +19,8 @@ pub struct RiskName {
     pub remote: u32,
 }
 
-/// A node's word that a link of its own is in a shared-risk group.
-#[derive(Clone, Copy, Debug, PartialEq, Eq)]
+/// A node's word that a link of its own is in a shared-risk group; in order of names, and then of groups.
+#[derive(Clone, Copy, Debug, PartialEq, Eq, PartialOrd, Ord)]
 pub struct RiskNote {
     pub name: RiskName,
     pub group: u32,

@@ -1,13 +1,43 @@
 //! Announcements of small domains.
-ghost use Rattle.std.specs.Prelude.{◌≡◌, ◌<◌};
+ghost use Rattle.std.specs.Prelude.{◌≡◌, ◌<◌, IfOk};
+ghost use Rattle.sr_lsp.specs.InRange.{IsInRange};
 
 use crate::announced::Announcement;
 use crate::groups::{by_name, by_pair, groups_of};
+use crate::names::names_of;
+use crate::net_of;
 use crate::risks::{RiskName, RiskNote, unnumbered_name};
 use crate::two_way::two_way;
+use sr_lsdb::Editor;
+use sr_lsp::{Lsp, ReadFault, read_lsp};
 use sr_model::{Ident, LinkKey, SystemId};
 use sr_subtlv::LinkIds;
+use std::alloc::Global;
 use std::test::Fail;
+
+/// What router 1 of a net of two sends first: the labels 16000 to 23999, and a link to router 2 of metric 10.
+const PDU: [u8; 58] = [
+    0x83, 0x1b, 0x01, 0x00, 0x14, 0x01, 0x00, 0x00, // the fixed octets
+    0x00, 0x3a, 0x04, 0xb0, // PDU length and lifetime
+    0x00, 0x00, 0x00, 0x00, 0x00, 0x01, 0x00, 0x00, // system, pseudonode, fragment
+    0x00, 0x00, 0x00, 0x01, 0x00, 0x00, 0x03, // sequence number, checksum, flags
+    0xf2, 0x10, 0x0a, 0x00, 0x00, 0x01, 0x00, // TLV 242
+    0x02, 0x09, 0x80, 0x00, 0x1f, 0x40, 0x01, 0x03, 0x00, 0x3e, 0x80, // its sub-TLV 2
+    0x16, 0x0b, 0x00, 0x00, 0x00, 0x00, 0x00, 0x02, 0x00, 0x00, 0x00, 0x0a, 0x00, // TLV 22
+];
+
+/// The PDU with other octets at some places.
+fn pdu(alloc: Global, changes: &[(usize, u8)]) -> Result<Lsp, ReadFault>
+    ensures { IfOk result (λ lsp. IsInRange lsp) }
+{
+    let mut octets = Vec::from_slice(alloc, &PDU)?;
+    for &(at, octet) in changes {
+        if let Some(place) = octets.get_mut(at) {
+            *place = octet;
+        }
+    }
+    read_lsp(alloc, &octets)
+}
 
 /// The system id of a small number.
 fn id(value: u64) -> SystemId
@@ -32,6 +62,25 @@ fn announcement(from: u64, to: u64, ident: Ident, ids: Option<LinkIds>) -> Annou
         label: None,
         ids,
     }
+}
+
+#[test]
+fn routers_that_announce_each_other_make_a_net(rt: HostRuntime) -> Result<(), Fail> {
+    let mut editor = Editor::new(rt.alloc());
+    editor.stage_lsp(pdu(rt.alloc(), &[])?)?;
+    editor.stage_lsp(pdu(rt.alloc(), &[(17, 2), (52, 1)])?)?;
+    editor.accept();
+    let net = net_of(rt.alloc(), editor.accepted())?;
+    assert_eq!(rt; net.graph().node_count(), 2);
+    assert_eq!(rt; net.graph().link_count(), 2);
+    let there = LinkKey {
+        from: id(1),
+        to: id(2),
+        ident: Ident::None,
+    };
+    assert!(rt; net.named(id(1), id(2), 1) == Some(there));
+    assert!(rt; net.named(id(1), id(2), 2) == None);
+    Ok(())
 }
 
 #[test]
@@ -77,7 +126,8 @@ fn a_pair_has_the_groups_that_either_end_gives_it(rt: HostRuntime) -> Result<(),
     .to_vec(rt.alloc())?;
     let named = by_name(notes);
     let all = [there, back].to_vec(rt.alloc())?;
-    let table = by_pair(rt.alloc(), &all, &named)?;
+    let names = names_of(rt.alloc(), &[], &all)?;
+    let table = by_pair(rt.alloc(), &names, &named)?;
     let groups = groups_of(rt.alloc(), &table, &back.key.pair())?;
     assert_eq!(rt; groups.as_slice(), [7, 9].as_slice());
     Ok(())

@@ -1,12 +1,12 @@
 //! The graph of a domain.
-ghost use Rattle.std.specs.Prelude.{◌≡◌, All, IfOk, IfErr};
-ghost use Rattle.std.specs.List.Sorted.{IsPermutation, IsSortedByKey, IsStrictlyIncreasing};
+ghost use Rattle.std.specs.Prelude.{◌≡◌, ◌≤◌, length, All, IfOk, IfErr};
+ghost use Rattle.std.specs.List.Sorted.{IsPermutation, IsSortedByKey, IsStrictlyIncreasing, IsStrictlySortedBy};
 ghost use Rattle.sr_model.specs.KeyOrder.{key_cmp};
 ghost use Rattle.sr_domain.specs.Announced.{announcements_of};
 ghost use Rattle.sr_domain.specs.Nodes.{nodes_of};
 ghost use Rattle.sr_domain.specs.Groups.{notes_of};
-ghost use Rattle.sr_domain.specs.GroupTables.{AreByPair};
-ghost use Rattle.sr_domain.specs.Links.{links_of, link_key, HasEnds};
+ghost use Rattle.sr_domain.specs.GroupTables.{AreByPair, entry_cmp};
+ghost use Rattle.sr_domain.specs.Links.{links_of, link_key, HasEnds, KeysAscend};
 ghost use Rattle.sr_domain.specs.Rules.{AreKept, IsDomainFault};
 ghost use Rattle.sr_domain.specs.Named.{domain_fault as domain_fault_of};
 ghost use Rattle.sr_domain.specs.Steps.{IsBelowMaximum, IsGraphOf};
@@ -57,7 +57,9 @@ pub(crate) fn graph_of(
     requires sorted { IsSortedByKey link_key key_cmp links.now }
     requires ends { All (HasEnds nodes.items) links.now }
     requires metrics { All IsBelowMaximum links.now }
-    requires groups { AreByPair by_pair.now (announcements_of facts.now) (notes_of facts.now) }
+    requires table { IsStrictlySortedBy entry_cmp by_pair.now }
+    requires groups { length links.now ≤ 2048 → KeysAscend links.now →
+        AreByPair by_pair.now links.now (announcements_of facts.now) (notes_of facts.now) }
     requires kept { AreKept facts.now 5 }
     ensures graph { IfOk result (IsGraphOf facts.now nodes.items links.now) }
     ensures kept { IfOk result (λ _. AreKept facts.now 9) }

@@ -13,7 +13,7 @@ use std::alloc::{AllocError, Global};
 fn key_list(alloc: Global, announcements: &[Announcement]) -> Result<Vec<LinkKey>, AllocError>
     ensures { IfOk result (λ v. v.items ≡ map announced_key announcements.now) }
 {
-    let mut keys = Vec::new(alloc);
+    let mut keys = Vec::with_capacity(alloc, announcements.len())?;
     for announcement in announcements {
         keys.push(announcement.key)?;
     }
@@ -52,7 +52,7 @@ pub(crate) fn two_way(
     ensures { IfOk result (λ v. v.items ≡ two_way_in announcements.now) }
 {
     let keys = keys_of(alloc, announcements)?;
-    let mut out = Vec::new(alloc);
+    let mut out = Vec::with_capacity(alloc, announcements.len())?;
     for announcement in announcements {
         if holds(&keys, &announcement.key.mirrored()) {
             out.push(*announcement)?;

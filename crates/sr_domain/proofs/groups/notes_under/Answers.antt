@@ -1,16 +1,9 @@
-use Rattle.std.proofs.Common.{rules}
-use Rattle.std.proofs.lemmas.List.Sorted.{IsPartitionPoint-from_clause}
-use Rattle.std.specs.Ordering.{is_lt}
-use Rattle.sr_domain.specs.Groups.{name_cmp}
 use Rattle.sr_domain.specs.GroupTables.{note_name}
-use Rattle.sr_domain.specs.declared.risks.RiskNote.{RiskNote}
-use Rattle.sr_domain.proofs.RunsLemmas.{partitioned-lt, run-of}
+use Rattle.sr_domain.proofs.RunsLemmas.{run-of}
 use Rattle.sr_domain.proofs.GroupsLemmas.{name_total}
 use Rattle.sr_domain.proofs.groups.notes_under.Goals as goal
 
-pub returns : goal.returns
-returns c =
-    run-of name_total note_name c.args.notes.now c.args.name.now c.partition_point-start.result c.notes_until_later-count.result c.requires
-    (IsPartitionPoint-from_clause (λ (n : RiskNote). is_lt (name_cmp n.name c.args.name.now)) c.args.notes.now c.partition_point-start.result c.partition_point-start.ensures.partitioned
-    (partitioned-lt name_total note_name c.args.notes.now c.args.name.now c.requires) (λ a r f' k. search rules))
+pub returns-clause-notes : goal.returns-clause-notes
+returns-clause-notes c =
+    run-of name_total note_name c.args.notes.now c.args.name.now c.args.start c.notes_until_later-count.result c.requires.order c.requires.begins
     c.notes_until_later-count.ensures.before c.notes_until_later-count.ensures.later

@@ -11,14 +11,14 @@ use Rattle.sr_domain.proofs.net.net_with.Goals as goal
 
 pub graph_of-requires-clause-ends : goal.graph_of-requires-clause-ends
 graph_of-requires-clause-ends c =
-    let same : c.deref-3.result.now ≡ c.sort.new.links = c.deref-3.ensures.value ∙ with_items_is c.args.gathered.links c.sort.new.links (length_permutation c.deref_mut.result.now c.sort.new.links c.sort.ensures.same ∙ c.deref_mut.ensures.len) in
+    let same : c.deref-4.result.now ≡ c.sort.new.links = c.deref-4.ensures.value ∙ with_items_is c.args.gathered.links c.sort.new.links (length_permutation c.deref_mut.result.now c.sort.new.links c.sort.ensures.same ∙ c.deref_mut.ensures.len) in
     subst (λ (l : List FoundLink). All (HasEnds c.args.gathered.nodes.items) l) (sym same)
     (All-permutation (HasEnds c.args.gathered.nodes.items) c.deref_mut.result.now c.sort.new.links c.sort.ensures.same
     (subst (λ (l : List FoundLink). All (HasEnds c.args.gathered.nodes.items) l) (sym c.deref_mut.ensures.value) c.requires.gathered.ends))
 
 pub graph_of-requires-clause-metrics : goal.graph_of-requires-clause-metrics
 graph_of-requires-clause-metrics c =
-    let same : c.deref-3.result.now ≡ c.sort.new.links = c.deref-3.ensures.value ∙ with_items_is c.args.gathered.links c.sort.new.links (length_permutation c.deref_mut.result.now c.sort.new.links c.sort.ensures.same ∙ c.deref_mut.ensures.len) in
+    let same : c.deref-4.result.now ≡ c.sort.new.links = c.deref-4.ensures.value ∙ with_items_is c.args.gathered.links c.sort.new.links (length_permutation c.deref_mut.result.now c.sort.new.links c.sort.ensures.same ∙ c.deref_mut.ensures.len) in
     subst (λ (l : List FoundLink). All IsBelowMaximum l) (sym same)
     (All-permutation IsBelowMaximum c.deref_mut.result.now c.sort.new.links c.sort.ensures.same
     (subst (λ (l : List FoundLink). All IsBelowMaximum l) (sym c.deref_mut.ensures.value) c.requires.gathered.metrics))

@@ -1,9 +1,9 @@
 use Rattle.std.proofs.Common.{sym, subst}
 use Rattle.sr_domain.specs.declared.fault.DomainFault.{DomainFault}
 use Rattle.sr_domain.specs.Rules.{IsDomainFault}
-use Rattle.sr_domain.proofs.TopologyLemmas.{draft-fits}
+use Rattle.sr_domain.proofs.TopologyLemmas.{draft-fits, few-links}
 use Rattle.sr_domain.proofs.RefusalLemmas.{accepted, refused}
-use Rattle.sr_domain.proofs.GraphLemmas.{graph-of}
+use Rattle.sr_domain.proofs.GraphLemmas.{graph-of, keys-ascend}
 use Rattle.sr_domain.proofs.topology.graph_of.Goals as goal
 
 pub build-requires : goal.build-requires
@@ -12,7 +12,9 @@ build-requires c = rw (c.new.ensures, c.new-2.ensures) (draft-fits c.args.by_pai
 pub returns-in-Ok-clause-graph : goal.returns-in-Ok-clause-graph
 returns-in-Ok-clause-graph c =
     graph-of c.args.facts.now c.args.by_pair.now c.args.nodes.items c.args.links.now c.in_ok-drafts.drafts.items c.in-Ok.graph c.in_ok-drafts.ensures.links c.requires.sorted
-    (rw (c.new.ensures, c.new-2.ensures) at c.in-Ok.ensures.accepted).keys c.requires.groups
+    (rw (c.new.ensures, c.new-2.ensures) at c.in-Ok.ensures.accepted).keys
+    (c.requires.groups (few-links c.args.by_pair.now c.args.links.now c.in_ok-drafts.drafts.items c.in_ok-drafts.ensures.links (rw (c.new.ensures, c.new-2.ensures) at c.in-Ok.ensures.accepted).few_links)
+    (keys-ascend c.args.by_pair.now c.args.links.now c.in_ok-drafts.drafts.items c.in_ok-drafts.ensures.links c.requires.sorted (rw (c.new.ensures, c.new-2.ensures) at c.in-Ok.ensures.accepted).keys))
     (rw (c.new.ensures, c.new-2.ensures) at c.in-Ok.ensures.built)
 
 pub returns-in-Ok-clause-kept : goal.returns-in-Ok-clause-kept
