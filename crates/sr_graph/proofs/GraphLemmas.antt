@@ -19,7 +19,9 @@ use Rattle.sr_graph.specs.declared.draft.Draft.{Draft}
 use Rattle.sr_graph.specs.declared.fault.GraphFault.{GraphFault}
 use Rattle.sr_graph.specs.declared.fault.GraphFault.TheVariants.{ZeroMetric, DuplicateLink, TooManyNodes, TooManyLinks, Memory}
 use Rattle.sr_graph.specs.Draft.{IsDraft, HasEnds, HasZero, IsTwice, AreLeast, NoZero, NoneTwice, AreSorted, IsAccepted, IsRefusal, key_of}
+use Rattle.sr_graph.specs.declared.edges.Edge.{Edge}
 use Rattle.sr_graph.specs.Numbers.{IsNumbered}
+use Rattle.sr_graph.specs.Edges.{edge_of}
 use Rattle.sr_graph.specs.Ranges.{AreByTail, AreStarts}
 use Rattle.sr_graph.specs.Built.{drafted, IsBuilt, IsLaidOut}
 use Rattle.sr_graph.proofs.LinksLemmas.{ascend-from_once}
@@ -152,10 +154,11 @@ module _ (nodes : List ℕ) (ys : List DraftLink) (ks : List Link) (d : IsDraft 
       let Q : List Bool → Type 0 = λ bs. IsBuilt (draft_of nodes ys) (graph_with (map groups_in ys) bs) in
       subst P (sym is) (subst Q (sym none) is_built)
 
-  pub laid_out_from : (groups : List (List ℕ)) (overloaded : List Bool) (starts : List ℕ) → groups ≡ map groups_in ys → overloaded ≡ [] → AreStarts (length nodes) ks starts → IsLaidOut (record { systems = nodes; links = ks; groups = groups; overloaded = overloaded }) starts
-  laid_out_from groups overloaded starts is none at_starts =
+  pub laid_out_from : (groups : List (List ℕ)) (overloaded : List Bool) (edges : List Edge) (starts : List ℕ) → groups ≡ map groups_in ys → overloaded ≡ [] → edges ≡ map edge_of ks → AreStarts (length nodes) ks starts
+      → IsLaidOut (record { systems = nodes; links = ks; groups = groups; overloaded = overloaded }) edges starts
+  laid_out_from groups overloaded edges starts is none at_edges at_starts =
       let b = built_from groups overloaded is none in
-      record { graph = b.graph; named = b.named; grouped = b.grouped; starts = at_starts }
+      record { graph = b.graph; named = b.named; grouped = b.grouped; edges = at_edges; starts = at_starts }
 
 -- from the sorted links to the drafted ones
 module _ (nodes : List ℕ) (xs ys : List DraftLink) (same : IsPermutation xs ys) where

@@ -2,5 +2,8 @@ pub mod OrderLemmas
 pub mod LinksLemmas
 pub mod RangesLemmas
 pub mod NumbersLemmas
+pub mod EdgesLemmas
+pub mod FailedLemmas
+pub mod FixtureLemmas
 pub mod GraphLemmas
 pub mod ZipLemmas

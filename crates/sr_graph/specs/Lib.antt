@@ -1,4 +1,6 @@
 pub mod Draft
 pub mod Numbers
 pub mod Ranges
+pub mod Edges
 pub mod Built
+pub mod Failed

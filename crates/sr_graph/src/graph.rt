@@ -1,13 +1,15 @@
 //! The graph: how it is built, and what it answers.
-ghost use Rattle.std.specs.Prelude.{◌≡◌, ◌≢◌, [], ℕ, ◌<◌, ◌≤◌, length, IfSome, IfNone, IfOk, IfErr};
+ghost use Rattle.std.specs.Prelude.{◌≡◌, ◌≢◌, [], ℕ, ◌<◌, ◌≤◌, length, map, IfSome, IfNone, IfOk, IfErr};
 ghost use Rattle.sr_model.specs.declared.link.NodeNo.{NodeNo as Node};
 ghost use Rattle.sr_model.specs.declared.link.LinkNo.{LinkNo as Number};
-ghost use Rattle.sr_model.specs.Graph.{node_count, link_count, link_at, system_at, groups_at, is_overloaded, carries, IsGraph, IsNamed, IsGrouped};
+ghost use Rattle.sr_model.specs.Graph.{node_count, link_count, link_at, head, metric, system_at, groups_at, is_overloaded, carries, IsGraph, IsNamed, IsGrouped};
 ghost use Rattle.sr_graph.specs.Draft.{IsDraft, AreSorted, IsAccepted, IsRefusal};
 ghost use Rattle.sr_graph.specs.Built.{IsBuilt};
+ghost use Rattle.sr_graph.specs.Edges.{edge_of};
 ghost use Rattle.sr_graph.specs.Ranges.{HoldsLinks};
 
 use crate::draft::{Draft, DraftLink, Groups};
+use crate::edges::{Edge, edges_of};
 use crate::fault::GraphFault;
 use crate::link_set::LinkSet;
 use crate::numbers::{find, number_all, place};
@@ -22,6 +24,7 @@ use std::marker::Model;
 pub struct Graph {
     systems: Vec<SystemId>,
     links: Vec<Link>,
+    edges: Vec<Edge>,
     groups: Vec<Groups>,
     overloaded: Vec<bool>,
     starts: Vec<u16>,
@@ -35,7 +38,7 @@ impl Model for Graph {
 
     ghost view = { λ a. record { systems = a.systems.items; links = a.links.items; groups = a.groups.items; overloaded = a.overloaded.items } };
 
-    ghost invariant = { λ a. IsLaidOut (record { systems = a.systems.items; links = a.links.items; groups = a.groups.items; overloaded = a.overloaded.items }) a.starts.items };
+    ghost invariant = { λ a. IsLaidOut (record { systems = a.systems.items; links = a.links.items; groups = a.groups.items; overloaded = a.overloaded.items }) a.edges.items a.starts.items };
 }
 
 impl Graph {
@@ -75,9 +78,11 @@ impl Graph {
     {
         let numbered = number_all(alloc, &systems, links)?;
         let starts = starts(alloc, &numbered.links, systems.len())?;
+        let edges = edges_of(alloc, &numbered.links)?;
         Ok(Graph {
             systems,
             links: numbered.links,
+            edges,
             groups: numbered.groups,
             overloaded: Vec::new(alloc),
             starts,
@@ -121,6 +126,24 @@ impl Graph {
         ensures named { IsNamed self.now }
     {
         self.links[link.0 as usize]
+    }
+
+    /// The node at the link's end, and its metric.
+    pub fn edge(&self, link: LinkNo) -> Edge
+        requires { link.0 < link_count self.now }
+        ensures to { result.to.0 ≡ head self.now link.0 }
+        ensures metric { result.metric ≡ metric self.now link.0 }
+        ensures graph { IsGraph self.now }
+    {
+        self.edges[link.0 as usize]
+    }
+
+    /// The edges of all links, in order of link number.
+    pub fn edges(&self) -> &[Edge]
+        ensures edges { result.now ≡ map edge_of self.now.links }
+        ensures graph { IsGraph self.now }
+    {
+        &self.edges
     }
 
     /// The shared-risk groups of the link, ascending.

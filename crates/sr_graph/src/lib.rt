@@ -2,15 +2,21 @@
 #![tactic(auto)]
 
 mod draft;
+mod edges;
+mod failed;
 mod fault;
 mod graph;
 mod link_set;
 mod numbers;
 mod order;
 mod ranges;
+#[cfg(test)]
+mod tests;
 
 pub use draft::{Draft, DraftLink, DraftLinks, Groups, SystemIds};
+pub use edges::Edge;
 pub use fault::GraphFault;
 pub use graph::Graph;
 pub use link_set::LinkSet;
 pub use ranges::LinkRange;
+pub use sr_model::{Case, Kind};

@@ -31,6 +31,13 @@ impl LinkSet {
         }
     }
 
+    /// The set of the links whose test is true.
+    pub(crate) fn of(tests: Vec<bool>) -> LinkSet
+        ensures { result ≡ tests.items }
+    {
+        LinkSet { tests }
+    }
+
     /// Whether the link is in the set.
     pub fn has(&self, link: LinkNo) -> bool
         ensures { result ≡ has self.now link.0 }

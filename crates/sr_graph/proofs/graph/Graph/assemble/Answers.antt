@@ -1,7 +1,8 @@
-use Rattle.std.proofs.Common.{rules, ◌≡◌, length}
+use Rattle.std.proofs.Common.{rules, ◌≡◌, map, length}
 use Rattle.std.specs.List.{AllZip}
 use Rattle.sr_graph.specs.Numbers.{IsNumbered}
 use Rattle.sr_graph.specs.Ranges.{AreStarts}
+use Rattle.sr_graph.specs.Edges.{edge_of}
 use Rattle.sr_graph.proofs.ZipLemmas.{zip-length}
 use Rattle.sr_graph.proofs.GraphLemmas.{by_tail, built_from, laid_out_from}
 use Rattle.sr_graph.proofs.graph.Graph.assemble.Goals as goal
@@ -25,7 +26,8 @@ invariant_of-result c =
     let numbered : AllZip (IsNumbered c.args.systems.items) c.args.links.items c.in_ok-numbered.numbered.links.items = rw c.deref.ensures.value at c.in_ok-numbered.ensures.links in
     let same : c.len.result ≡ length c.args.systems.items = search rules in
     let starts : AreStarts (length c.args.systems.items) c.in_ok-numbered.numbered.links.items c.in_ok-starts.starts.items = rw (c.deref-2.ensures.value, same) at c.in_ok-starts.ensures in
-    laid_out_from _ _ _ c.requires.draft c.requires.accepted c.requires.sorted numbered _ _ _ c.in_ok-numbered.ensures.groups c.new.ensures.items starts
+    let edges : c.in_ok-edges.edges.items ≡ map edge_of c.in_ok-numbered.numbered.links.items = rw c.deref-3.ensures.value at c.in_ok-edges.ensures in
+    laid_out_from _ _ _ c.requires.draft c.requires.accepted c.requires.sorted numbered _ _ _ _ c.in_ok-numbered.ensures.groups c.new.ensures.items edges starts
 
 pub returns : goal.returns
 returns c =
