@@ -6,8 +6,8 @@ usage: scripts.py FOLDER
 feeds.script     33,554,432 line feeds, the most bytes that a script may have
 distances.script 256 link-state PDUs with 2,048 links in all, `commit`, and 65,000 `dist` lines
 reading.script   the PDUs of a domain of 256 nodes and 2,048 links with identifiers, SIDs and risk groups, again and again
-longest.script   PDUs of 65,535 octets, in lines of 131,074 bytes, up to the most bytes of a script
-commits.script   the same domain, and 500 times an edit of one metric with its commit
+longest.script   PDUs of 65,535 octets drawn at random, in lines of 131,074 bytes, up to the most bytes of a script
+commits.script   the same domain, and 10 times an edit of one metric with its commit
 """
 
 import pathlib
@@ -17,7 +17,7 @@ import sys
 NODES = 256
 LINKS = 2048
 QUESTIONS = 65_000
-COMMITS = 500
+COMMITS = 10
 MOST_BYTES = 33_554_432
 
 # An entry of TLV 22 without sub-TLVs has 11 octets (RFC 5305, 3), and a TLV at most 255.
@@ -76,11 +76,11 @@ def prefix(number):
     return tlv(135, octets(0, 4) + bytes([0x60]) + octets(0x0A000000 + number, 4) + bytes([len(sid)]) + sid)
 
 
-def pairs(rng):
-    """A ring of all nodes, and chords at random: 1,024 different pairs, so that each link has a key of its own."""
-    chosen = {(node, node + 1) for node in range(1, NODES)} | {(1, NODES)}
-    while len(chosen) < LINKS // 2:
-        low, high = sorted(rng.sample(range(1, NODES + 1), 2))
+def pairs(rng, nodes=NODES, links=LINKS):
+    """A ring of all nodes, and chords at random: all pairs differ, so that each link has a key of its own."""
+    chosen = {(node, node + 1) for node in range(1, nodes)} | {(1, nodes)}
+    while len(chosen) < links // 2:
+        low, high = sorted(rng.sample(range(1, nodes + 1), 2))
         chosen.add((low, high))
     return sorted(chosen)
 
@@ -98,11 +98,11 @@ def distances():
     return "".join(line + "\n" for line in lines)
 
 
-def domain(rng):
+def domain(rng, nodes=NODES, links=LINKS):
     """The lines of the PDUs of a domain, and its pairs."""
-    bodies = {node: capability(node) + prefix(node) for node in range(1, NODES + 1)}
+    bodies = {node: capability(node) + prefix(node) for node in range(1, nodes + 1)}
     risks = {node: b"" for node in bodies}
-    chosen = pairs(rng)
+    chosen = pairs(rng, nodes, links)
     for number, (low, high) in enumerate(chosen, 1):
         metric, group = rng.randint(1, 1000), rng.randint(1, 64)
         for node, other in ((low, high), (high, low)):
@@ -118,19 +118,26 @@ def reading():
 
 
 def longest():
-    body = tlv(200, bytes(255)) * 254 + tlv(200, bytes(65_535 - 27 - 254 * 257 - 2))
+    rng = random.Random("longest")
+    sizes = [255] * 254 + [65_535 - 27 - 254 * 257 - 2]
+    body = b"".join(tlv(200, rng.randbytes(size)) for size in sizes)
     text = f"lsp {pdu(1, body).hex()}\ndrop\n"
     return text * (MOST_BYTES // len(text))
 
 
-def commits():
+def churn(nodes, links, edits):
+    """The lines of a domain, and edits of one metric, each with its commit."""
     rng = random.Random("commits")
-    lines, chosen = domain(random.Random("domain"))
+    lines, chosen = domain(random.Random("domain"), nodes, links)
     lines.append("commit")
-    for _ in range(COMMITS):
+    for _ in range(edits):
         low, high = rng.choice(chosen)
         lines += [f"cost {system_id(low)} {system_id(high)} 1 {rng.randint(1, 1000)}", "commit"]
-    return "".join(line + "\n" for line in lines)
+    return lines
+
+
+def commits():
+    return "".join(line + "\n" for line in churn(NODES, LINKS, COMMITS))
 
 
 def main():

@@ -3,14 +3,22 @@
 mod cases;
 mod devices;
 mod domains;
+mod edits;
+mod field;
 mod flooded;
 mod limits;
+mod pairs;
+mod rings;
 mod routers;
 
-use cases::CASES;
+use cases::{CASES, Case};
+use edits::EDITS;
+use field::FIELD;
+use pairs::PAIRS;
+use rings::RINGS;
 use sr_base::{SteadySink, SteadySource};
 use sr_run::tilfa;
-use std::alloc::{AllocError, Global};
+use std::alloc::{AllocError, AllocGlobal, Global};
 
 /// The command words that are these, split at spaces.
 fn words(alloc: Global, text: &str) -> Result<Vec<String>, AllocError> {
@@ -21,16 +29,52 @@ fn words(alloc: Global, text: &str) -> Result<Vec<String>, AllocError> {
     Ok(words)
 }
 
-#[test]
-fn scripts_are_answered(rt: HostRuntime) -> Result<(), AllocError> {
+/// Whether the script is answered as the case says, with its status.
+fn agrees<R: AllocGlobal>(rt: &R, case: &Case) -> Result<bool, AllocError> {
     let alloc = rt.alloc();
     let run = words(alloc, "run")?;
+    let mut source = SteadySource::new(Vec::from_slice(alloc, case.script.as_bytes())?);
+    let mut sink = SteadySink::new(alloc);
+    let status = tilfa(rt, run.as_slice(), &mut source, &mut sink);
+    Ok(sink.bytes() == case.answers.as_bytes() && status == case.status)
+}
+
+#[test]
+fn scripts_are_answered(rt: HostRuntime) -> Result<(), AllocError> {
     for case in &CASES {
-        let mut source = SteadySource::new(Vec::from_slice(alloc, case.script.as_bytes())?);
-        let mut sink = SteadySink::new(alloc);
-        let status = tilfa(&rt, run.as_slice(), &mut source, &mut sink);
-        assert_eq!(rt; sink.bytes(), case.answers.as_bytes(), "{}", case.name);
-        assert_eq!(rt; status, case.status, "{}", case.name);
+        assert!(rt; agrees(&rt, case)?, "{}", case.name);
+    }
+    Ok(())
+}
+
+#[test]
+fn rings_are_answered(rt: HostRuntime) -> Result<(), AllocError> {
+    for case in &RINGS {
+        assert!(rt; agrees(&rt, case)?, "{}", case.name);
+    }
+    Ok(())
+}
+
+#[test]
+fn pairs_are_answered(rt: HostRuntime) -> Result<(), AllocError> {
+    for case in &PAIRS {
+        assert!(rt; agrees(&rt, case)?, "{}", case.name);
+    }
+    Ok(())
+}
+
+#[test]
+fn edited_domains_are_answered(rt: HostRuntime) -> Result<(), AllocError> {
+    for case in &EDITS {
+        assert!(rt; agrees(&rt, case)?, "{}", case.name);
+    }
+    Ok(())
+}
+
+#[test]
+fn flooded_domains_are_answered(rt: HostRuntime) -> Result<(), AllocError> {
+    for case in &FIELD {
+        assert!(rt; agrees(&rt, case)?, "{}", case.name);
     }
     Ok(())
 }

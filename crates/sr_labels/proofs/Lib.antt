@@ -1,7 +1,7 @@
 mod RangeLoops
 mod NetLemmas
 mod KeyPlaces
-mod Places
+pub mod Places
 mod IndexLists
 mod IndexOrder
 mod Clashes

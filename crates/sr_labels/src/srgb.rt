@@ -4,6 +4,7 @@ ghost use Rattle.sr_model.specs.Label.{label_of, sizes, IsIndexOf, IsWithin, Are
 ghost use Rattle.sr_labels.specs.Ranges.{IsRefusal};
 
 use sr_model::Range;
+use std::alloc::{AllocError, Global};
 use std::marker::Model;
 
 /// The first label that isn't reserved (RFC 3032, 2.1).
@@ -103,6 +104,17 @@ impl Srgb {
         }
         let size = size_of(&ranges);
         Ok(Srgb { ranges, size })
+    }
+
+    /// The same ranges again.
+    pub fn copied(&self, alloc: Global) -> Result<Srgb, AllocError>
+        ensures { IfOk result (λ srgb. srgb ≡ self.now) }
+    {
+        let ranges = self.ranges.to_vec(alloc)?;
+        Ok(Srgb {
+            ranges,
+            size: self.size,
+        })
     }
 
     /// How many labels there are. Indices are counted from 0 to below this number.

@@ -1,2 +1,6 @@
 pub mod Printed
 pub mod Refused
+pub mod Links
+pub mod Forwarding
+pub mod Spaces
+pub mod Repairs

@@ -2,13 +2,22 @@
 //! part of its line may stand there, and what stood before stays.
 #![tactic(auto)]
 
+mod forwarding;
 mod line;
+mod link;
 mod number;
 mod refusal;
 mod refused;
+mod repair;
+mod spaces;
 #[cfg(test)]
 mod tests;
+mod walk;
 
+pub use forwarding::{put_label, put_next};
 pub use line::{put_dist, put_dropped, put_show, put_staged, put_version};
 pub use refusal::Refusal;
 pub use refused::put_refused;
+pub use repair::put_repair;
+pub use spaces::put_spaces;
+pub use walk::put_walk;

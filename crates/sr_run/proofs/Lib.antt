@@ -1,1 +1,3 @@
 pub mod SessionLemmas
+pub mod ForwardLemmas
+pub mod FailureLemmas

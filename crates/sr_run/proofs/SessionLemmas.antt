@@ -26,7 +26,7 @@ use Rattle.sr_engine.specs.Replies.{AnswersHead}
 use Rattle.sr_print.specs.declared.refusal.Refusal.{Refusal}
 use Rattle.sr_print.specs.Printed.{staged_line}
 use Rattle.sr_print.specs.Refused.{refused_line}
-use Rattle.sr_run.specs.State.{State, with_editing}
+use Rattle.sr_run.specs.State.{State, net_of, with_editing}
 use Rattle.sr_run.specs.Session.{Answers, EditsLink, IsMissingLink, IsCarriedOut, CarriesOut, IsRefusedLine, IsAsked, IsToldAs}
 
 -- a missing link is refused
@@ -69,11 +69,11 @@ told_pdu octets number lsp old new (Err (Memory error)) before after refused rea
 
 -- an edit of a link that is missing
 pub edits_missing : (edit : LinkKey → Edit) (command : Command) (from to n number : ℕ) (old : State) (before after : List ℕ) (refused : Bool) (reason : Refusal)
-    → ((out : List ℕ) (told : Bool) (new : State) → EditsLink edit old.current from to n number old out told new → CarriesOut command number old out told new)
-    → IsMissingLink old.current from to n reason → (refused ≡ true) × (after ≡ before ++ refused_line number reason)
+    → ((out : List ℕ) (told : Bool) (new : State) → EditsLink edit (net_of old.current) from to n number old out told new → CarriesOut command number old out told new)
+    → IsMissingLink (net_of old.current) from to n reason → (refused ≡ true) × (after ≡ before ++ refused_line number reason)
     → IsCarriedOut command number old before after refused old
 edits_missing edit command from to n number old before after refused reason means missing is =
-    refused_so command number old before after refused reason (means (refused_line number reason) true old (missing_link edit old.current from to n number old reason missing)) is
+    refused_so command number old before after refused reason (means (refused_line number reason) true old (missing_link edit (net_of old.current) from to n number old reason missing)) is
 
 -- ---- lines of which only the head was seen
 

@@ -1,10 +1,25 @@
 -- What the session answers to each line, and the state after it.
-use Rattle.std.specs.Prelude.{◌≡◌, ℕ, ◌+◌, ◌<◌, ◌≤◌, ◌⊎◌, Bool, true, false, List, [], ◌++◌, Option, Some, None, IfSome}
+use Rattle.std.specs.Prelude.{◌≡◌, ℕ, ◌+◌, ◌<◌, ◌≤◌, ◌⊎◌, Bool, true, false, List, [], ◌∷◌, ◌++◌, Option, Some, None, IfSome, is_some}
 use Rattle.sr_model.specs.declared.name.LinkKey.{LinkKey}
 use Rattle.sr_model.specs.Key.{pair_of}
 use Rattle.sr_model.specs.Graph.{Graph, node_count, link_count, system_at}
-use Rattle.sr_model.specs.Label.{Net, key_named}
-use Rattle.sr_model.specs.Walk.{Distance}
+use Rattle.sr_model.specs.Label.{Net, labels_at, key_named, IsLabel}
+use Rattle.sr_model.specs.Walk.{Distance, NoWalk}
+use Rattle.sr_model.specs.declared.link.LinkNo.{LinkNo}
+use Rattle.sr_model.specs.declared.entry.Entry.{Entry}
+use Rattle.sr_model.specs.declared.entry.Move.{Move}
+use Rattle.sr_model.specs.Forward.{RunBy, crossed}
+use Rattle.sr_model.specs.Table.{IsLookup}
+use Rattle.sr_model.specs.declared.case.Case.{Case}
+use Rattle.sr_model.specs.declared.case.Kind.{Kind}
+use Rattle.sr_model.specs.declared.repair.Answer.{Answer}
+use Rattle.sr_model.specs.Case.{key_at, IsFailedSet, IsAffected, source_of}
+use Rattle.sr_model.specs.Repair.{IsCaseAnswer}
+use Rattle.sr_model.specs.Audit.{AreLabelsOf}
+use Rattle.sr_spaces.specs.Below.{IsP, IsExtendedP, IsQ}
+use Rattle.sr_print.specs.Spaces.{spaces_lines}
+use Rattle.sr_print.specs.Repairs.{repair_line}
+use Rattle.sr_spf.specs.Hops.{AreNextHops}
 use Rattle.sr_lsp.specs.declared.fault.Malformed.{Malformed}
 use Rattle.sr_lsp.specs.declared.lsp.Lsp.{Lsp}
 use Rattle.sr_lsp.specs.Lsp.{Reads, IsBroken}
@@ -21,15 +36,18 @@ use Rattle.sr_domain.specs.declared.fault.DomainRule.{DomainRule}
 use Rattle.sr_domain.specs.Net.{IsNetOf}
 use Rattle.sr_domain.specs.Rules.{IsFirstBroken}
 use Rattle.sr_script.specs.declared.command.Command.{Command}
-use Rattle.sr_script.specs.declared.command.Command.TheVariants.{Lsp as LspWord, Cost, Down, Up, Depth, Commit, DropStaged, Dist, Show}
+use Rattle.sr_script.specs.declared.command.Command.TheVariants.{Lsp as LspWord, Cost, Down, Up, Depth, Commit, DropStaged, Dist, Next, Label, Spaces, Repair, Walk, Show}
 use Rattle.sr_script.specs.declared.line.Line.TheVariants.{Nothing, Word}
 use Rattle.sr_script.specs.declared.line.LineFault.{LineFault}
 use Rattle.sr_script.specs.LineSays.{LineSays, IsLineFault}
 use Rattle.sr_print.specs.declared.refusal.Refusal.{Refusal}
 use Rattle.sr_print.specs.declared.refusal.Refusal.TheVariants as refusal
 use Rattle.sr_print.specs.Printed.{staged_line, dropped_line, version_line, dist_line, show_line}
+use Rattle.sr_print.specs.Forwarding.{next_line, label_line, walk_line}
+use Rattle.sr_fib.specs.Entries.{numbers}
 use Rattle.sr_print.specs.Refused.{refused_line}
-use Rattle.sr_run.specs.State.{State, with_editing, with_dropped, with_version}
+use Rattle.sr_repair.specs.Version.{Numbered}
+use Rattle.sr_run.specs.State.{State, number_of, net_of, with_editing, with_dropped, with_version}
 use Rattle.sr_run.specs.Refusals.{refusal_of_rule, refusal_of_malformed, IsRefusedAs}
 
 -- the line is carried out: this is said, and that is the state after it
@@ -82,10 +100,10 @@ EditsLink edit (Some net) from to n number old out refused new =
 -- `commit`, up to 65,535 times: the first broken rule of the tentative facts is named, and the staged edits are dropped; or the facts are accepted, and their net is the next version
 abbrev pub Commits : ℕ → State → List ℕ → Bool → State → Type 0
 Commits number old out refused new =
-    ((65535 ≤ old.versions) × Refuses refusal.VersionsFull number old out refused new)
-    ⊎ (((old.versions < 65535) × (rule : DomainRule) × IsFirstBroken old.editing.tentative rule × Refuses (refusal_of_rule rule) number (with_dropped old) out refused new)
-    ⊎ ((old.versions < 65535) × (net : Net) × IsNetOf old.editing.tentative net
-    × Accepts (version_line (old.versions + 1) (node_count net.graph) (link_count net.graph)) (with_version old net) out refused new))
+    ((65535 ≤ number_of old.current) × Refuses refusal.VersionsFull number old out refused new)
+    ⊎ (((number_of old.current < 65535) × (rule : DomainRule) × IsFirstBroken old.editing.tentative rule × Refuses (refusal_of_rule rule) number (with_dropped old) out refused new)
+    ⊎ ((number_of old.current < 65535) × (net : Net) × IsNetOf old.editing.tentative net
+    × Accepts (version_line (number_of old.current + 1) (node_count net.graph) (link_count net.graph)) (with_version old net) out refused new))
 
 -- both are nodes, and this is the distance from the first to the second
 pub record IsMeasured (graph : Graph) (from to : ℕ) (distance : Option ℕ) : Type 0 where
@@ -102,6 +120,104 @@ Measures (Some net) from to number old out refused new =
     ((missing : ℕ) × IsFirstMissing net.graph from to missing × Refuses (refusal.NoNode missing) number old out refused new)
     ⊎ ((distance : Option ℕ) × IsMeasured net.graph from to distance × Accepts (dist_line distance) old out refused new)
 
+-- both are nodes, and these are the next hops from the first to the second
+pub record AreHopsBetween (graph : Graph) (from to : ℕ) (hops : List LinkNo) : Type 0 where
+  pub first : ℕ
+  pub second : ℕ
+  pub begins : IsNodeOf graph from first
+  pub ends : IsNodeOf graph to second
+  pub hops_are : AreNextHops graph first second hops
+
+-- `next`: the next hops in the net of the last commit
+abbrev pub NamesHops : Option Net → ℕ → ℕ → ℕ → State → List ℕ → Bool → State → Type 0
+NamesHops None from to number old out refused new = Refuses refusal.NoVersion number old out refused new
+NamesHops (Some net) from to number old out refused new =
+    ((missing : ℕ) × IsFirstMissing net.graph from to missing × Refuses (refusal.NoNode missing) number old out refused new)
+    ⊎ ((hops : List LinkNo) × AreHopsBetween net.graph from to hops × Accepts (next_line net hops) old out refused new)
+
+-- the system is a node, and the label does this there
+pub record IsFound (net : Net) (system label : ℕ) (found : Option Entry) : Type 0 where
+  pub node : ℕ
+  pub is_node : IsNodeOf net.graph system node
+  pub lookup : IsLookup net node label found
+
+-- `label`: what a label does at a node of the net of the last commit
+abbrev pub LooksUp : Option Net → ℕ → ℕ → ℕ → State → List ℕ → Bool → State → Type 0
+LooksUp None system label number old out refused new = Refuses refusal.NoVersion number old out refused new
+LooksUp (Some net) system label number old out refused new =
+    (¬ HasNode net.graph system × Refuses (refusal.NoNode system) number old out refused new)
+    ⊎ ((found : Option Entry) × IsFound net system label found × Accepts (label_line net found) old out refused new)
+
+-- a packet that starts at the first node under the second's label crosses these links by the choice number, no link being closed, and comes to the second with an empty stack
+pub record IsForwarded (net : Net) (first second choice : ℕ) (links : List LinkNo) : Type 0 where
+  pub label : ℕ
+  pub is_label : IsLabel net first second label
+  pub moves : List Move
+  pub run : RunBy net [] choice first (label ∷ []) moves second []
+  pub crosses : crossed moves ≡ numbers links
+
+-- `walk` from one node to another: the other has no index, or there is no walk to it, or the packet's links are told
+abbrev pub WalksBetween : Net → ℕ → ℕ → ℕ → ℕ → ℕ → State → List ℕ → Bool → State → Type 0
+WalksBetween net first second to choice number old out refused new =
+    (((labels_at net second).index ≡ None) × Refuses (refusal.NoDestination to) number old out refused new)
+    ⊎ (((is_some (labels_at net second).index ≡ true) × NoWalk net.graph [] first second × Accepts (walk_line net first None) old out refused new)
+    ⊎ ((links : List LinkNo) × IsForwarded net first second choice links × Accepts (walk_line net first (Some links)) old out refused new))
+
+-- `walk` in the net of the last commit, between two of its nodes
+abbrev pub Walks : Option Net → ℕ → ℕ → ℕ → ℕ → State → List ℕ → Bool → State → Type 0
+Walks None from to choice number old out refused new = Refuses refusal.NoVersion number old out refused new
+Walks (Some net) from to choice number old out refused new =
+    ((missing : ℕ) × IsFirstMissing net.graph from to missing × Refuses (refusal.NoNode missing) number old out refused new)
+    ⊎ ((first : ℕ) × (second : ℕ) × IsNodeOf net.graph from first × IsNodeOf net.graph to second × WalksBetween net first second to choice number old out refused new)
+
+-- the first of three systems that isn't a node is this one
+abbrev pub IsFirstMissingOf : Graph → ℕ → ℕ → ℕ → ℕ → Type 0
+IsFirstMissingOf graph from to dest missing =
+    IsFirstMissing graph from to missing ⊎ (HasNode graph from × HasNode graph to × ¬ HasNode graph dest × (missing ≡ dest))
+
+-- the link of the net whose key has this number among the announced ones from one node to another
+pub record IsLinkOf (net : Net) (from to n : ℕ) (link : LinkNo) : Type 0 where
+  pub within : link.0 < link_count net.graph
+  pub named : key_named net.announced from to n ≡ Some (key_at net.graph link.0)
+
+-- no link of the net has this number
+abbrev pub NoLinkOf : Net → ℕ → ℕ → ℕ → Type 0
+NoLinkOf net from to n = (link : LinkNo) → IsLinkOf net from to n link → ⊥
+
+-- a question about the failure of a link, or of what fails with it, and a destination: the first of three systems that isn't a node is named, then the link; else the case and the destination's node are asked of
+abbrev pub AsksOfFailure : (Net → Case → ℕ → Type 0) → Option Net → Kind → ℕ → ℕ → ℕ → ℕ → ℕ → State → List ℕ → Bool → State → Type 0
+AsksOfFailure asks None kind from to n dest number old out refused new = Refuses refusal.NoVersion number old out refused new
+AsksOfFailure asks (Some net) kind from to n dest number old out refused new =
+    ((missing : ℕ) × IsFirstMissingOf net.graph from to dest missing × Refuses (refusal.NoNode missing) number old out refused new)
+    ⊎ ((HasNode net.graph from × HasNode net.graph to × HasNode net.graph dest × NoLinkOf net from to n × Refuses (refusal.NoLink from to n) number old out refused new)
+    ⊎ ((link : LinkNo) × (d : ℕ) × IsLinkOf net from to n link × IsNodeOf net.graph dest d × asks net (record { kind = kind; link = link }) d))
+
+-- the tests tell P and extended P of the source of the case, and Q of the destination
+pub record AreSpaces (graph : Graph) (case : Case) (d : ℕ) (p extended q : List Bool) : Type 0 where
+  pub x : List Bool
+  pub failed : IsFailedSet graph case x
+  pub p_is : IsP graph x (source_of graph case) p
+  pub extended_is : IsExtendedP graph x (source_of graph case) extended
+  pub q_is : IsQ graph x d q
+
+-- `spaces`: P, extended P and Q in the net of the last commit
+abbrev pub TellsSpaces : State → List ℕ → Bool → State → Net → Case → ℕ → Type 0
+TellsSpaces old out refused new net case d =
+    (p : List Bool) × (extended : List Bool) × (q : List Bool) × AreSpaces net.graph case d p extended q × Accepts (spaces_lines net.graph p extended q) old out refused new
+
+-- the destination is affected, and has this answer and these labels on the first link
+pub record IsRepaired (net : Net) (case : Case) (d : ℕ) (answer : Answer) (labels : List ℕ) : Type 0 where
+  pub affected : IsAffected net case d
+  pub answer_is : IsCaseAnswer net case d answer
+  pub labels_are : AreLabelsOf net d answer labels
+
+-- `repair`: the destination has no index, or isn't affected, or its answer and its labels are told
+abbrev pub TellsRepair : ℕ → ℕ → State → List ℕ → Bool → State → Net → Case → ℕ → Type 0
+TellsRepair dest number old out refused new net case d =
+    (((labels_at net d).index ≡ None) × Refuses (refusal.NoDestination dest) number old out refused new)
+    ⊎ (((is_some (labels_at net d).index ≡ true) × (IsAffected net case d → ⊥) × Refuses (refusal.NotAffected dest) number old out refused new)
+    ⊎ ((answer : Answer) × (labels : List ℕ) × IsRepaired net case d answer labels × Accepts (repair_line net case d answer labels) old out refused new))
+
 -- how many nodes the last net has, and 0 before the first
 abbrev pub nodes_of : Option Net → ℕ
 nodes_of None = 0
@@ -114,18 +230,23 @@ links_of (Some net) = link_count net.graph
 
 -- `show`: the current version, the accepted depth, and how many edits are staged
 abbrev pub shown : State → List ℕ
-shown state = show_line state.versions (nodes_of state.current) (links_of state.current) state.editing.accepted.depth state.editing.staged
+shown state = show_line (number_of state.current) (nodes_of (net_of state.current)) (links_of (net_of state.current)) state.editing.accepted.depth state.editing.staged
 
 -- what each command says, and the state after it; the words that aren't built are refused by one name
 abbrev pub CarriesOut : Command → ℕ → State → List ℕ → Bool → State → Type 0
 CarriesOut (LspWord octets) number old out refused new = Announces octets number old out refused new
-CarriesOut (Cost from to n metric) number old out refused new = EditsLink (λ key. SetCost key metric) old.current from to n number old out refused new
-CarriesOut (Down from to n) number old out refused new = EditsLink (λ key. TakeDown (pair_of key)) old.current from to n number old out refused new
-CarriesOut (Up from to n) number old out refused new = EditsLink (λ key. BringUp (pair_of key)) old.current from to n number old out refused new
+CarriesOut (Cost from to n metric) number old out refused new = EditsLink (λ key. SetCost key metric) (net_of old.current) from to n number old out refused new
+CarriesOut (Down from to n) number old out refused new = EditsLink (λ key. TakeDown (pair_of key)) (net_of old.current) from to n number old out refused new
+CarriesOut (Up from to n) number old out refused new = EditsLink (λ key. BringUp (pair_of key)) (net_of old.current) from to n number old out refused new
 CarriesOut (Depth depth) number old out refused new = StagesEdit (SetDepth depth) number old out refused new
 CarriesOut Commit number old out refused new = Commits number old out refused new
 CarriesOut DropStaged number old out refused new = Accepts (dropped_line old.editing.staged) (with_dropped old) out refused new
-CarriesOut (Dist from to) number old out refused new = Measures old.current from to number old out refused new
+CarriesOut (Dist from to) number old out refused new = Measures (net_of old.current) from to number old out refused new
+CarriesOut (Next from to) number old out refused new = NamesHops (net_of old.current) from to number old out refused new
+CarriesOut (Label node label) number old out refused new = LooksUp (net_of old.current) node label number old out refused new
+CarriesOut (Spaces kind from to n dest) number old out refused new = AsksOfFailure (TellsSpaces old out refused new) (net_of old.current) kind from to n dest number old out refused new
+CarriesOut (Repair kind from to n dest) number old out refused new = AsksOfFailure (TellsRepair dest number old out refused new) (net_of old.current) kind from to n dest number old out refused new
+CarriesOut (Walk from dest choice) number old out refused new = Walks (net_of old.current) from dest choice number old out refused new
 CarriesOut Show number old out refused new = Accepts (shown old) old out refused new
 CarriesOut _ number old out refused new = Refuses refusal.NotBuilt number old out refused new
 
@@ -142,10 +263,38 @@ Ends state out new = (out ≡ []) × (new ≡ state)
 
 -- ---- what the session's functions keep and say
 
+-- the version after the last one, of the net of the tentative facts
+pub record IsNext (state : State) (version : Numbered) : Type 0 where
+  pub counted : version.number ≡ number_of state.current + 1
+  pub net : IsNetOf state.editing.tentative version.net
+
 -- what a session keeps: no more versions than there may be, and the last net is that of the accepted facts
 pub record IsKept (state : State) : Type 0 where
-  pub few : state.versions ≤ 65535
-  pub fresh : IfSome state.current (λ net. IsNetOf state.editing.accepted net)
+  pub few : number_of state.current ≤ 65535
+  pub fresh : IfSome state.current (λ version. IsNetOf state.editing.accepted version.net)
+
+-- what was appended is what is said of the spaces, or of the repair
+pub record IsFailureTold (tells : List ℕ → Bool → State → Net → Case → ℕ → Type 0) (net : Net) (case : Case) (d : ℕ) (state : State) (before after : List ℕ) (refused : Bool) : Type 0 where
+  pub said : List ℕ
+  pub appended : after ≡ before ++ said
+  pub tells_so : tells said refused state net case d
+
+-- the refusal names what is missing of a failure and a destination: a version, a node, or the link
+abbrev pub IsMissingFailure : Option Net → ℕ → ℕ → ℕ → ℕ → Refusal → Type 0
+IsMissingFailure None from to n dest reason = reason ≡ refusal.NoVersion
+IsMissingFailure (Some net) from to n dest reason =
+    ((missing : ℕ) × IsFirstMissingOf net.graph from to dest missing × (reason ≡ refusal.NoNode missing))
+    ⊎ (HasNode net.graph from × HasNode net.graph to × HasNode net.graph dest × NoLinkOf net from to n × (reason ≡ refusal.NoLink from to n))
+
+-- the link of the net that fails, and the destination's node
+abbrev pub IsFailureOf : Net → Kind → ℕ → ℕ → ℕ → ℕ → Case → ℕ → Type 0
+IsFailureOf net kind from to n dest case d = (case.kind ≡ kind) × IsLinkOf net from to n case.link × IsNodeOf net.graph dest d
+
+-- what was appended is what is said of the walk between these nodes
+pub record IsWalkTold (net : Net) (first second to choice number : ℕ) (state : State) (before after : List ℕ) (refused : Bool) : Type 0 where
+  pub said : List ℕ
+  pub appended : after ≡ before ++ said
+  pub tells : WalksBetween net first second to choice number state said refused state
 
 -- what was appended is what is said to the line
 pub record IsCarriedOut (command : Command) (number : ℕ) (old : State) (before after : List ℕ) (refused : Bool) (new : State) : Type 0 where

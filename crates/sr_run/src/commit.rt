@@ -1,42 +1,89 @@
 //! `commit`: the tentative facts become the accepted ones, and their net the next version.
-ghost use Rattle.std.specs.Prelude.{◌≡◌, ◌+◌, ◌<◌, ◌++◌, IfNone, IfOk, IfSome, MatchResult, OnOk};
+ghost use Rattle.std.specs.Prelude.{◌≡◌, ◌+◌, ◌<◌, ◌≤◌, ◌++◌, Some, IfErr, IfNone, IfOk, IfSome, MatchResult, OnOk};
 ghost use Rattle.sr_model.specs.Graph.{node_count, link_count};
+ghost use Rattle.sr_lsdb.specs.Editing.{with_accepted};
 ghost use Rattle.sr_domain.specs.Net.{IsNetOf};
 ghost use Rattle.sr_domain.specs.Rules.{IsFirstBroken};
 ghost use Rattle.sr_script.specs.declared.command.Command.TheVariants.{Commit};
 ghost use Rattle.sr_print.specs.Printed.{version_line};
-ghost use Rattle.sr_run.specs.State.{with_version};
-ghost use Rattle.sr_run.specs.Session.{IsCarriedOut};
+ghost use Rattle.sr_repair.specs.Version.{version_of};
+ghost use Rattle.sr_run.specs.State.{number_of};
+ghost use Rattle.sr_run.specs.Session.{IsCarriedOut, IsNext};
 
 use crate::refusals::refusal_of_rule;
 use crate::session::DomainSession;
-use crate::version::Version;
 use sr_domain::{DomainFault, DomainRule, net_of};
+use sr_labels::Net;
 use sr_print::{Refusal, put_version};
-use std::alloc::AllocError;
+use sr_repair::Version;
+use sr_spf::Steps;
+use std::alloc::{AllocError, Global};
+use std::marker::Brand;
+use std::sync::ledger::{Blank, Ledger};
 
 /// The most commits that a session accepts.
 const MOST_VERSIONS: u32 = 65_535;
 
+/// The number of the last version, and 0 before the first.
+pub(crate) fn last_number(current: &Option<Version>) -> u32
+    ensures { result ≡ number_of current.now }
+{
+    match current {
+        Some(version) => version.number(),
+        None => 0,
+    }
+}
+
+/// The version of this net after the last one. The searches are counted by a counter of its own.
+fn version_counted<L: Ledger>(
+    alloc: Global,
+    current: &Option<Version>,
+    net: Net,
+    blank: Blank,
+) -> Result<Version, AllocError>
+    requires room { number_of current.now < 65535 }
+    requires name { blank.name ≡ L.name }
+    requires parts { (blank.parts ≡ L.parts) × (0 < L.parts) }
+    ensures { IfOk result (λ version. version ≡ version_of (number_of current.now + 1) net) }
+{
+    let mut steps = Steps::<L>::new(blank);
+    match current {
+        Some(version) => version.next(alloc, net, &mut steps),
+        None => Version::opening(alloc, net, &mut steps),
+    }
+}
+
+/// The version of this net after the last one.
+fn version_after(alloc: Global, current: &Option<Version>, net: Net) -> Result<Version, AllocError>
+    requires { number_of current.now < 65535 }
+    ensures { IfOk result (λ version. version ≡ version_of (number_of current.now + 1) net) }
+{
+    version_counted::<Brand>(alloc, current, net, Blank::new(1))
+}
+
 impl DomainSession {
-    /// The last version, where nothing was staged after it: it is that of the tentative facts too.
+    /// The last version with the next number, where nothing was staged after it: its net is that of the tentative facts
+    /// too.
     fn take_current(&mut self) -> Option<Version>
-        ensures some { IfSome result (IsNetOf self.old.editing.tentative) }
+        requires { number_of self.old.current < 65535 }
+        ensures some { IfSome result (IsNext self.old) }
         ensures editing { self.new.editing ≡ self.old.editing }
-        ensures versions { self.new.versions ≡ self.old.versions }
         ensures none { IfNone result (self.new ≡ self.old) }
     {
-        if self.editor.staged() == 0 {
-            self.current.take()
-        } else {
-            None
+        if self.editor.staged() != 0 {
+            return None;
+        }
+        match self.current.take() {
+            Some(version) => Some(version.renumbered()),
+            None => None,
         }
     }
 
     /// Makes the version of the tentative facts, or answers the first rule that they break.
     fn next_version(&self) -> Result<Result<Version, DomainRule>, AllocError>
+        requires { number_of self.now.current < 65535 }
         ensures { IfOk result (λ made. MatchResult made
-            (IsNetOf self.now.editing.tentative)
+            (IsNext self.now)
             (IsFirstBroken self.now.editing.tentative)) }
     {
         let net = match net_of(self.alloc, self.editor.tentative()) {
@@ -44,28 +91,44 @@ impl DomainSession {
             Err(DomainFault::Rule(rule)) => return Ok(Err(rule)),
             Err(DomainFault::Memory(wanting)) => return Err(wanting),
         };
-        match Version::build(self.alloc, net) {
+        match version_after(self.alloc, &self.current, net) {
             Ok(version) => Ok(Ok(version)),
             Err(wanting) => Err(wanting),
         }
     }
 
+    /// The version of the tentative facts, or the first rule that they break.
+    fn make_version(&mut self) -> Result<Result<Version, DomainRule>, AllocError>
+        requires { number_of self.old.current < 65535 }
+        ensures made { IfOk result (λ made. MatchResult made
+            (IsNext self.old)
+            (IsFirstBroken self.old.editing.tentative)) }
+        ensures editing { self.new.editing ≡ self.old.editing }
+        ensures broken { IfOk result (λ made. IfErr made (λ _. self.new ≡ self.old)) }
+    {
+        match self.take_current() {
+            Some(version) => Ok(Ok(version)),
+            None => self.next_version(),
+        }
+    }
+
     /// Accepts the tentative facts with their version, and says its number, nodes and links.
     fn publish(&mut self, version: Version, out: &mut Vec<u8>) -> Result<(), AllocError>
-        requires room { self.old.versions < 65535 }
-        requires net { IsNetOf self.old.editing.tentative version }
+        requires room { version.number ≤ 65535 }
+        requires net { IsNetOf self.old.editing.tentative version.net }
         ensures said { OnOk result (out.new.items ≡ out.old.items ++
-            version_line (self.old.versions + 1) (node_count version.graph) (link_count version.graph)) }
-        ensures state { OnOk result (self.new ≡ with_version self.old version) }
+            version_line version.number (node_count version.net.graph) (link_count version.net.graph)) }
+        ensures editing { OnOk result (self.new.editing ≡ with_accepted self.old.editing) }
+        ensures version { OnOk result (self.new.current ≡ Some version) }
     {
+        let graph = version.net().graph();
         put_version(
-            self.versions + 1,
-            version.node_count(),
-            version.link_count(),
+            version.number(),
+            graph.node_count(),
+            graph.link_count(),
             out,
         )?;
         self.editor.accept();
-        self.versions += 1;
         self.current = Some(version);
         Ok(())
     }
@@ -75,20 +138,18 @@ impl DomainSession {
         ensures { IfOk result (λ refused.
             IsCarriedOut Commit number self.old out.old.items out.new.items refused self.new) }
     {
-        if self.versions >= MOST_VERSIONS {
+        if last_number(&self.current) >= MOST_VERSIONS {
             return DomainSession::refuse(number, &Refusal::VersionsFull, out);
         }
-        let version = match self.take_current() {
-            Some(version) => version,
-            None => match self.next_version()? {
-                Ok(version) => version,
-                Err(rule) => {
-                    let _dropped = self.editor.drop_staged();
-                    return DomainSession::refuse(number, &refusal_of_rule(&rule), out);
-                }
-            },
-        };
-        self.publish(version, out)?;
-        Ok(false)
+        match self.make_version()? {
+            Ok(version) => {
+                self.publish(version, out)?;
+                Ok(false)
+            }
+            Err(rule) => {
+                let _dropped = self.editor.drop_staged();
+                DomainSession::refuse(number, &refusal_of_rule(&rule), out)
+            }
+        }
     }
 }

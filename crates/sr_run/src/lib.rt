@@ -3,6 +3,8 @@
 
 mod commit;
 mod edits;
+mod failures;
+mod forwarding;
 mod names;
 mod program;
 mod questions;

@@ -1,13 +1,16 @@
 //! Questions about the last version: `dist` and `show`.
 ghost use Rattle.std.specs.Prelude.{◌≡◌, IfOk};
 ghost use Rattle.sr_script.specs.declared.command.Command.TheVariants.{Dist, Show};
+ghost use Rattle.sr_run.specs.State.{net_of};
 ghost use Rattle.sr_run.specs.Session.{IsCarriedOut, nodes_of, links_of};
 
+use crate::commit::last_number;
 use crate::names::find_ends;
 use crate::session::DomainSession;
-use crate::version::Version;
+use crate::version::distance;
 use sr_model::SystemId;
 use sr_print::{Refusal, put_dist, put_show};
+use sr_repair::Version;
 use std::alloc::AllocError;
 
 /// How many nodes and links a net has.
@@ -19,13 +22,13 @@ struct Counts {
 
 /// The counts of the last net, and 0 before the first.
 fn counts_of(current: &Option<Version>) -> Counts
-    ensures nodes { result.nodes ≡ nodes_of current.now }
-    ensures links { result.links ≡ links_of current.now }
+    ensures nodes { result.nodes ≡ nodes_of (net_of current.now) }
+    ensures links { result.links ≡ links_of (net_of current.now) }
 {
     match current {
         Some(version) => Counts {
-            nodes: version.node_count(),
-            links: version.link_count(),
+            nodes: version.net().graph().node_count(),
+            links: version.net().graph().link_count(),
         },
         None => Counts { nodes: 0, links: 0 },
     }
@@ -49,7 +52,7 @@ impl DomainSession {
         };
         match find_ends(version, from, to) {
             Ok(ends) => {
-                put_dist(version.distance(ends.from, ends.to), out)?;
+                put_dist(distance(version, ends.from, ends.to), out)?;
                 Ok(false)
             }
             Err(reason) => DomainSession::refuse(number, &reason, out),
@@ -64,7 +67,7 @@ impl DomainSession {
         let counts = counts_of(&self.current);
         let depth = self.editor.accepted().depth;
         put_show(
-            self.versions,
+            last_number(&self.current),
             counts.nodes,
             counts.links,
             depth,

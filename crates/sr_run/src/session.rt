@@ -3,20 +3,19 @@ ghost use Rattle.std.specs.Prelude.{◌≡◌, ◌++◌, true, IfOk};
 ghost use Rattle.sr_print.specs.Refused.{refused_line};
 
 use crate::refusals::refusal_of_fault;
-use crate::version::Version;
 use sr_engine::Session;
 use sr_lsdb::Editor;
 use sr_print::{Refusal, put_dropped, put_refused};
+use sr_repair::Version;
 use sr_script::{Command, Line, LineFault, read_line};
 use std::alloc::{AllocError, Global};
 use std::marker::Model;
 
-/// The facts that a script edits, how many commits were accepted, and the net of the last one.
+/// The facts that a script edits, and the version of the last accepted commit.
 #[derive(Drop)]
 pub struct DomainSession {
     pub(crate) alloc: Global,
     pub(crate) editor: Editor,
-    pub(crate) versions: u32,
     pub(crate) current: Option<Version>,
 }
 
@@ -27,10 +26,10 @@ impl Model for DomainSession {
     ghost Value = { State };
 
     ghost view = { λ s.
-        record { editing = s.editor; versions = s.versions; current = s.current } };
+        record { editing = s.editor; current = s.current } };
 
     ghost invariant = { λ s.
-        IsKept (record { editing = s.editor; versions = s.versions; current = s.current }) };
+        IsKept (record { editing = s.editor; current = s.current }) };
 }
 
 impl DomainSession {
@@ -45,7 +44,6 @@ impl DomainSession {
         DomainSession {
             alloc,
             editor: Editor::new(alloc),
-            versions: 0,
             current: None,
         }
     }
@@ -109,6 +107,23 @@ impl DomainSession {
             Command::Commit => self.commit(number, out),
             Command::DropStaged => self.drop_staged(number, out),
             Command::Dist { from, to } => self.measure(number, from, to, out),
+            Command::Next { from, to } => self.name_hops(number, from, to, out),
+            Command::Label { node, label } => self.look_up(number, node, label, out),
+            Command::Spaces {
+                kind,
+                from,
+                to,
+                n,
+                dest,
+            } => self.name_spaces(number, kind, from, to, n, dest, out),
+            Command::Repair {
+                kind,
+                from,
+                to,
+                n,
+                dest,
+            } => self.name_repair(number, kind, from, to, n, dest, out),
+            Command::Walk { from, dest, choice } => self.forward(number, from, dest, choice, out),
             Command::Show => self.show(number, out),
             _ => DomainSession::refuse(number, &Refusal::NotBuilt, out),
         }

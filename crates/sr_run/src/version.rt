@@ -1,78 +1,113 @@
-//! A version: the net of a commit, with its distances.
-ghost use Rattle.std.specs.Prelude.{[], ◌≡◌, ◌<◌, MatchOption, IfOk};
-ghost use Rattle.sr_model.specs.Graph.{node_count, link_count};
-ghost use Rattle.sr_model.specs.Walk.{Distance};
-ghost use Rattle.sr_run.specs.Session.{HasNode, IsNodeOf};
+//! What a line asks of a version.
+ghost use Rattle.std.specs.Prelude.{[], ◌≡◌, ◌<◌, ◌^◌, true, is_some, IfOk, IfSome, MatchOption};
+ghost use Rattle.sr_model.specs.Graph.{node_count};
+ghost use Rattle.sr_model.specs.Label.{labels_at, IsLabel};
+ghost use Rattle.sr_model.specs.Walk.{Distance, NoWalk, cost};
+ghost use Rattle.sr_model.specs.Table.{IsLookup};
+ghost use Rattle.sr_spf.specs.Hops.{AreNextHops};
+ghost use Rattle.sr_fib.specs.Entries.{found_of, numbers};
+ghost use Rattle.sr_forward.specs.declared.trace.Walk.{Walk as Walked};
+ghost use Rattle.sr_print.specs.Links.{AreLinks};
+ghost use Rattle.sr_print.specs.Forwarding.{IsEntryWithin};
+ghost use Rattle.sr_run.specs.Session.{HasNode, IsNodeOf, IsForwarded};
 
-use sr_labels::Net;
-use sr_model::{NodeNo, SystemId};
-use sr_spf::Trees;
+use sr_fib::Entry;
+use sr_forward::{Walk, walk};
+use sr_model::{LinkNo, NodeNo, SystemId};
+use sr_repair::Version;
 use std::alloc::{AllocError, Global};
-use std::marker::Model;
 
-/// The net of a commit, with the distances between its nodes. Contracts see it as the net.
-#[derive(Drop)]
-pub struct Version {
-    net: Net,
-    trees: Trees,
+/// The node of this system id. None exactly where the net has none.
+pub fn node_of(version: &Version, system: SystemId) -> Option<NodeNo>
+    ensures { MatchOption result
+        (HasNode version.now.net.graph system → ⊥)
+        (λ node. IsNodeOf version.now.net.graph system node.0) }
+{
+    version.net().graph().node(system)
 }
 
-impl Model for Version {
-    ghost use Rattle.sr_model.specs.Label.{Net as Labelled};
-    ghost use Rattle.sr_spf.specs.Trees.{AreTrees};
-
-    ghost Value = { Labelled };
-
-    ghost view = { λ v. v.net };
-
-    ghost invariant = { λ v. AreTrees v.net.graph v.trees };
+/// The distance from one node to another. None exactly where there is no walk.
+pub fn distance(version: &Version, from: NodeNo, to: NodeNo) -> Option<u64>
+    requires from { from.0 < node_count version.now.net.graph }
+    requires to { to.0 < node_count version.now.net.graph }
+    ensures { Distance version.now.net.graph [] from.0 to.0 result }
+{
+    version.trees().dist(from, to)
 }
 
-impl Version {
-    /// The version of this net.
-    pub fn build(alloc: Global, net: Net) -> Result<Version, AllocError>
-        ensures { IfOk result (λ version. version ≡ net) }
-    {
-        let trees = Trees::build(alloc, net.graph())?;
-        Ok(Version { net, trees })
-    }
+/// The next hops from one node to another, ascending.
+pub fn next_hops(version: &Version, from: NodeNo, to: NodeNo) -> &[LinkNo]
+    requires from { from.0 < node_count version.now.net.graph }
+    requires to { to.0 < node_count version.now.net.graph }
+    ensures hops { AreNextHops version.now.net.graph from.0 to.0 result.now }
+    ensures links { AreLinks version.now.net.graph result.now }
+{
+    version.trees().next_hops(from, to)
+}
 
-    /// The net.
-    pub fn net(&self) -> &Net
-        ensures { result.now ≡ self.now }
-    {
-        &self.net
-    }
+/// What the label does at the node.
+pub fn look(version: &Version, node: NodeNo, label: u32) -> Option<Entry<'_>>
+    requires { node.0 < node_count version.now.net.graph }
+    ensures lookup { IsLookup version.now.net node.0 label (found_of result) }
+    ensures within { IfSome (found_of result) (IsEntryWithin version.now.net.graph) }
+{
+    let _net = version.net();
+    version.fib().look(node, label)
+}
 
-    /// How many nodes the net has.
-    pub fn node_count(&self) -> u32
-        ensures { result ≡ node_count self.now.graph }
-    {
-        self.net.graph().node_count()
+/// The label of a node at another. It is there, since each index lies in the ranges of each node.
+fn label_at(version: &Version, at: NodeNo, node: NodeNo) -> u32
+    requires at { at.0 < node_count version.now.net.graph }
+    requires node { node.0 < node_count version.now.net.graph }
+    requires index { is_some (labels_at version.now.net node.0).index ≡ true }
+    ensures { IsLabel version.now.net at.0 node.0 result }
+{
+    let net = version.net();
+    match net.labels(node).index() {
+        None => unreachable!(),
+        Some(index) => match net.labels(at).srgb().label(index) {
+            None => unreachable!(),
+            Some(label) => label,
+        },
     }
+}
 
-    /// How many directed links the net has.
-    pub fn link_count(&self) -> u32
-        ensures { result ≡ link_count self.now.graph }
-    {
-        self.net.graph().link_count()
-    }
-
-    /// The node of this system id. None exactly where the net has none.
-    pub fn node(&self, system: SystemId) -> Option<NodeNo>
-        ensures { MatchOption result
-            (HasNode self.now.graph system → ⊥)
-            (λ node. IsNodeOf self.now.graph system node.0) }
-    {
-        self.net.graph().node(system)
-    }
-
-    /// The distance from one node to another. None exactly where there is no walk.
-    pub fn distance(&self, from: NodeNo, to: NodeNo) -> Option<u64>
-        requires from { from.0 < node_count self.now.graph }
-        requires to { to.0 < node_count self.now.graph }
-        ensures { Distance self.now.graph [] from.0 to.0 result }
-    {
-        self.trees.dist(from, to)
+/// The walk of a packet from one node under the label of another, no link being closed. None exactly where there is no
+/// walk.
+pub fn forwarded(
+    alloc: Global,
+    version: &Version,
+    from: NodeNo,
+    to: NodeNo,
+    choice: u32,
+) -> Result<Option<Walk>, AllocError>
+    requires from { from.0 < node_count version.now.net.graph }
+    requires to { to.0 < node_count version.now.net.graph }
+    requires index { is_some (labels_at version.now.net to.0).index ≡ true }
+    ensures forwarded { IfOk result (λ found. MatchOption found
+        (NoWalk version.now.net.graph [] from.0 to.0)
+        (λ walk. IsForwarded version.now.net from.0 to.0 choice walk.links.items)) }
+    ensures links { IfOk result (λ found. IfSome found (λ (walk : Walked).
+        AreLinks version.now.net.graph walk.links.items)) }
+    ensures fits { IfOk result (λ found. IfSome found (λ (walk : Walked).
+        cost version.now.net.graph (numbers walk.links.items) < 2 ^ 64)) }
+{
+    match distance(version, from, to) {
+        None => Ok(None),
+        Some(_cost) => {
+            let label = label_at(version, from, to);
+            let nothing = version.net().graph().nothing(alloc)?;
+            let stack = vec![in alloc; label]?;
+            let walk = walk(
+                alloc,
+                version.net(),
+                version.fib(),
+                &nothing,
+                from,
+                stack,
+                choice,
+            )?;
+            Ok(Some(walk))
+        }
     }
 }

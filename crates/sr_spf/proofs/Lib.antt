@@ -1,4 +1,5 @@
 pub mod RelaxLemmas
 pub mod QueueLemmas
 pub mod TreesLemmas
+pub mod HopsLemmas
 pub mod FixtureLemmas

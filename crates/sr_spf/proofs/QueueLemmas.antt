@@ -36,7 +36,7 @@ queued-skip g x s cells entries u i q inside =
     let ne : l ≢ i = λ f. (let o : has x i ≡ false = subst (λ k. has x k ≡ false) f outside in absurd (cc)) in omega arith)
 
 -- a link that lowers nothing
-pub queued-stays : (g : Graph) (x : List Bool) (s : ℕ) (cells : List ℕ) (entries : Entries) (u i : ℕ) → IsQueued g x s cells entries u i → falls (link_at g i) cells ≡ false → IsQueued g x s (relaxed (link_at g i) cells) entries u (i + 1)
+pub queued-stays : (g : Graph) (x : List Bool) (s : ℕ) (cells : List ℕ) (entries : Entries) (u i : ℕ) → IsQueued g x s cells entries u i → falls (tail g i) (head g i) (metric g i) cells ≡ false → IsQueued g x s (relaxed (tail g i) (head g i) (metric g i) cells) entries u (i + 1)
 queued-stays g x s cells entries u i q stays =
     rw (relaxed-stays g cells i stays).0 (record {
       kept = q.kept;
@@ -83,14 +83,14 @@ module _ (g : Graph) (x : List Bool) (s : ℕ) (cells a : List ℕ) (entries ent
         (cases_eq v (head g i));
   }
 
-pub queued-push : (g : Graph) (x : List Bool) (s : ℕ) (cells : List ℕ) (entries entries' : Entries) (u i : ℕ) → IsQueued g x s cells entries u i → i < link_count g → has x i ≡ false → carries g s (tail g i) ≡ true → falls (link_at g i) cells ≡ true → IsPermutation (entry (get_or (relaxed (link_at g i) cells) (head g i) 0) (head g i) ∷ entries) entries' → IsQueued g x s (relaxed (link_at g i) cells) entries' u (i + 1)
+pub queued-push : (g : Graph) (x : List Bool) (s : ℕ) (cells : List ℕ) (entries entries' : Entries) (u i : ℕ) → IsQueued g x s cells entries u i → i < link_count g → has x i ≡ false → carries g s (tail g i) ≡ true → falls (tail g i) (head g i) (metric g i) cells ≡ true → IsPermutation (entry (get_or (relaxed (tail g i) (head g i) (metric g i) cells) (head g i) 0) (head g i) ∷ entries) entries' → IsQueued g x s (relaxed (tail g i) (head g i) (metric g i) cells) entries' u (i + 1)
 queued-push g x s cells entries entries' u i q within outside carry fell perm =
-    let t : IsTentative g x s (relaxed (link_at g i) cells) = relaxed-IsTentative g x s cells i q.kept within outside carry in
-    let e : relaxed (link_at g i) cells ≡ set cells (head g i) (get_or cells (tail g i) 0 + metric g i) = rw fell refl in
+    let t : IsTentative g x s (relaxed (tail g i) (head g i) (metric g i) cells) = relaxed-IsTentative g x s cells i q.kept within outside carry in
+    let e : relaxed (tail g i) (head g i) (metric g i) cells ≡ set cells (head g i) (get_or cells (tail g i) 0 + metric g i) = rw fell refl in
     let k : IsLink g (link_at g i) = q.kept.graph.each i within in
     let at_head : head g i < length cells = omega (arith, q.kept.long) in
-    let c_at : get_or (relaxed (link_at g i) cells) (head g i) 0 ≡ get_or cells (tail g i) 0 + metric g i = rw e (get_or-set_same cells (head g i) _ 0 at_head) in
-    queued-lower g x s cells (relaxed (link_at g i) cells) entries entries' u i (get_or cells (tail g i) 0 + metric g i) q t within refl (ltb-true _ _ fell) c_at
+    let c_at : get_or (relaxed (tail g i) (head g i) (metric g i) cells) (head g i) 0 ≡ get_or cells (tail g i) 0 + metric g i = rw e (get_or-set_same cells (head g i) _ 0 at_head) in
+    queued-lower g x s cells (relaxed (tail g i) (head g i) (metric g i) cells) entries entries' u i (get_or cells (tail g i) 0 + metric g i) q t within refl (ltb-true _ _ fell) c_at
     (λ v ne. rw e (get_or-set_other cells (head g i) v _ 0 ne)) perm
 
 contains_one : {X : Type 0} (y x : X) → Contains (y ∷ []) x → y ≡ x

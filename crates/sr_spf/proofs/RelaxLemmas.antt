@@ -71,18 +71,18 @@ module _ (g : Graph) (x : List Bool) (s : ℕ) (cells : List ℕ) (t : IsTentati
       omega (arith, sum_by-set (λ y. y) cells (head g l) c 0 at_head)
 
 -- a relaxation by a link outside x keeps what the search keeps
-pub relaxed-IsTentative : (g : Graph) (x : List Bool) (s : ℕ) (cells : List ℕ) (l : ℕ) → IsTentative g x s cells → l < link_count g → has x l ≡ false → carries g s (tail g l) ≡ true → IsTentative g x s (relaxed (link_at g l) cells)
+pub relaxed-IsTentative : (g : Graph) (x : List Bool) (s : ℕ) (cells : List ℕ) (l : ℕ) → IsTentative g x s cells → l < link_count g → has x l ≡ false → carries g s (tail g l) ≡ true → IsTentative g x s (relaxed (tail g l) (head g l) (metric g l) cells)
 relaxed-IsTentative g x s cells l t within outside carry =
-    cond_both (falls (link_at g l) cells) (set cells (head g l) (get_or cells (tail g l) 0 + metric g l)) cells (IsTentative g x s)
+    cond_both (falls (tail g l) (head g l) (metric g l) cells) (set cells (head g l) (get_or cells (tail g l) 0 + metric g l)) cells (IsTentative g x s)
     (λ yes. tentative-set g x s cells t l within outside carry (get_or cells (tail g l) 0 + metric g l) refl (ltb-true _ _ yes))
     (λ no. t)
 
 -- it lowers the sum where it says so, and else nothing changes and the link is stable
-pub relaxed-falls : (g : Graph) (x : List Bool) (s : ℕ) (cells : List ℕ) (l : ℕ) → IsTentative g x s cells → l < link_count g → has x l ≡ false → carries g s (tail g l) ≡ true → falls (link_at g l) cells ≡ true → sum (relaxed (link_at g l) cells) < sum cells
+pub relaxed-falls : (g : Graph) (x : List Bool) (s : ℕ) (cells : List ℕ) (l : ℕ) → IsTentative g x s cells → l < link_count g → has x l ≡ false → carries g s (tail g l) ≡ true → falls (tail g l) (head g l) (metric g l) cells ≡ true → sum (relaxed (tail g l) (head g l) (metric g l) cells) < sum cells
 relaxed-falls g x s cells l t within outside carry fell =
     rw fell (sum-lower g x s cells t l within outside carry (get_or cells (tail g l) 0 + metric g l) refl (ltb-true _ _ fell))
 
-pub relaxed-stays : (g : Graph) (cells : List ℕ) (l : ℕ) → falls (link_at g l) cells ≡ false → (relaxed (link_at g l) cells ≡ cells) × (get_or cells (head g l) 0 ≤ get_or cells (tail g l) 0 + metric g l)
+pub relaxed-stays : (g : Graph) (cells : List ℕ) (l : ℕ) → falls (tail g l) (head g l) (metric g l) cells ≡ false → (relaxed (tail g l) (head g l) (metric g l) cells ≡ cells) × (get_or cells (head g l) 0 ≤ get_or cells (tail g l) 0 + metric g l)
 relaxed-stays g cells l stays = (rw stays refl, ltb-false _ _ stays)
 
 -- with no link left to relax, the row is the row of distances

@@ -1,3 +1,4 @@
 pub mod Relax
 pub mod Queue
+pub mod Hops
 pub mod Trees

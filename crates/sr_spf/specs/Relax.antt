@@ -1,17 +1,16 @@
 -- What the search for distances keeps.
 use Rattle.std.specs.Prelude.{◌≡◌, ℕ, ◌+◌, ◌*◌, ◌<◌, ◌≤◌, nat_lt, Bool, List, length, count_by, slice_index, slice_set, if◌then◌else◌}
-use Rattle.sr_model.specs.declared.link.Link.{Link}
 use Rattle.sr_model.specs.Graph.{Graph, node_count, IsGraph}
 use Rattle.sr_model.specs.declared.link.TheConstants.{FAR}
 use Rattle.sr_model.specs.Walk.{IsWalk, cost}
 
--- the way over the link is shorter than the cell of its end
-abbrev pub falls : Link → List ℕ → Bool
-falls k cells = nat_lt (slice_index cells k.from.0 + k.metric) (slice_index cells k.to.0)
+-- the way over a link of metric m from node u to node v is shorter than the cell of v
+abbrev pub falls : ℕ → ℕ → ℕ → List ℕ → Bool
+falls u v m cells = nat_lt (slice_index cells u + m) (slice_index cells v)
 
--- the cells after the link was tried
-abbrev pub relaxed : Link → List ℕ → List ℕ
-relaxed k cells = if falls k cells then slice_set cells k.to.0 (slice_index cells k.from.0 + k.metric) else cells
+-- the cells after such a link was tried
+abbrev pub relaxed : ℕ → ℕ → ℕ → List ℕ → List ℕ
+relaxed u v m cells = if falls u v m cells then slice_set cells v (slice_index cells u + m) else cells
 
 -- how many nodes have a walk so far
 abbrev pub near_count : List ℕ → ℕ

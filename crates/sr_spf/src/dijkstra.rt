@@ -7,28 +7,31 @@ ghost use Rattle.sr_spf.specs.Relax.{relaxed, falls};
 ghost use Rattle.sr_spf.specs.Queue.{IsQueued};
 
 use crate::cells::Row;
-use sr_graph::{Graph, LinkRange, LinkSet};
-use sr_model::{FAR, Link, LinkNo, NodeNo};
+use crate::steps::Steps;
+use sr_graph::{Edge, Graph, LinkRange, LinkSet};
+use sr_model::{FAR, LinkNo, NodeNo};
 use std::alloc::{AllocError, Global};
 use std::cmp::Reverse;
 use std::collections::BinaryHeap;
+use std::sync::ledger::Ledger;
 
-/// A node whose distance fell, with that distance. The least distance comes first.
-type Entry = Reverse<(u64, u16)>;
+/// A node whose distance fell, with that distance. The least distance comes first. A distance fits 32 bits: it has at most
+/// 255 links of at most 16777214 each.
+type Entry = Reverse<(u32, u16)>;
 
 /// The nodes that wait to be visited.
 pub(crate) type Queue = BinaryHeap<Entry>;
 
-/// Lowers the cell of the link's end where the way over this link is shorter.
-fn relax(link: &Link, cells: &mut [u64]) -> bool
-    requires from { link.now.from.0 < length cells.old }
-    requires to { link.now.to.0 < length cells.old }
-    requires fits { slice_index cells.old link.now.from.0 + link.now.metric < 2 ^ 64 }
-    ensures cells { cells.new ≡ relaxed link.now cells.old }
-    ensures fell { result ≡ falls link.now cells.old }
+/// Lowers the cell of the link's end where the way over this link, which begins at the node, is shorter.
+fn relax(node: NodeNo, edge: Edge, cells: &mut [u64]) -> bool
+    requires from { node.0 < length cells.old }
+    requires to { edge.to.0 < length cells.old }
+    requires fits { slice_index cells.old node.0 + edge.metric < 2 ^ 64 }
+    ensures cells { cells.new ≡ relaxed node.0 edge.to.0 edge.metric cells.old }
+    ensures fell { result ≡ falls node.0 edge.to.0 edge.metric cells.old }
 {
-    let over = cells[link.from.0 as usize] + link.metric as u64;
-    let to = link.to.0 as usize;
+    let over = cells[node.0 as usize] + edge.metric as u64;
+    let to = edge.to.0 as usize;
     if over < cells[to] {
         cells[to] = over;
         true
@@ -56,9 +59,9 @@ fn visit(
     }
     let LinkRange { first, end } = graph.links_from(node);
     for i in first..end {
-        let link = graph.link(LinkNo(i));
-        if !without.has(LinkNo(i)) && relax(&link, cells) {
-            queue.push(Reverse((cells[link.to.0 as usize], link.to.0)))?;
+        let edge = graph.edge(LinkNo(i));
+        if !without.has(LinkNo(i)) && relax(node, edge, cells) {
+            queue.push(Reverse((cells[edge.to.0 as usize] as u32, edge.to.0)))?;
         }
     }
     Ok(())
@@ -77,7 +80,7 @@ fn settle(
     ensures empty { OnOk result (heap_items queue.new ≡ []) }
 {
     'pops: while let Some(Reverse((cell, node))) = queue.pop() {
-        if cell == cells[node as usize] {
+        if cell as u64 == cells[node as usize] {
             visit(graph, without, source, NodeNo(node), cells, queue)?;
         }
     }
@@ -85,18 +88,21 @@ fn settle(
 }
 
 /// The same as `row`, with a queue that is empty before and after.
-pub(crate) fn row_by(
+pub(crate) fn row_by<L: Ledger>(
     alloc: Global,
     graph: &Graph,
     without: &LinkSet,
     source: NodeNo,
     queue: &mut Queue,
+    steps: &mut Steps<L>,
 ) -> Result<Row, AllocError>
     requires source { source.0 < node_count graph.now }
     requires empty { heap_items queue.old ≡ [] }
     ensures row { IfOk result (λ r. IsRow graph.now without.now source.0 r) }
     ensures empty { OnOk result (heap_items queue.new ≡ []) }
+    ensures steps { steps.new ≡ steps.old + 1 }
 {
+    steps.tick();
     let mut cells = vec![in alloc; FAR; graph.node_count() as usize]?;
     cells[source.0 as usize] = 0;
     queue.push(Reverse((0, source.0)))?;
@@ -104,17 +110,19 @@ pub(crate) fn row_by(
     Ok(Row::new(cells))
 }
 
-/// The distances from the source in the graph without these links.
-pub fn row(
+/// The distances from the source in the graph without these links. One search is counted.
+pub fn row<L: Ledger>(
     alloc: Global,
     graph: &Graph,
     without: &LinkSet,
     source: NodeNo,
+    steps: &mut Steps<L>,
 ) -> Result<Row, AllocError>
     requires source { source.0 < node_count graph.now }
     ensures row { IfOk result (λ r. IsRow graph.now without.now source.0 r) }
+    ensures steps { steps.new ≡ steps.old + 1 }
 {
     let mut queue = BinaryHeap::new(alloc);
-    let row = row_by(alloc, graph, without, source, &mut queue)?;
+    let row = row_by(alloc, graph, without, source, &mut queue, steps)?;
     Ok(row)
 }

@@ -1,12 +1,16 @@
-//! Distances: from one node in a graph without some of its links, and from each node in the whole graph.
+//! Distances: from one node in a graph without some of its links, and from each node in the whole graph, with the next
+//! hops.
 #![tactic(auto)]
 
 mod cells;
 mod dijkstra;
+mod hops;
+mod steps;
 #[cfg(test)]
 mod tests;
 mod trees;
 
 pub use cells::Row;
 pub use dijkstra::row;
+pub use steps::Steps;
 pub use trees::Trees;

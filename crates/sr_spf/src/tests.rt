@@ -1,12 +1,16 @@
 //! Small graphs, built and measured.
-ghost use Rattle.std.specs.Prelude.{◌≡◌, ◌<◌, [], IfOk};
+ghost use Rattle.std.specs.Prelude.{◌≡◌, ◌<◌, [], length, IfOk};
 ghost use Rattle.sr_model.specs.declared.name.Ident.TheVariants.{None as NoIdent};
+ghost use Rattle.sr_model.specs.Graph.{node_count};
 ghost use Rattle.sr_graph.specs.Draft.{IsDraft};
+ghost use Rattle.sr_spf.specs.Trees.{tree_count};
 
-use crate::{Trees, row};
-use sr_graph::{Draft, DraftLink, DraftLinks, Graph, GraphFault, Groups, SystemIds};
-use sr_model::{FAR, Ident, LinkKey, LinkNo, NodeNo, SystemId};
+use crate::{Row, Steps, Trees, row};
+use sr_graph::{Draft, DraftLink, DraftLinks, Graph, Groups, LinkSet, SystemIds};
+use sr_model::{Case, FAR, Ident, Kind, LinkKey, LinkNo, NodeNo, SystemId};
 use std::alloc::{AllocError, Global};
+use std::marker::Brand;
+use std::sync::ledger::{Blank, Ledger};
 use std::test::Fail;
 
 /// The system id of a small number.
@@ -70,97 +74,165 @@ fn chain(alloc: Global, metric: u32) -> Result<Draft, AllocError>
     })
 }
 
-/// Nodes 1 and 2: two links of one key from 2 to 1, one link back.
-fn twins(alloc: Global) -> Result<Draft, AllocError>
-    ensures { IfOk result IsDraft }
+/// The trees of the graph, counted from nothing.
+fn trees_from<L: Ledger>(alloc: Global, graph: &Graph, blank: Blank) -> Result<Trees, AllocError>
+    requires name { blank.name ≡ L.name }
+    requires parts { (blank.parts ≡ L.parts) × (0 < L.parts) }
+    ensures { IfOk result (λ t. tree_count t ≡ node_count graph.now) }
 {
-    let nodes = vec![in alloc; id(1), id(2)]?;
-    let links = vec![in alloc;
-        link(alloc, 2, 1, 7),
-        link(alloc, 1, 2, 10),
-        link(alloc, 2, 1, 9),
-    ]?;
-    Ok(Draft {
-        nodes: SystemIds::new(nodes),
-        links: DraftLinks::new(links),
-    })
+    let mut steps = Steps::<L>::new(blank);
+    Trees::build(alloc, graph, &mut steps)
+}
+
+/// The trees of the graph.
+fn trees_of(alloc: Global, graph: &Graph) -> Result<Trees, AllocError>
+    ensures { IfOk result (λ t. tree_count t ≡ node_count graph.now) }
+{
+    trees_from::<Brand>(alloc, graph, Blank::new(1))
+}
+
+/// The row of the source, counted from nothing.
+fn row_from<L: Ledger>(
+    alloc: Global,
+    graph: &Graph,
+    without: &LinkSet,
+    source: NodeNo,
+    blank: Blank,
+) -> Result<Row, AllocError>
+    requires source { source.0 < node_count graph.now }
+    requires name { blank.name ≡ L.name }
+    requires parts { (blank.parts ≡ L.parts) × (0 < L.parts) }
+{
+    let mut steps = Steps::<L>::new(blank);
+    row(alloc, graph, without, source, &mut steps)
+}
+
+/// The row of the source.
+fn row_of(
+    alloc: Global,
+    graph: &Graph,
+    without: &LinkSet,
+    source: NodeNo,
+) -> Result<Row, AllocError>
+    requires { source.0 < node_count graph.now }
+{
+    row_from::<Brand>(alloc, graph, without, source, Blank::new(1))
+}
+
+/// Goes over all links as often as there are nodes, and lowers each cell to which a link leads a shorter way.
+fn lower_by_rounds(graph: &Graph, without: &LinkSet, source: NodeNo, cells: &mut [u64])
+    requires { length cells.old ≡ node_count graph.now }
+{
+    for _ in 0..graph.node_count() {
+        for number in 0..graph.link_count() {
+            let number = LinkNo(number as u16);
+            let link = graph.link(number);
+            let from = cells[link.from.0 as usize];
+            let over = from.saturating_add(link.metric as u64);
+            let may_pass = !without.has(number) && graph.carries(source, link.from);
+            if may_pass && from < FAR && over < cells[link.to.0 as usize] {
+                cells[link.to.0 as usize] = over;
+            }
+        }
+    }
+}
+
+/// Whether the row of the source has the cells that rounds over all links give.
+fn is_as_by_rounds(
+    alloc: Global,
+    graph: &Graph,
+    without: &LinkSet,
+    source: NodeNo,
+) -> Result<bool, AllocError>
+    requires { source.0 < node_count graph.now }
+{
+    let mut cells = vec![in alloc; FAR; graph.node_count() as usize]?;
+    cells[source.0 as usize] = 0;
+    lower_by_rounds(graph, without, source, &mut cells);
+    let row = row_of(alloc, graph, without, source)?;
+    Ok(row.cells() == cells.as_slice())
+}
+
+/// In order of key the links are 1 to 2, 1 to 4, 2 to 1, 2 to 3, 3 to 2, 3 to 4, 4 to 1 and 4 to 3.
+#[test]
+fn a_ring_has_two_ways_across(rt: HostRuntime) -> Result<(), Fail> {
+    let alloc = rt.alloc();
+    let graph = Graph::build(alloc, ring(alloc, 1, 1)?)?;
+    assert!(rt; graph.node_count() == 4);
+    let trees = trees_of(alloc, &graph)?;
+    assert_eq!(rt; trees.cells(NodeNo(2)), [2, 1, 0, 1].as_slice());
+    assert!(rt; trees.dist(NodeNo(3), NodeNo(1)) == Some(2));
+    assert_eq!(rt;
+        trees.next_hops(NodeNo(0), NodeNo(2)),
+        [LinkNo(0), LinkNo(1)].as_slice()
+    );
+    assert!(rt; trees.next_hops(NodeNo(0), NodeNo(0)).is_empty());
+    assert_eq!(rt;
+        trees.next_hops(NodeNo(3), NodeNo(1)),
+        [LinkNo(6), LinkNo(7)].as_slice()
+    );
+    assert_eq!(rt;
+        trees.next_hops(NodeNo(1), NodeNo(2)),
+        [LinkNo(3)].as_slice()
+    );
+    Ok(())
 }
 
 #[test]
-fn a_ring_is_built_and_read(rt: HostRuntime) -> Result<(), Fail> {
+fn a_ring_without_a_pair_is_a_chain(rt: HostRuntime) -> Result<(), Fail> {
     let alloc = rt.alloc();
     let graph = Graph::build(alloc, ring(alloc, 1, 1)?)?;
     assert!(rt; graph.node_count() == 4);
     assert!(rt; graph.link_count() == 8);
-    assert!(rt; graph.system(NodeNo(2)) == id(3));
-    assert!(rt; graph.node(id(4)) == Some(NodeNo(3)));
-    assert!(rt; graph.node(id(5)) == None);
-    let third = graph.link(LinkNo(2));
-    assert!(rt; third.from == NodeNo(1));
-    assert!(rt; third.to == NodeNo(0));
-    assert!(rt; graph.find(&third.key) == Some(LinkNo(2)));
-    assert!(rt; graph.groups(LinkNo(2)).is_empty());
-    assert!(rt; !graph.is_overloaded(NodeNo(3)));
-    let range = graph.links_from(NodeNo(1));
-    assert_eq!(rt; range.first, 2);
-    assert_eq!(rt; range.end, 4);
+    let failed = graph.failed(
+        alloc,
+        Case {
+            kind: Kind::Link,
+            link: LinkNo(0),
+        },
+    )?;
+    let row = row_of(alloc, &graph, &failed, NodeNo(0))?;
+    assert_eq!(rt; row.cells(), [0, 3, 2, 1].as_slice());
     Ok(())
 }
 
 #[test]
-fn a_ring_is_measured(rt: HostRuntime) -> Result<(), Fail> {
-    let alloc = rt.alloc();
-    let graph = Graph::build(alloc, ring(alloc, 1, 1)?)?;
-    assert!(rt; graph.node_count() == 4);
-    let nothing = graph.nothing(alloc)?;
-    assert!(rt; !nothing.has(LinkNo(0)));
-    let first = row(alloc, &graph, &nothing, NodeNo(0))?;
-    assert_eq!(rt; first.cells(), [0, 1, 2, 1].as_slice());
-    let trees = Trees::build(alloc, &graph)?;
-    assert_eq!(rt; trees.cells(NodeNo(2)), [2, 1, 0, 1].as_slice());
-    assert!(rt; trees.dist(NodeNo(3), NodeNo(1)) == Some(2));
-    Ok(())
-}
-
-#[test]
-fn distances_along_a_chain(rt: HostRuntime) -> Result<(), Fail> {
+fn a_chain_has_an_end(rt: HostRuntime) -> Result<(), Fail> {
     let alloc = rt.alloc();
     let graph = Graph::build(alloc, chain(alloc, 7)?)?;
     assert!(rt; graph.node_count() == 4);
-    let trees = Trees::build(alloc, &graph)?;
+    let trees = trees_of(alloc, &graph)?;
     assert_eq!(rt; trees.cells(NodeNo(0)), [0, 10, 17, FAR].as_slice());
     assert_eq!(rt; trees.cells(NodeNo(2)), [FAR, FAR, 0, FAR].as_slice());
     assert!(rt; trees.dist(NodeNo(1), NodeNo(2)) == Some(7));
     assert!(rt; trees.dist(NodeNo(2), NodeNo(1)) == None);
+    assert_eq!(rt;
+        trees.next_hops(NodeNo(0), NodeNo(2)),
+        [LinkNo(0)].as_slice()
+    );
+    assert!(rt; trees.next_hops(NodeNo(2), NodeNo(1)).is_empty());
     Ok(())
 }
 
-/// The ends of a link of metric 0, where that is why a draft is refused.
-fn zero_ends(fault: &GraphFault) -> Option<(SystemId, SystemId)> {
-    match fault {
-        GraphFault::ZeroMetric { from, to } => Some((*from, *to)),
-        _ => None,
-    }
-}
-
-/// The ends of two links of one key, where they are why a draft is refused.
-fn duplicate_ends(fault: &GraphFault) -> Option<(SystemId, SystemId)> {
-    match fault {
-        GraphFault::DuplicateLink { from, to } => Some((*from, *to)),
-        _ => None,
-    }
-}
-
 #[test]
-fn drafts_are_refused(rt: HostRuntime) -> Result<(), Fail> {
+fn rows_are_as_by_rounds(rt: HostRuntime) -> Result<(), Fail> {
     let alloc = rt.alloc();
-    match Graph::build(alloc, ring(alloc, 0, 1)?) {
-        Err(fault) => assert!(rt; zero_ends(&fault) == Some((id(1), id(2)))),
-        Ok(_) => return Err(Fail::new("a metric of 0 is let through")),
-    }
-    match Graph::build(alloc, twins(alloc)?) {
-        Err(fault) => assert!(rt; duplicate_ends(&fault) == Some((id(2), id(1)))),
-        Ok(_) => return Err(Fail::new("two links of one key are let through")),
+    let graph = Graph::build(alloc, ring(alloc, 3, 16777214)?)?;
+    assert!(rt; graph.node_count() == 4);
+    assert!(rt; graph.link_count() == 8);
+    let nothing = graph.nothing(alloc)?;
+    let failed = graph.failed(
+        alloc,
+        Case {
+            kind: Kind::Node,
+            link: LinkNo(1),
+        },
+    )?;
+    for source in 0..4u16 {
+        let holds = is_as_by_rounds(alloc, &graph, &nothing, NodeNo(source))?;
+        assert!(rt; holds);
+        let holds = is_as_by_rounds(alloc, &graph, &failed, NodeNo(source))?;
+        assert!(rt; holds);
     }
     Ok(())
 }

@@ -5,7 +5,7 @@ use Rattle.sr_spf.proofs.QueueLemmas.{IsTentative-start, queued-start}
 use Rattle.sr_spf.proofs.dijkstra.row_by.Goals as goal
 
 pub settle-requires : goal.settle-requires
-settle-requires c =
+settle-requires g c =
     let is : c.deref_mut.result.now ≡ set (replicate (node_count c.args.graph.now) FAR) c.args.source.0 0 =
     (let long : c.in_ok-cells.cells.items ≡ replicate c.node_count.result FAR = search rules in
     c.deref_mut.ensures.value ∙ ap (λ k. set k c.args.source.0 0) (long ∙ ap (λ k. replicate k FAR) c.node_count.ensures.count)) in

@@ -1,5 +1,5 @@
 use Rattle.std.proofs.Common.{◌≡◌, ◌<◌, ◌≤◌, arith, sym, ◌∙◌, false, true, sum}
-use Rattle.sr_model.specs.Graph.{link_at, link_count, tail, carries}
+use Rattle.sr_model.specs.Graph.{link_at, link_count, tail, head, metric, carries}
 use Rattle.sr_spf.specs.Relax.{relaxed, falls}
 use Rattle.sr_spf.proofs.RelaxLemmas.{relaxed-falls, relaxed-stays}
 use Rattle.sr_spf.proofs.QueueLemmas.{queued-skip, queued-stays, queued-push}
@@ -12,20 +12,19 @@ loop-i-preserved c =
     let within : c.loop-i.i < link_count c.args.graph.now = omega (arith, c.links_from-first.ensures.links.inside) in
     let begins : tail c.args.graph.now c.loop-i.i ≡ c.args.node.0 = c.links_from-first.ensures.links.from c.loop-i.i first (omega arith) in
     let carry : carries c.args.graph.now c.args.source.0 (tail c.args.graph.now c.loop-i.i) ≡ true = rw begins (cc) in
-    let link : c.link-link.result ≡ link_at c.args.graph.now c.loop-i.i = c.link-link.ensures.link in
     elim c.if-not-has.branch [
       | then-not-has+then-relax+in_ok-push w ↦
-          let fell : falls (link_at c.args.graph.now c.loop-i.i) c.loop-i.cells ≡ true = rw (← link) (sym w.relax.ensures.fell ∙ w.if-relax.true) in
-          let is : w.relax.new.cells ≡ relaxed (link_at c.args.graph.now c.loop-i.i) c.loop-i.cells = rw (← link) w.relax.ensures.cells in
-          let work : sum (relaxed (link_at c.args.graph.now c.loop-i.i) c.loop-i.cells) < sum c.loop-i.cells = relaxed-falls _ _ _ _ _ c.loop-i.invariant.0.kept within (cc) carry fell in (
-            rw (w.cells-is, w.queue-is, is) (queued-push _ _ _ _ _ _ _ _ c.loop-i.invariant.0 within (cc) carry fell (rw (is, link) at w.in_ok-push.ensures.permutation)),
+          let fell : falls (tail c.args.graph.now c.loop-i.i) (head c.args.graph.now c.loop-i.i) (metric c.args.graph.now c.loop-i.i) c.loop-i.cells ≡ true = rw (begins, ← c.edge-edge.ensures.to, ← c.edge-edge.ensures.metric) (sym w.relax.ensures.fell ∙ w.if-relax.true) in
+          let is : w.relax.new.cells ≡ relaxed (tail c.args.graph.now c.loop-i.i) (head c.args.graph.now c.loop-i.i) (metric c.args.graph.now c.loop-i.i) c.loop-i.cells = rw (begins, ← c.edge-edge.ensures.to, ← c.edge-edge.ensures.metric) w.relax.ensures.cells in
+          let work : sum (relaxed (tail c.args.graph.now c.loop-i.i) (head c.args.graph.now c.loop-i.i) (metric c.args.graph.now c.loop-i.i) c.loop-i.cells) < sum c.loop-i.cells = relaxed-falls _ _ _ _ _ c.loop-i.invariant.0.kept within (cc) carry fell in (
+            rw (w.cells-is, w.queue-is, is) (queued-push _ _ _ _ _ _ _ _ c.loop-i.invariant.0 within (cc) carry fell (rw (is, c.edge-edge.ensures.to) at w.in_ok-push.ensures.permutation)),
             rw (w.cells-is, w.queue-is, is) (omega (arith, w.in_ok-push.ensures.len, c.loop-i.invariant.1)),
             omega arith,
           )
       | else-not-has w ↦ elim w.else-not-has.branch [
         | else-not-has-via-then-not-has+else-relax w' ↦
-            let stays : falls (link_at c.args.graph.now c.loop-i.i) c.loop-i.cells ≡ false = rw (← link) (sym w'.relax.ensures.fell ∙ w'.if-relax.false) in
-            let is : w'.relax.new.cells ≡ relaxed (link_at c.args.graph.now c.loop-i.i) c.loop-i.cells = rw (← link) w'.relax.ensures.cells in (
+            let stays : falls (tail c.args.graph.now c.loop-i.i) (head c.args.graph.now c.loop-i.i) (metric c.args.graph.now c.loop-i.i) c.loop-i.cells ≡ false = rw (begins, ← c.edge-edge.ensures.to, ← c.edge-edge.ensures.metric) (sym w'.relax.ensures.fell ∙ w'.if-relax.false) in
+            let is : w'.relax.new.cells ≡ relaxed (tail c.args.graph.now c.loop-i.i) (head c.args.graph.now c.loop-i.i) (metric c.args.graph.now c.loop-i.i) c.loop-i.cells = rw (begins, ← c.edge-edge.ensures.to, ← c.edge-edge.ensures.metric) w'.relax.ensures.cells in (
               rw (w.cells-is, w.queue-is, w'.cells-is, is) (queued-stays _ _ _ _ _ _ _ c.loop-i.invariant.0 stays),
               rw (w.cells-is, w.queue-is, w'.cells-is, is, (relaxed-stays _ _ _ stays).0) c.loop-i.invariant.1,
               omega arith,

@@ -1,9 +1,5 @@
-use Rattle.std.proofs.Common.{[]}
-use Rattle.sr_model.specs.Walk.{IsRow}
-use Rattle.sr_spf.proofs.TreesLemmas.{rows-more}
+use Rattle.sr_spf.proofs.TreesLemmas.{trees-whole}
 use Rattle.sr_spf.proofs.trees.Trees.build.Goals as goal
 
-pub loop-node-preserved : goal.loop-node-preserved
-loop-node-preserved c =
-    let row : IsRow c.args.graph.now [] c.loop-node.node c.in_ok-row.row = rw c.in_ok-nothing.ensures at c.in_ok-row.ensures.row in
-    record { rows = rw c.in_ok-push.ensures.items (rows-more _ _ _ _ c.loop-node.invariant.rows row); empty = c.in_ok-row.ensures.empty }
+pub returns-clause-trees : goal.returns-clause-trees
+returns-clause-trees g c = trees-whole _ _ _ c.in_ok-rows.ensures.rows c.in_ok-hops.ensures

@@ -1,0 +1,154 @@
+-- How the answers of a case are gathered, and what a search by destination finds in them.
+use Rattle.std.proofs.Common.{◌≡◌, ◌≢◌, ℕ, ◌+◌, ◌<◌, ◌≤◌, ⊎_elim, Bool, true, false, List, [], ◌∷◌, ◌++◌, length, refl, arith, ap, sym, ◌∙◌, subst, Option, Some, None, Ok, Err}
+use Rattle.std.specs.Prelude.{is_some}
+use Rattle.std.specs.List.Sorted.{IsBinarySearchResult, IsNonDecreasingBy}
+use Rattle.std.specs.Ordering.{nat_cmp, ordering_index}
+use Rattle.std.proofs.lemmas.Cmp.{ranked}
+use Rattle.std.proofs.lemmas.List.Sorted.{IsNonDecreasingBy-from_default}
+use Rattle.std.proofs.lemmas.Bool.{cases_eq, cases_lt}
+use Rattle.std.proofs.lemmas.Bool.Decides.{nat_tests}
+use Rattle.std.proofs.lemmas.List.{length-append, get_or_push, get_or_append_left, get_or_past}
+use Rattle.sr_model.specs.declared.case.Case.{Case}
+use Rattle.sr_model.specs.declared.link.NodeNo.{NodeNo}
+use Rattle.sr_model.specs.declared.repair.Answer.TheVariants.{NoPath}
+use Rattle.sr_model.specs.Graph.{node_count}
+use Rattle.sr_model.specs.Label.{Net, Labels, labels_at, nameless}
+use Rattle.sr_model.specs.Case.{IsFailedSet, IsAffected, source_of}
+use Rattle.sr_model.specs.Repair.{IsAnswer, IsCaseAnswer}
+use Rattle.sr_encode.specs.declared.answers.NodeAnswer.{NodeAnswer}
+use Rattle.sr_encode.specs.Serve.{wanted_at, AreNodes}
+use Rattle.sr_encode.specs.Answered.{entry_at, destination_at, answer_at, AscendByNode, AreAnswers, AreAffected, AreAnswered}
+
+-- what stands for a destination, and for an entry, past the end of a list
+abbrev no_node : NodeNo
+no_node = record { 0 = 0 }
+
+abbrev pub no_entry : NodeAnswer
+no_entry = record { destination = record { 0 = 0 }; answer = NoPath }
+
+pub affected-none : (n : Net) (case : Case) → AreAffected n case 0 []
+affected-none n case = record { ascending = λ i j up lt. absurd (omega arith); affected = λ i lt. absurd (omega arith); all = λ d lt a. absurd (omega arith) }
+
+-- a node that isn't affected
+pub affected-skip : (n : Net) (case : Case) (m : ℕ) (wanted : List NodeNo) → AreAffected n case m wanted → (IsAffected n case m → ⊥) → AreAffected n case (m + 1) wanted
+affected-skip n case m wanted r none = record {
+  ascending = r.ascending;
+  affected = λ i lt. ((let low : wanted_at wanted i < m = (r.affected i lt).0 in omega arith), (r.affected i lt).1);
+  all = λ d lt a. ⊎_elim
+      (λ (here : d ≡ m). absurd (none (subst (λ k. IsAffected n case k) here a)))
+      (λ (ne : d ≢ m). r.all d (omega arith) a)
+      (cases_eq d m);
+}
+
+-- and one that is
+pub affected-push : (n : Net) (case : Case) (v : NodeNo) (wanted : List NodeNo) → AreAffected n case v.0 wanted → IsAffected n case v.0 → AreAffected n case (v.0 + 1) (wanted ++ v ∷ [])
+affected-push n case v wanted r is =
+    let long : length (wanted ++ v ∷ []) ≡ length wanted + 1 = length-append wanted (v ∷ []) in
+    let old : (i : ℕ) → i < length wanted → wanted_at (wanted ++ v ∷ []) i ≡ wanted_at wanted i = λ i lt. ap (λ (k : NodeNo). k.0) (get_or_append_left wanted (v ∷ []) no_node i lt) in
+    let last : wanted_at (wanted ++ v ∷ []) (length wanted) ≡ v.0 = ap (λ (k : NodeNo). k.0) (get_or_push wanted v no_node (length wanted) refl) in
+    record {
+      ascending = λ i j up lt. ⊎_elim
+          (λ (early : j < length wanted). let low : wanted_at wanted i < wanted_at wanted j = r.ascending i j up early in omega (arith, old i (omega arith), old j early))
+          (λ (late : length wanted ≤ j).
+          let at : j ≡ length wanted = omega arith in
+          let low : wanted_at wanted i < v.0 = (r.affected i (omega arith)).0 in
+          let here : wanted_at (wanted ++ v ∷ []) j ≡ v.0 = ap (λ k. wanted_at (wanted ++ v ∷ []) k) at ∙ last in
+          omega (arith, old i (omega arith)))
+          (cases_lt j (length wanted));
+      affected = λ i lt. ⊎_elim
+          (λ (early : i < length wanted). (
+            (let low : wanted_at wanted i < v.0 = (r.affected i early).0 in omega (arith, old i early)),
+            subst (λ k. IsAffected n case k) (sym (old i early)) (r.affected i early).1,
+          ))
+          (λ (late : length wanted ≤ i).
+          let at : i ≡ length wanted = omega arith in
+          let here : wanted_at (wanted ++ v ∷ []) i ≡ v.0 = ap (λ k. wanted_at (wanted ++ v ∷ []) k) at ∙ last in
+          (omega arith, subst (λ k. IsAffected n case k) (sym here) is))
+          (cases_lt i (length wanted));
+      all = λ d lt a. ⊎_elim
+          (λ (here : d ≡ v.0). (length wanted, omega arith, last ∙ sym here))
+          (λ (ne : d ≢ v.0). let q = r.all d (omega arith) a in (q.0, (let below : q.0 < length wanted = q.1 in omega arith), old q.0 q.1 ∙ q.2))
+          (cases_eq d v.0);
+    }
+
+pub affected-nodes : (n : Net) (case : Case) (wanted : List NodeNo) → AreAffected n case (node_count n.graph) wanted → AreNodes n wanted
+affected-nodes n case wanted r j lt = (r.affected j lt).0
+
+-- what is affected is a node
+none_index : (o : Option ℕ) → o ≡ None → is_some o ≡ true → ⊥
+none_index None e is = let z : false ≡ true = is in absurd (cc)
+none_index (Some k) e is = absurd (cc)
+
+pub affected-within : (n : Net) (case : Case) (d : ℕ) → length n.labels ≡ node_count n.graph → IsAffected n case d → d < node_count n.graph
+affected-within n case d long a =
+    ⊎_elim
+    (λ (lt : d < node_count n.graph). lt)
+    (λ (ge : node_count n.graph ≤ d).
+    let past : labels_at n d ≡ nameless = get_or_past n.labels d nameless (omega arith) in
+    absurd (none_index (labels_at n d).index (ap (λ (k : Labels). k.index) past) a.index))
+    (cases_lt d (node_count n.graph))
+
+pub answered-none : (n : Net) (x : List Bool) (s : ℕ) (wanted : List NodeNo) → AreAnswered n x s wanted 0 []
+answered-none n x s wanted = record { long = refl; nodes = λ i lt. absurd (omega arith); answers = λ i lt. absurd (omega arith) }
+
+-- one answer more
+pub answered-push : (n : Net) (x : List Bool) (s : ℕ) (wanted : List NodeNo) (m : ℕ) (list : List NodeAnswer) (entry : NodeAnswer) → AreAnswered n x s wanted m list → entry.destination.0 ≡ wanted_at wanted m → IsAnswer n x s (wanted_at wanted m) entry.answer → AreAnswered n x s wanted (m + 1) (list ++ entry ∷ [])
+answered-push n x s wanted m list entry r node answer =
+    let old : (i : ℕ) → i < m → entry_at (list ++ entry ∷ []) i ≡ entry_at list i = λ i lt. get_or_append_left list (entry ∷ []) no_entry i (omega (arith, r.long)) in
+    let last : entry_at (list ++ entry ∷ []) m ≡ entry = get_or_push list entry no_entry m r.long in
+    record {
+      long = length-append list (entry ∷ []) ∙ omega (arith, r.long);
+      nodes = λ i lt. ⊎_elim
+          (λ (here : i ≡ m). ap (λ k. destination_at (list ++ entry ∷ []) k) here ∙ ap (λ (e : NodeAnswer). e.destination.0) last ∙ node ∙ ap (λ k. wanted_at wanted k) (sym here))
+          (λ (ne : i ≢ m). ap (λ (e : NodeAnswer). e.destination.0) (old i (omega arith)) ∙ r.nodes i (omega arith))
+          (cases_eq i m);
+      answers = λ i lt. ⊎_elim
+          (λ (here : i ≡ m).
+          let P : ℕ → Type 0 = λ k. IsAnswer n x s (wanted_at wanted k) (answer_at (list ++ entry ∷ []) k) in
+          subst P (sym here) (subst (λ (e : NodeAnswer). IsAnswer n x s (wanted_at wanted m) e.answer) (sym last) answer))
+          (λ (ne : i ≢ m). subst (λ (e : NodeAnswer). IsAnswer n x s (wanted_at wanted i) e.answer) (sym (old i (omega arith))) (r.answers i (omega arith)))
+          (cases_eq i m);
+    }
+
+-- all answers of the case
+pub answers-over : (n : Net) (case : Case) (x : List Bool) (wanted : List NodeNo) (list : List NodeAnswer) → length n.labels ≡ node_count n.graph → IsFailedSet n.graph case x → AreAffected n case (node_count n.graph) wanted → AreAnswered n x (source_of n.graph case) wanted (length wanted) list → AreAnswers n case list
+answers-over n case x wanted list long set r a = record {
+  ascending = λ i j up lt.
+      let within : j < length wanted = omega (arith, a.long) in
+      let low : wanted_at wanted i < wanted_at wanted j = r.ascending i j up within in
+      omega (arith, a.nodes i (omega arith), a.nodes j within);
+  affected = λ i lt. let within : i < length wanted = omega (arith, a.long) in subst (λ k. IsAffected n case k) (sym (a.nodes i within)) (r.affected i within).1;
+  answers = λ i lt. let within : i < length wanted = omega (arith, a.long) in
+      subst (λ k. IsCaseAnswer n case k (answer_at list i)) (sym (a.nodes i within)) (record { failed = x; set = set; answers = a.answers i within });
+  all = λ d is.
+      let q = r.all d (affected-within n case d long is) is in
+      (q.0, (let below : q.0 < length wanted = q.1 in omega (arith, a.long)), a.nodes q.0 q.1 ∙ q.2);
+}
+
+-- what a search by destination finds
+module _ (list : List NodeAnswer) (up : AscendByNode list) (d : ℕ) where
+  key : NodeAnswer → ℕ
+  key entry = entry.destination.0
+
+  rises : (i j : ℕ) → i ≤ j → j < length list → destination_at list i ≤ destination_at list j
+  rises i j le within =
+      ⊎_elim
+      (λ (same : i ≡ j). let P : ℕ → Type 0 = λ m. destination_at list m ≤ destination_at list j in subst P (sym same) (omega arith))
+      (λ (ne : i ≢ j). let lt : destination_at list i < destination_at list j = up i j (omega arith) within in omega arith)
+      (cases_eq i j)
+
+  comparisons_rise : IsNonDecreasingBy (λ (x : NodeAnswer). ordering_index (nat_cmp x.destination.0 d)) list
+  comparisons_rise = IsNonDecreasingBy-from_default (λ (x : NodeAnswer). ordering_index (nat_cmp x.destination.0 d)) list no_entry (λ i j le within.
+      let le' : destination_at list i ≤ destination_at list j = rises i j le within in
+      grind (arith, nat_tests))
+
+  pub found-at : (at : ℕ) → IsBinarySearchResult (λ (x : NodeAnswer). nat_cmp x.destination.0 d) list (Ok at) → destination_at list at ≡ d
+  found-at at is = ranked _ d _ (sym (is no_entry))
+
+  pub missed-at : (at : ℕ) → IsBinarySearchResult (λ (x : NodeAnswer). nat_cmp x.destination.0 d) list (Err at) → (i : ℕ) → i < length list → destination_at list i ≢ d
+  missed-at at is i within same =
+      let parted = is comparisons_rise in
+      ⊎_elim
+      (λ (lt : i < at). let low : destination_at list i < d = ranked _ d _ (sym (parted.0 i no_entry (omega arith) lt)) in omega arith)
+      (λ (ge : at ≤ i). let high : d < destination_at list i = ranked _ d _ (sym (parted.1 i no_entry ge within)) in omega arith)
+      (cases_lt i at)

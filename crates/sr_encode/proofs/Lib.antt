@@ -1,0 +1,5 @@
+pub mod SearchLemmas
+pub mod QueueLemmas
+pub mod StopLemmas
+pub mod ServeLemmas
+pub mod AnswerLemmas

@@ -1,0 +1,14 @@
+use Rattle.std.proofs.Common.{◌≤◌, ◌+◌}
+use Rattle.sr_model.specs.Graph.{node_count}
+use Rattle.sr_encode.specs.Waypoints.{Extends}
+use Rattle.sr_encode.specs.Search.{IsSearching}
+use Rattle.sr_encode.proofs.search.expand.Given as goal
+
+abbrev pub invariant-loop-v : goal.invariant-loop-v
+invariant-loop-v l = IsSearching l.net l.failed l.source.0 l.cells l.queue.items l.met l.i l.v × Extends l.fn.queue.items l.queue.items
+
+abbrev pub invariant-loop-link : goal.invariant-loop-link
+invariant-loop-link l =
+    IsSearching l.net l.failed l.source.0 l.cells l.queue.items l.met l.i (node_count l.net.graph + l.link)
+    × Extends l.fn.queue.items l.queue.items
+    × (l.link ≤ l.end)

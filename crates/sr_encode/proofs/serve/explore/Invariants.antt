@@ -1,0 +1,14 @@
+use Rattle.std.proofs.Common.{◌-◌, ◌≤◌, length}
+use Rattle.sr_model.specs.Graph.{node_count}
+use Rattle.sr_encode.specs.Search.{IsSearching}
+use Rattle.sr_encode.specs.Serve.{AreServed}
+use Rattle.sr_encode.proofs.serve.explore.Given as goal
+
+abbrev pub invariant-queue : goal.invariant-queue
+invariant-queue l =
+    IsSearching l.net l.failed l.source.0 l.cells l.queue.items l.met l.i 0
+    × AreServed l.net l.failed l.source.0 l.cells l.queue.items l.i l.wanted l.places
+    × (l.i ≤ length l.queue.items)
+
+abbrev pub decreases-queue : goal.decreases-queue
+decreases-queue l = node_count l.net.graph - l.i

@@ -1,0 +1,54 @@
+-- The answers of a case.
+use Rattle.std.specs.Prelude.{◌≡◌, ◌≢◌, ℕ, ◌<◌, Bool, List, length, slice_index_or}
+use Rattle.sr_model.specs.declared.case.Case.{Case}
+use Rattle.sr_model.specs.declared.link.NodeNo.{NodeNo}
+use Rattle.sr_model.specs.declared.repair.Answer.{Answer}
+use Rattle.sr_model.specs.declared.repair.Answer.TheVariants.{NoPath}
+use Rattle.sr_model.specs.Label.{Net}
+use Rattle.sr_model.specs.Case.{IsAffected}
+use Rattle.sr_model.specs.Repair.{IsAnswer, IsCaseAnswer}
+use Rattle.sr_encode.specs.declared.answers.NodeAnswer.{NodeAnswer}
+use Rattle.sr_encode.specs.Serve.{wanted_at}
+
+-- the answer at place i, with its destination
+abbrev pub entry_at : List NodeAnswer → ℕ → NodeAnswer
+entry_at list i = slice_index_or list i (record { destination = record { 0 = 0 }; answer = NoPath })
+
+-- the destination at place i
+abbrev pub destination_at : List NodeAnswer → ℕ → ℕ
+destination_at list i = (entry_at list i).destination.0
+
+-- the answer at place i
+abbrev pub answer_at : List NodeAnswer → ℕ → Answer
+answer_at list i = (entry_at list i).answer
+
+-- destinations ascend
+abbrev pub AscendByNode : List NodeAnswer → Type 0
+AscendByNode list = (i j : ℕ) → i < j → j < length list → destination_at list i < destination_at list j
+
+-- the list has the answer for d
+abbrev pub HasAnswer : List NodeAnswer → ℕ → Answer → Type 0
+HasAnswer list d answer = (i : ℕ) × (i < length list) × (destination_at list i ≡ d) × (answer_at list i ≡ answer)
+
+-- the list has no answer for d
+abbrev pub NoAnswer : List NodeAnswer → ℕ → Type 0
+NoAnswer list d = (i : ℕ) → i < length list → destination_at list i ≢ d
+
+-- the list has the affected destinations of the case, ascending, each with its answer
+pub record AreAnswers (n : Net) (case : Case) (list : List NodeAnswer) : Type 0 where
+  pub ascending : AscendByNode list
+  pub affected : (i : ℕ) → i < length list → IsAffected n case (destination_at list i)
+  pub answers : (i : ℕ) → i < length list → IsCaseAnswer n case (destination_at list i) (answer_at list i)
+  pub all : (d : ℕ) → IsAffected n case d → (i : ℕ) × (i < length list) × (destination_at list i ≡ d)
+
+-- the nodes are the affected destinations below m, ascending
+pub record AreAffected (n : Net) (case : Case) (m : ℕ) (wanted : List NodeNo) : Type 0 where
+  pub ascending : (i j : ℕ) → i < j → j < length wanted → wanted_at wanted i < wanted_at wanted j
+  pub affected : (i : ℕ) → i < length wanted → (wanted_at wanted i < m) × IsAffected n case (wanted_at wanted i)
+  pub all : (d : ℕ) → d < m → IsAffected n case d → (i : ℕ) × (i < length wanted) × (wanted_at wanted i ≡ d)
+
+-- the list has the first m destinations, each with its answer
+pub record AreAnswered (n : Net) (x : List Bool) (s : ℕ) (wanted : List NodeNo) (m : ℕ) (list : List NodeAnswer) : Type 0 where
+  pub long : length list ≡ m
+  pub nodes : (i : ℕ) → i < m → destination_at list i ≡ wanted_at wanted i
+  pub answers : (i : ℕ) → i < m → IsAnswer n x s (wanted_at wanted i) (answer_at list i)

@@ -1,0 +1,4 @@
+pub mod Waypoints
+pub mod Search
+pub mod Serve
+pub mod Answered

@@ -1,0 +1,161 @@
+//! The answers of a case, from its search.
+ghost use Rattle.std.specs.Prelude.{◌<◌, length, IfOk};
+ghost use Rattle.sr_model.specs.Graph.{node_count};
+ghost use Rattle.sr_model.specs.Walk.{IsRow};
+ghost use Rattle.sr_model.specs.Case.{IsCase};
+ghost use Rattle.sr_spf.specs.Trees.{AreTrees};
+ghost use Rattle.sr_post.specs.Post.{IsPost};
+ghost use Rattle.sr_encode.specs.Serve.{AreNodes, AreFound};
+ghost use Rattle.sr_encode.specs.Answered.{AreAffected, AreAnswered, AreAnswers};
+
+use crate::answer::answer_of;
+use crate::answers::{CaseAnswers, NodeAnswer};
+use crate::search::begin_all;
+use crate::serve::explore;
+use crate::waypoint::Waypoint;
+use sr_graph::LinkSet;
+use sr_labels::Net;
+use sr_model::{Case, NodeNo};
+use sr_post::{Post, affected};
+use sr_spf::Trees;
+use std::alloc::{AllocError, Global};
+
+/// The affected destinations, ascending.
+fn affected_nodes(
+    alloc: Global,
+    net: &Net,
+    trees: &Trees,
+    case: Case,
+) -> Result<Vec<NodeNo>, AllocError>
+    requires trees { AreTrees net.now.graph trees.now }
+    requires case { IsCase net.now.graph case }
+    ensures { IfOk result (λ nodes. AreAffected net.now case (node_count net.now.graph) nodes.items) }
+{
+    let mut nodes = Vec::new(alloc);
+    for v in 0..net.graph().node_count() as u16 {
+        if !affected(net, trees, case, NodeNo(v)) {
+            continue;
+        }
+        nodes.push(NodeNo(v))?;
+    }
+    Ok(nodes)
+}
+
+/// The queue of a search, and the place in it of the waypoint that serves each destination, if one
+/// does.
+#[derive(Drop)]
+struct Found {
+    queue: Vec<Waypoint>,
+    places: Vec<Option<u16>>,
+}
+
+/// The waypoints that serve the destinations.
+fn search(
+    alloc: Global,
+    net: &Net,
+    trees: &Trees,
+    cells: &[u64],
+    failed: &LinkSet,
+    source: NodeNo,
+    wanted: &[NodeNo],
+) -> Result<Found, AllocError>
+    requires trees { AreTrees net.now.graph trees.now }
+    requires cells { IsRow net.now.graph failed.now source.0 cells.now }
+    requires source { source.0 < node_count net.now.graph }
+    requires wanted { AreNodes net.now wanted.now }
+    ensures { IfOk result (λ found. AreFound net.now failed.now source.0 cells.now found.queue.items wanted.now found.places.items) }
+{
+    let mut met = vec![in alloc; false; net.graph().node_count() as usize]?;
+    let mut places = vec![in alloc; None; wanted.len()]?;
+    let mut queue = Vec::new(alloc);
+    begin_all(net, cells, failed, source, &mut met, &mut queue)?;
+    explore(
+        alloc,
+        net,
+        trees,
+        cells,
+        failed,
+        source,
+        wanted,
+        &mut met,
+        &mut queue,
+        &mut places,
+    )?;
+    Ok(Found { queue, places })
+}
+
+/// The answers for the destinations, in their order.
+fn answers_of(
+    alloc: Global,
+    net: &Net,
+    cells: &[u64],
+    failed: &LinkSet,
+    source: NodeNo,
+    queue: &[Waypoint],
+    wanted: &[NodeNo],
+    places: &[Option<u16>],
+) -> Result<Vec<NodeAnswer>, AllocError>
+    requires cells { IsRow net.now.graph failed.now source.0 cells.now }
+    requires source { source.0 < node_count net.now.graph }
+    requires wanted { AreNodes net.now wanted.now }
+    requires found { AreFound net.now failed.now source.0 cells.now queue.now wanted.now places.now }
+    ensures { IfOk result (λ list. AreAnswered net.now failed.now source.0 wanted.now (length wanted.now) list.items) }
+{
+    let mut list = Vec::with_capacity(alloc, wanted.len())?;
+    for j in 0..wanted.len() {
+        let destination = wanted[j];
+        let answer = answer_of(
+            alloc,
+            net,
+            cells,
+            failed,
+            source,
+            queue,
+            destination,
+            places[j],
+        )?;
+        list.push(NodeAnswer {
+            destination,
+            answer,
+        })?;
+    }
+    Ok(list)
+}
+
+/// The answer of the case for each affected destination, ascending: the least sound list, or why
+/// there is none. `post` is what the case leaves.
+pub fn lists(
+    alloc: Global,
+    net: &Net,
+    trees: &Trees,
+    post: &Post,
+    case: Case,
+) -> Result<CaseAnswers, AllocError>
+    requires trees { AreTrees net.now.graph trees.now }
+    requires case { IsCase net.now.graph case }
+    requires post { IsPost net.now case post.now }
+    ensures { IfOk result (AreAnswers net.now case) }
+{
+    let source = net.graph().link(case.link).from;
+    let wanted = affected_nodes(alloc, net, trees, case)?;
+    let found = search(
+        alloc,
+        net,
+        trees,
+        post.cells(),
+        post.failed(),
+        source,
+        &wanted,
+    )?;
+    let list = answers_of(
+        alloc,
+        net,
+        post.cells(),
+        post.failed(),
+        source,
+        &found.queue,
+        &wanted,
+        &found.places,
+    )?;
+    Ok(CaseAnswers::new(list))
+}

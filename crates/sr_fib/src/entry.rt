@@ -1,0 +1,17 @@
+//! What a label does at a node.
+
+use sr_model::{LinkNo, NodeNo, Out};
+
+/// What a label does at a node, as the table lends it.
+#[derive(Clone, Copy, Debug)]
+pub enum Entry<'a> {
+    /// It is the node's own: it is popped.
+    Own,
+    /// It is explicit null: it is popped.
+    Null,
+    /// It is that of an adjacency: it is popped, and the link is crossed.
+    Adj(LinkNo),
+    /// It is that of another node, towards which one of these links is crossed. They ascend, each with what becomes of the
+    /// label.
+    Node(NodeNo, &'a [(LinkNo, Out)]),
+}

@@ -1,0 +1,5 @@
+pub mod HopLemmas
+pub mod WayLemmas
+pub mod OrderLemmas
+pub mod MarkLemmas
+pub mod FailedLemmas

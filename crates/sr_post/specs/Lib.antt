@@ -1,0 +1,3 @@
+pub mod Post
+pub mod Marks
+pub mod Order

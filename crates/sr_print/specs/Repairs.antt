@@ -1,0 +1,82 @@
+-- The answer of a case for a destination, as a line.
+use Rattle.std.specs.Prelude.{ℕ, ◌<◌, List, [], ◌∷◌, ◌++◌, All, reverse, codes, decimal}
+use Rattle.std.specs.List.{flat_map}
+use Rattle.sr_model.specs.declared.case.Case.{Case}
+use Rattle.sr_model.specs.declared.case.Kind.{Kind}
+use Rattle.sr_model.specs.declared.case.Kind.TheVariants.{Link as LinkKind, Node as NodeKind, Risk as RiskKind}
+use Rattle.sr_model.specs.declared.repair.Segment.{Segment}
+use Rattle.sr_model.specs.declared.repair.Segment.TheVariants.{Node, Adj}
+use Rattle.sr_model.specs.declared.repair.RepairList.{RepairList}
+use Rattle.sr_model.specs.declared.repair.Answer.{Answer}
+use Rattle.sr_model.specs.declared.repair.Answer.TheVariants.{Least, NoPath, NoList, TooDeep}
+use Rattle.sr_model.specs.Graph.{Graph, node_count, link_count, system_at}
+use Rattle.sr_model.specs.Label.{Net}
+use Rattle.sr_model.specs.SystemText.{system_text}
+use Rattle.sr_print.specs.Links.{link_text, link_word}
+use Rattle.sr_print.specs.Printed.{ended, word, node_word, numbered}
+
+-- the name of a kind of failure
+abbrev pub kind_name : Kind → List ℕ
+kind_name LinkKind = codes "link"
+kind_name NodeKind = codes "node"
+kind_name RiskKind = codes "risk"
+
+-- a case by its kind and its protected link, and the destination
+abbrev pub case_text : Net → Case → ℕ → List ℕ
+case_text n case d =
+    codes "repair " ++ kind_name case.kind ++ link_word n case.link.0 ++ codes " to" ++ node_word (system_at n.graph d)
+
+-- a segment: a node by its system id, or a link
+abbrev pub segment_text : Net → Segment → List ℕ
+segment_text n (Node v) = codes "node:" ++ system_text (system_at n.graph v.0)
+segment_text n (Adj l) = codes "adj:" ++ link_text n l.0
+
+-- a segment as one more word
+unfoldable pub segment_word : Net → Segment → List ℕ
+segment_word n segment = word (segment_text n segment)
+
+-- the segments, the first to be followed first, or that there are none
+abbrev pub segments_text : Net → List Segment → List ℕ
+segments_text n [] = codes " segments none"
+segments_text n (segment ∷ more) = codes " segments" ++ flat_map (segment_word n) (segment ∷ more)
+
+-- a label as one more word
+abbrev pub label_word : ℕ → List ℕ
+label_word label = word (decimal label)
+
+-- labels, given with the top last, from the top down, or that there are none
+abbrev pub labels_text : List ℕ → List ℕ
+labels_text [] = codes " labels none"
+labels_text (label ∷ more) = codes " labels" ++ flat_map label_word (reverse (label ∷ more))
+
+-- a repair: its first link, its segments, its labels and its cost
+abbrev pub list_text : Net → RepairList → List ℕ → List ℕ
+list_text n list labels =
+    codes " via" ++ link_word n list.first.0 ++ segments_text n list.segments ++ labels_text labels ++ numbered (codes " cost ") list.cost
+
+-- a repair, or why there is none
+abbrev pub answer_text : Net → Answer → List ℕ → List ℕ
+answer_text n (Least list) labels = list_text n list labels
+answer_text n NoPath labels = codes " uncovered nopath"
+answer_text n NoList labels = codes " uncovered nolist"
+answer_text n (TooDeep needed) labels = numbered (codes " uncovered toodeep ") needed
+
+-- the answer of a case for destination d
+abbrev pub repair_line : Net → Case → ℕ → Answer → List ℕ → List ℕ
+repair_line n case d answer labels = ended (case_text n case d ++ answer_text n answer labels)
+
+-- the segment is a node or a link of the graph
+abbrev pub IsSegment : Graph → Segment → Type 0
+IsSegment g (Node v) = v.0 < node_count g
+IsSegment g (Adj l) = l.0 < link_count g
+
+-- each of these is a node or a link of the graph
+abbrev pub AreSegments : Graph → List Segment → Type 0
+AreSegments g segments = All (IsSegment g) segments
+
+-- the links and nodes of the answer are links and nodes of the graph
+abbrev pub IsAnswerWithin : Graph → Answer → Type 0
+IsAnswerWithin g (Least list) = (list.first.0 < link_count g) × AreSegments g list.segments
+IsAnswerWithin g NoPath = Unit {0}
+IsAnswerWithin g NoList = Unit {0}
+IsAnswerWithin g (TooDeep needed) = Unit {0}

@@ -1,0 +1,180 @@
+//! The line of a repair.
+ghost use Rattle.std.specs.Prelude.{◌≡◌, ◌<◌, ◌++◌, reverse, OnOk, OnErr};
+ghost use Rattle.std.specs.List.{flat_map};
+ghost use Rattle.sr_model.specs.Case.{IsCase};
+ghost use Rattle.sr_model.specs.Graph.{node_count, link_count};
+ghost use Rattle.sr_print.specs.Printed.{BeginsWith};
+ghost use Rattle.sr_print.specs.Repairs.{kind_name, case_text, segment_word, segments_text, label_word, labels_text};
+ghost use Rattle.sr_print.specs.Repairs.{list_text, answer_text, repair_line, IsSegment, AreSegments, IsAnswerWithin};
+
+use crate::line::{end, put_numbered};
+use crate::link::{put_link, put_link_text};
+use crate::number::{put_node, put_value};
+use sr_labels::Net;
+use sr_model::{Answer, Case, Kind, NodeNo, RepairList, Segment};
+use std::alloc::AllocError;
+
+/// The name of a kind of failure.
+fn name_of(kind: Kind) -> &'static [u8]
+    ensures { result.now ≡ kind_name kind }
+{
+    match kind {
+        Kind::Link => b"link",
+        Kind::Node => b"node",
+        Kind::Risk => b"risk",
+    }
+}
+
+/// Appends `repair KIND LINK to NODE`. After an error a part of it may stand there;
+/// what stood before stays.
+fn put_case(net: &Net, case: Case, destination: NodeNo, out: &mut Vec<u8>) -> Result<(), AllocError>
+    requires case { IsCase net.now.graph case }
+    requires destination { destination.0 < node_count net.now.graph }
+    ensures line { OnOk result (out.new.items ≡ out.old.items ++ case_text net.now case destination.0) }
+    ensures err { OnErr result (BeginsWith out.old.items out.new.items) }
+{
+    out.extend_from_slice(b"repair ")?;
+    out.extend_from_slice(name_of(case.kind))?;
+    put_link(net, case.link, out)?;
+    out.extend_from_slice(b" to")?;
+    put_node(net.graph().system(destination), out)
+}
+
+/// Appends `node:NODE` or `adj:LINK` as one more word. After an error a part of it may stand there;
+/// what stood before stays.
+#[tactic(auto, unfolding(crate::specs::Repairs::segment_word))]
+fn put_segment(net: &Net, segment: Segment, out: &mut Vec<u8>) -> Result<(), AllocError>
+    requires { IsSegment net.now.graph segment }
+    ensures line { OnOk result (out.new.items ≡ out.old.items ++ segment_word net.now segment) }
+    ensures err { OnErr result (BeginsWith out.old.items out.new.items) }
+{
+    match segment {
+        Segment::Node(node) => {
+            out.extend_from_slice(b" node:")?;
+            net.graph().system(node).put(out)
+        }
+        Segment::Adj(link) => {
+            out.extend_from_slice(b" adj:")?;
+            put_link_text(net, link, out)
+        }
+    }
+}
+
+/// Appends segments, each as one more word. After an error a part of them may stand there;
+/// what stood before stays.
+fn put_each_segment(net: &Net, segments: &[Segment], out: &mut Vec<u8>) -> Result<(), AllocError>
+    requires { AreSegments net.now.graph segments.now }
+    ensures line { OnOk result (out.new.items ≡ out.old.items ++ flat_map (segment_word net.now) segments.now) }
+    ensures err { OnErr result (BeginsWith out.old.items out.new.items) }
+{
+    for segment in segments {
+        put_segment(net, *segment, out)?;
+    }
+    Ok(())
+}
+
+/// Appends ` segments SEGMENT SEGMENT ..`, or ` segments none` where there are none.
+/// After an error a part of it may stand there; what stood before stays.
+fn put_segments(net: &Net, segments: &[Segment], out: &mut Vec<u8>) -> Result<(), AllocError>
+    requires { AreSegments net.now.graph segments.now }
+    ensures line { OnOk result (out.new.items ≡ out.old.items ++ segments_text net.now segments.now) }
+    ensures err { OnErr result (BeginsWith out.old.items out.new.items) }
+{
+    if segments.is_empty() {
+        return out.extend_from_slice(b" segments none");
+    }
+    out.extend_from_slice(b" segments")?;
+    put_each_segment(net, segments, out)
+}
+
+/// Appends labels from the last to the first, each as one more word.
+/// After an error a part of them may stand there; what stood before stays.
+fn put_each_label(labels: &[u32], out: &mut Vec<u8>) -> Result<(), AllocError>
+    ensures line { OnOk result (out.new.items ≡ out.old.items ++ flat_map label_word (reverse labels.now)) }
+    ensures err { OnErr result (BeginsWith out.old.items out.new.items) }
+{
+    for label in labels.iter().rev() {
+        put_value(u64::from(*label), out)?;
+    }
+    Ok(())
+}
+
+/// Appends ` labels LABEL LABEL ..` from the top down, or ` labels none` where there are none.
+/// The top is the last of the labels.
+/// After an error a part of it may stand there; what stood before stays.
+fn put_labels(labels: &[u32], out: &mut Vec<u8>) -> Result<(), AllocError>
+    ensures line { OnOk result (out.new.items ≡ out.old.items ++ labels_text labels.now) }
+    ensures err { OnErr result (BeginsWith out.old.items out.new.items) }
+{
+    if labels.is_empty() {
+        return out.extend_from_slice(b" labels none");
+    }
+    out.extend_from_slice(b" labels")?;
+    put_each_label(labels, out)
+}
+
+/// Appends ` via LINK segments SEGMENTS labels LABELS cost C`.
+/// After an error a part of it may stand there; what stood before stays.
+fn put_list(
+    net: &Net,
+    list: &RepairList,
+    labels: &[u32],
+    out: &mut Vec<u8>,
+) -> Result<(), AllocError>
+    requires first { list.now.first.0 < link_count net.now.graph }
+    requires segments { AreSegments net.now.graph list.now.segments }
+    ensures line { OnOk result (out.new.items ≡ out.old.items ++ list_text net.now list.now labels.now) }
+    ensures err { OnErr result (BeginsWith out.old.items out.new.items) }
+{
+    out.extend_from_slice(b" via")?;
+    put_link(net, list.first, out)?;
+    put_segments(net, list.segments.list(), out)?;
+    put_labels(labels, out)?;
+    put_numbered(b" cost ", list.cost, out)
+}
+
+/// Appends a repair, or why there is none. After an error a part of it may stand there;
+/// what stood before stays.
+fn put_answer(
+    net: &Net,
+    answer: &Answer,
+    labels: &[u32],
+    out: &mut Vec<u8>,
+) -> Result<(), AllocError>
+    requires { IsAnswerWithin net.now.graph answer.now }
+    ensures line { OnOk result (out.new.items ≡ out.old.items ++ answer_text net.now answer.now labels.now) }
+    ensures err { OnErr result (BeginsWith out.old.items out.new.items) }
+{
+    match answer {
+        Answer::Least(list) => put_list(net, list, labels, out),
+        Answer::NoPath => out.extend_from_slice(b" uncovered nopath"),
+        Answer::NoList => out.extend_from_slice(b" uncovered nolist"),
+        Answer::TooDeep { needed } => put_numbered(b" uncovered toodeep ", u64::from(*needed), out),
+    }
+}
+
+/// Appends `repair KIND LINK to NODE via LINK segments SEGMENTS labels LABELS cost C`, the answer of
+/// a case for a destination: the protected link after the kind, the first link of the repair after
+/// `via`, the labels from the top down, and `none` in place of no segments or no labels. Where there
+/// is no repair, `repair KIND LINK to NODE uncovered nopath`, `.. uncovered nolist` or
+/// `.. uncovered toodeep K`, where K is the number of segments of the least list.
+/// The top is the last of the labels.
+/// After an error a part of the line may stand there; what stood before stays.
+pub fn put_repair(
+    net: &Net,
+    case: Case,
+    destination: NodeNo,
+    answer: &Answer,
+    labels: &[u32],
+    out: &mut Vec<u8>,
+) -> Result<(), AllocError>
+    requires case { IsCase net.now.graph case }
+    requires destination { destination.0 < node_count net.now.graph }
+    requires answer { IsAnswerWithin net.now.graph answer.now }
+    ensures line { OnOk result (out.new.items ≡ out.old.items ++ repair_line net.now case destination.0 answer.now labels.now) }
+    ensures err { OnErr result (BeginsWith out.old.items out.new.items) }
+{
+    put_case(net, case, destination, out)?;
+    put_answer(net, answer, labels, out)?;
+    end(out)
+}

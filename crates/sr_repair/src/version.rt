@@ -1,0 +1,164 @@
+//! A version: the net of an accepted commit, with what is computed of it.
+ghost use Rattle.std.specs.Prelude.{◌≡◌, ◌+◌, ◌*◌, ◌<◌, ◌≤◌, IfOk, MatchOption};
+ghost use Rattle.sr_model.specs.Case.{IsCase, IsAffected};
+ghost use Rattle.sr_model.specs.Graph.{node_count, link_count};
+ghost use Rattle.sr_model.specs.Repair.{IsCaseAnswer};
+ghost use Rattle.sr_model.specs.Rule.{IsNet};
+ghost use Rattle.sr_spf.specs.Trees.{AreTrees};
+ghost use Rattle.sr_fib.specs.Tables.{IsFib};
+ghost use Rattle.sr_repair.specs.Version.{version_of};
+ghost use Rattle.sr_repair.specs.Stack.{HasNoList, IsStackOf};
+
+use crate::answers::{all_answers, place_of};
+use crate::stack::list_labels;
+use sr_encode::CaseAnswers;
+use sr_fib::Fib;
+use sr_labels::Net;
+use sr_model::{Answer, Case, NodeNo};
+use sr_spf::{Steps, Trees};
+use std::alloc::{AllocError, Global};
+use std::marker::Model;
+use std::sync::ledger::Ledger;
+
+/// The net of an accepted commit, with its number, its trees, its label tables and the answers of all cases. Contracts see
+/// it as number and net: the rest is determined by these.
+#[derive(Drop)]
+pub struct Version {
+    number: u32,
+    net: Net,
+    trees: Trees,
+    fib: Fib,
+    answers: Vec<CaseAnswers>,
+}
+
+impl Model for Version {
+    ghost use Rattle.sr_spf.specs.Trees.{AreTrees};
+    ghost use Rattle.sr_fib.specs.Tables.{IsFib};
+    ghost use Rattle.sr_repair.specs.Answers.{AreAllAnswers, case_count};
+    ghost use Rattle.sr_repair.specs.Version.{Numbered, version_of};
+
+    ghost Value = { Numbered };
+
+    ghost view = { λ v. version_of v.number v.net };
+
+    ghost invariant = { λ v. AreTrees v.net.graph v.trees × IsFib v.net v.fib × AreAllAnswers v.net (case_count v.net.graph) v.answers.items };
+}
+
+impl Version {
+    /// The first version, of this net. At most one search is counted for each node, and one for each case.
+    pub fn opening<L: Ledger>(
+        alloc: Global,
+        net: Net,
+        steps: &mut Steps<L>,
+    ) -> Result<Version, AllocError>
+        ensures version { IfOk result (λ v. v ≡ version_of 1 net) }
+        ensures most { steps.new ≤ steps.old + node_count net.graph + 3 * link_count net.graph }
+    {
+        Version::numbered(alloc, 1, net, steps)
+    }
+
+    /// The version after this one, of this net: the same as `opening` gives, but for the number. At most one search is
+    /// counted for each node, and one for each case.
+    pub fn next<L: Ledger>(
+        &self,
+        alloc: Global,
+        net: Net,
+        steps: &mut Steps<L>,
+    ) -> Result<Version, AllocError>
+        requires { self.now.number < 65535 }
+        ensures version { IfOk result (λ v. v ≡ version_of (self.now.number + 1) net) }
+        ensures most { steps.new ≤ steps.old + node_count net.graph + 3 * link_count net.graph }
+    {
+        Version::numbered(alloc, self.number + 1, net, steps)
+    }
+
+    /// The version after this one, of the same net: nothing is computed.
+    pub fn renumbered(self) -> Version
+        requires { self.number < 65535 }
+        ensures { result ≡ version_of (self.number + 1) self.net }
+    {
+        Version {
+            number: self.number + 1,
+            net: self.net,
+            trees: self.trees,
+            fib: self.fib,
+            answers: self.answers,
+        }
+    }
+
+    /// The version of this number and net.
+    fn numbered<L: Ledger>(
+        alloc: Global,
+        number: u32,
+        net: Net,
+        steps: &mut Steps<L>,
+    ) -> Result<Version, AllocError>
+        ensures version { IfOk result (λ v. v ≡ version_of number net) }
+        ensures most { steps.new ≤ steps.old + node_count net.graph + 3 * link_count net.graph }
+    {
+        let trees = Trees::build(alloc, net.graph(), steps)?;
+        let fib = Fib::build(alloc, &net, &trees)?;
+        let answers = all_answers(alloc, &net, &trees, steps)?;
+        Ok(Version {
+            number,
+            net,
+            trees,
+            fib,
+            answers,
+        })
+    }
+
+    /// The number, counted from 1.
+    pub fn number(&self) -> u32
+        ensures { result ≡ self.now.number }
+    {
+        self.number
+    }
+
+    /// The net.
+    pub fn net(&self) -> &Net
+        ensures value { result.now ≡ self.now.net }
+        ensures net { IsNet self.now.net }
+    {
+        let _graph = self.net.graph();
+        &self.net
+    }
+
+    /// The distances and next hops of the net.
+    pub fn trees(&self) -> &Trees
+        ensures { AreTrees self.now.net.graph result.now }
+    {
+        &self.trees
+    }
+
+    /// The label tables of the net.
+    pub fn fib(&self) -> &Fib
+        ensures { IsFib self.now.net result.now }
+    {
+        &self.fib
+    }
+    /// The answer of the case for the destination (this project's rule). None exactly where the destination isn't affected.
+    pub fn repair(&self, case: Case, destination: NodeNo) -> Option<&Answer>
+        requires case { IsCase self.now.net.graph case }
+        ensures { MatchOption result (IsAffected self.now.net case destination.0 → ⊥) (λ answer. IsAffected self.now.net case destination.0 × IsCaseAnswer self.now.net case destination.0 answer.now) }
+    {
+        let place = place_of(self.net.graph(), case);
+        self.answers[place as usize].answer_for(destination)
+    }
+    /// The labels on the first link of the repair, the top last. None exactly where the destination isn't affected, or its
+    /// answer isn't a list.
+    pub fn stack_of(
+        &self,
+        alloc: Global,
+        case: Case,
+        destination: NodeNo,
+    ) -> Result<Option<Vec<u32>>, AllocError>
+        requires case { IsCase self.now.net.graph case }
+        ensures { IfOk result (λ found. MatchOption found (HasNoList self.now.net case destination.0) (λ labels. IsStackOf self.now.net case destination.0 labels.items)) }
+    {
+        match self.repair(case, destination) {
+            Some(answer) => list_labels(alloc, &self.net, case, destination, answer),
+            None => Ok(None),
+        }
+    }
+}

@@ -1,0 +1,3 @@
+pub mod Strike
+pub mod Below
+pub mod Join

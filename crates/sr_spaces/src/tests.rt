@@ -1,0 +1,162 @@
+//! The spaces of small rings.
+ghost use Rattle.std.specs.Prelude.{◌≡◌, ◌<◌, ◌≤◌, [], length, IfOk};
+ghost use Rattle.sr_model.specs.declared.name.Ident.TheVariants.{None as NoIdent};
+ghost use Rattle.sr_graph.specs.Draft.{IsDraft};
+ghost use Rattle.sr_spf.specs.Trees.{AreTrees};
+
+use crate::{NodeSet, extended_p, p_row, q_set};
+use sr_graph::{Draft, DraftLink, DraftLinks, Graph, Groups, SystemIds};
+use sr_model::{Case, Ident, Kind, LinkKey, LinkNo, NodeNo, SystemId};
+use sr_spf::{Steps, Trees};
+use std::alloc::{AllocError, Global};
+use std::marker::Brand;
+use std::sync::ledger::{Blank, Ledger};
+use std::test::Fail;
+
+/// The system id of a small number.
+fn id(value: u64) -> SystemId
+    requires { value < 256 }
+    ensures { result ≡ value }
+{
+    SystemId::new(value).unwrap()
+}
+
+/// A link of metric 1 with no identity and no groups.
+fn link(alloc: Global, from: u64, to: u64) -> DraftLink
+    requires from { from < 256 }
+    requires to { to < 256 }
+    ensures { result ≡ record { key = record { from = from; to = to; ident = NoIdent }; metric = 1; groups = [] } }
+{
+    DraftLink {
+        key: LinkKey {
+            from: id(from),
+            to: id(to),
+            ident: Ident::None,
+        },
+        metric: 1,
+        groups: Groups::new(Vec::new(alloc)),
+    }
+}
+
+/// Nodes 1 to 4 in a ring.
+fn ring_of_four(alloc: Global) -> Result<Draft, AllocError>
+    ensures { IfOk result IsDraft }
+{
+    let nodes = vec![in alloc; id(1), id(2), id(3), id(4)]?;
+    let links = vec![in alloc;
+        link(alloc, 1, 2),
+        link(alloc, 2, 1),
+        link(alloc, 2, 3),
+        link(alloc, 3, 2),
+        link(alloc, 3, 4),
+        link(alloc, 4, 3),
+        link(alloc, 4, 1),
+        link(alloc, 1, 4),
+    ]?;
+    Ok(Draft {
+        nodes: SystemIds::new(nodes),
+        links: DraftLinks::new(links),
+    })
+}
+
+/// Nodes 1 to 5 in a ring.
+fn ring_of_five(alloc: Global) -> Result<Draft, AllocError>
+    ensures { IfOk result IsDraft }
+{
+    let nodes = vec![in alloc; id(1), id(2), id(3), id(4), id(5)]?;
+    let links = vec![in alloc;
+        link(alloc, 1, 2),
+        link(alloc, 2, 1),
+        link(alloc, 2, 3),
+        link(alloc, 3, 2),
+        link(alloc, 3, 4),
+        link(alloc, 4, 3),
+        link(alloc, 4, 5),
+        link(alloc, 5, 4),
+        link(alloc, 5, 1),
+        link(alloc, 1, 5),
+    ]?;
+    Ok(Draft {
+        nodes: SystemIds::new(nodes),
+        links: DraftLinks::new(links),
+    })
+}
+
+/// The trees of the graph, counted from nothing.
+fn trees_from<L: Ledger>(alloc: Global, graph: &Graph, blank: Blank) -> Result<Trees, AllocError>
+    requires name { blank.name ≡ L.name }
+    requires parts { (blank.parts ≡ L.parts) × (0 < L.parts) }
+    ensures { IfOk result (AreTrees graph.now) }
+{
+    let mut steps = Steps::<L>::new(blank);
+    Trees::build(alloc, graph, &mut steps)
+}
+
+/// The trees of the graph.
+fn trees_of(alloc: Global, graph: &Graph) -> Result<Trees, AllocError>
+    ensures { IfOk result (AreTrees graph.now) }
+{
+    trees_from::<Brand>(alloc, graph, Blank::new(1))
+}
+
+/// The spaces where the pair of nodes 1 and 2 fails: P and extended P of node 1, and Q of node 2.
+#[derive(Drop)]
+struct Spaces {
+    p: NodeSet,
+    extended: NodeSet,
+    q: NodeSet,
+}
+
+/// The spaces of the ring that is drafted. In order of key the link from node 1 to node 2 is the first.
+fn found_in(alloc: Global, draft: Draft) -> Result<Spaces, Fail>
+    requires { IsDraft draft }
+{
+    let graph = Graph::build(alloc, draft)?;
+    if graph.node_count() < 2 || graph.link_count() < 1 {
+        return Err(Fail::new("no ring"));
+    }
+    let case = Case {
+        kind: Kind::Link,
+        link: LinkNo(0),
+    };
+    let failed = graph.failed(alloc, case)?;
+    let trees = trees_of(alloc, &graph)?;
+    Ok(Spaces {
+        p: p_row(alloc, &graph, &trees, NodeNo(0), &failed)?,
+        extended: extended_p(alloc, &graph, &trees, NodeNo(0), &failed)?,
+        q: q_set(alloc, &graph, &trees, NodeNo(1), &failed)?,
+    })
+}
+
+/// Whether the set has just the nodes whose test is true.
+fn tells(set: &NodeSet, tests: &[bool]) -> bool
+    requires { length tests.now ≤ 256 }
+{
+    for node in 0..tests.len() {
+        if set.has(NodeNo(node as u16)) != tests[node] {
+            return false;
+        }
+    }
+    true
+}
+
+#[test]
+fn in_a_ring_of_four(rt: HostRuntime) -> Result<(), Fail> {
+    let alloc = rt.alloc();
+    let spaces = found_in(alloc, ring_of_four(alloc)?)?;
+    // Of two equal ways from 1 to 3, and from 4 to 2, one has the pair.
+    assert!(rt; tells(&spaces.p, [true, false, false, true].as_slice()));
+    assert!(rt; tells(&spaces.extended, [true, false, true, true].as_slice()));
+    assert!(rt; tells(&spaces.q, [false, true, true, false].as_slice()));
+    Ok(())
+}
+
+#[test]
+fn in_a_ring_of_five(rt: HostRuntime) -> Result<(), Fail> {
+    let alloc = rt.alloc();
+    let spaces = found_in(alloc, ring_of_five(alloc)?)?;
+    assert!(rt; tells(&spaces.p, [true, false, false, true, true].as_slice()));
+    assert!(rt; tells(&spaces.extended, [true, false, true, true, true].as_slice()));
+    assert!(rt; tells(&spaces.q, [false, true, true, true, false].as_slice()));
+    Ok(())
+}

@@ -1,0 +1,117 @@
+//! The next hops from one node.
+ghost use Rattle.std.specs.Prelude.{◌≡◌, ◌+◌, ◌<◌, ◌≤◌, ◌↔◌, [], length, slice_index, IsTrue, IfOk, OnOk};
+ghost use Rattle.sr_model.specs.Graph.{node_count, link_count, tail};
+ghost use Rattle.sr_model.specs.Walk.{IsNextHop};
+ghost use Rattle.sr_model.specs.declared.link.TheConstants.{FAR as Far};
+ghost use Rattle.sr_spf.specs.Hops.{hops_to, AddsNextHops, AreHopsFrom, IsCut};
+ghost use Rattle.sr_spf.specs.Trees.{AreRows, row_at};
+
+use crate::cells::Row;
+use sr_graph::{Graph, LinkRange};
+use sr_model::{FAR, LinkNo, NodeNo};
+use std::alloc::{AllocError, Global};
+use std::marker::Model;
+
+/// The next hops from one node to each node. Those towards one node stand together, ascending, and `starts` has the place
+/// where those towards each node begin, and at its end the place where all end.
+#[derive(Debug, Drop)]
+pub(crate) struct HopTable {
+    starts: Vec<u32>,
+    links: Vec<LinkNo>,
+}
+
+impl Model for HopTable {
+    ghost use Rattle.sr_spf.specs.Hops.{HopLists, IsCut};
+
+    ghost Value = { HopLists };
+
+    ghost view = { λ a. record { starts = a.starts.items; links = a.links.items } };
+
+    ghost invariant = { λ a. IsCut (record { starts = a.starts.items; links = a.links.items }) };
+}
+
+impl HopTable {
+    /// The next hops that stand at these places.
+    fn new(starts: Vec<u32>, links: Vec<LinkNo>) -> HopTable
+        requires { IsCut (record { starts = starts.items; links = links.items }) }
+        ensures { result ≡ record { starts = starts.items; links = links.items } }
+    {
+        HopTable { starts, links }
+    }
+
+    /// The next hops towards the node.
+    pub(crate) fn towards(&self, node: NodeNo) -> &[LinkNo]
+        requires { node.0 + 1 < length self.now.starts }
+        ensures { result.now ≡ hops_to self.now node.0 }
+    {
+        let from = self.starts[node.0 as usize] as usize;
+        let end = self.starts[node.0 as usize + 1] as usize;
+        &self.links[from..end]
+    }
+}
+
+/// Whether the link begins a shortest walk to the node. `whole` is the distance to the node from where the link begins.
+fn is_next_hop(graph: &Graph, rows: &[Row], link: LinkNo, to: NodeNo, whole: u64) -> bool
+    requires rows { AreRows graph.now rows.now (node_count graph.now) }
+    requires link { link.0 < link_count graph.now }
+    requires to { to.0 < node_count graph.now }
+    requires whole { whole ≡ slice_index (row_at rows.now (tail graph.now link.0)) to.0 }
+    requires near { whole < Far }
+    ensures { IsTrue result ↔ IsNextHop graph.now [] (tail graph.now link.0) to.0 link.0 }
+{
+    let edge = graph.edge(link);
+    let rest = rows[edge.to.0 as usize].cells()[to.0 as usize];
+    if edge.metric as u64 + rest != whole {
+        return false;
+    }
+    graph.carries(to, edge.to)
+}
+
+/// Adds the next hops from one node to another, ascending.
+fn push_hops(
+    graph: &Graph,
+    rows: &[Row],
+    from: NodeNo,
+    to: NodeNo,
+    links: &mut Vec<LinkNo>,
+) -> Result<(), AllocError>
+    requires rows { AreRows graph.now rows.now (node_count graph.now) }
+    requires from { from.0 < node_count graph.now }
+    requires to { to.0 < node_count graph.now }
+    ensures hops { OnOk result (AddsNextHops graph.now from.0 to.0 links.old.items links.new.items) }
+    ensures few { OnOk result (length links.new.items ≤ length links.old.items + link_count graph.now) }
+{
+    let LinkRange { first, end } = graph.links_from(from);
+    let whole = rows[from.0 as usize].cells()[to.0 as usize];
+    if whole >= FAR {
+        return Ok(());
+    }
+    for link in first..end {
+        if is_next_hop(graph, rows, LinkNo(link), to, whole) {
+            links.push(LinkNo(link))?;
+        }
+    }
+    Ok(())
+}
+
+/// The next hops from the node to each node.
+pub(crate) fn hops_of(
+    alloc: Global,
+    graph: &Graph,
+    rows: &[Row],
+    node: NodeNo,
+) -> Result<HopTable, AllocError>
+    requires rows { AreRows graph.now rows.now (node_count graph.now) }
+    requires node { node.0 < node_count graph.now }
+    ensures { IfOk result (AreHopsFrom graph.now node.0) }
+{
+    let count = graph.node_count();
+    let mut starts = Vec::with_capacity(alloc, count as usize + 1)?;
+    let mut links = Vec::new(alloc);
+    starts.push(0)?;
+    for to in 0..count {
+        push_hops(graph, rows, node, NodeNo(to as u16), &mut links)?;
+        starts.push(links.len() as u32)?;
+    }
+    Ok(HopTable::new(starts, links))
+}
