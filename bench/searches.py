@@ -5,9 +5,9 @@ usage: searches.py PROGRAM [SCRIPT ..]
 
 PROGRAM is the built program. Each SCRIPT begins with a domain's `lsp` lines; its other lines are left out. With no SCRIPT,
 domains of 64, 128 and 256 nodes with 8 links a node are measured, which shows how a search grows. Instructions are counted
-by valgrind, so that other work on the machine doesn't matter. A commit makes one search for each node and one for each of
-the three cases of each link. Prefixes are taken out of the PDUs: without node indices no destination is affected, and the
-program does little else than search. So are overload bits, which a commit refuses.
+by valgrind, so that other work on the machine doesn't matter. A commit makes one search for each node. Prefixes are taken
+out of the PDUs: without node indices no destination is affected, so that no case needs a search. So are overload bits, which
+a commit refuses.
 """
 
 import pathlib
@@ -74,7 +74,7 @@ def measure(name, program, plain, work, pdus):
     nodes, links = graph_of(pdus)
     script = "".join(f"lsp {bare(octets).hex()}\n" for octets in pdus) + "commit\n"
     graph = f"{nodes} {len(links)}\n" + "".join(f"{a} {b} {m}\n" for a, b, m in links)
-    mine = instructions(work, [program, "run"], script.encode(), "dijkstra::row_by") / (nodes + 3 * len(links))
+    mine = instructions(work, [program, "run"], script.encode(), "dijkstra::row_by") / nodes
     theirs = instructions(work, [plain], graph.encode(), "search(") / nodes
     print(f"{name}: {nodes} nodes, {len(links)} links: {mine:,.0f} instructions a search, {theirs:,.0f} in C++, ratio {mine / theirs:.2f}")
 

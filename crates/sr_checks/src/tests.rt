@@ -1,5 +1,6 @@
 //! Whole runs of the program, over the sources and sinks in memory.
 
+mod audits;
 mod cases;
 mod devices;
 mod domains;
@@ -11,6 +12,7 @@ mod pairs;
 mod rings;
 mod routers;
 
+use audits::AUDITS;
 use cases::{CASES, Case};
 use edits::EDITS;
 use field::FIELD;
@@ -19,6 +21,7 @@ use rings::RINGS;
 use sr_base::{SteadySink, SteadySource};
 use sr_run::tilfa;
 use std::alloc::{AllocError, AllocGlobal, Global};
+use std::thread::Threads;
 
 /// The command words that are these, split at spaces.
 fn words(alloc: Global, text: &str) -> Result<Vec<String>, AllocError> {
@@ -30,7 +33,7 @@ fn words(alloc: Global, text: &str) -> Result<Vec<String>, AllocError> {
 }
 
 /// Whether the script is answered as the case says, with its status.
-fn agrees<R: AllocGlobal>(rt: &R, case: &Case) -> Result<bool, AllocError> {
+fn agrees<R: AllocGlobal + Threads + Sync>(rt: &R, case: &Case) -> Result<bool, AllocError> {
     let alloc = rt.alloc();
     let run = words(alloc, "run")?;
     let mut source = SteadySource::new(Vec::from_slice(alloc, case.script.as_bytes())?);
@@ -89,6 +92,14 @@ fn only_the_word_run_is_a_command(rt: HostRuntime) -> Result<(), AllocError> {
         let status = tilfa(&rt, words.as_slice(), &mut source, &mut sink);
         assert_eq!(rt; status, 2, "{text}");
         assert_eq!(rt; sink.bytes().len(), 0, "{text}");
+    }
+    Ok(())
+}
+
+#[test]
+fn flooded_domains_are_audited(rt: HostRuntime) -> Result<(), AllocError> {
+    for case in &AUDITS {
+        assert!(rt; agrees(&rt, case)?, "{}", case.name);
     }
     Ok(())
 }

@@ -1,4 +1,5 @@
 -- The groups of pairs, by the names of their announcements.
+use Rattle.std.specs.Prelude.{Contains}
 use Rattle.std.proofs.Common.{◌≡◌, ℕ, ◌+◌, ◌-◌, ◌<◌, ◌≤◌, arith, ◌||◌, ◌&&◌, Bool, true, false, cond, List, [], ◌∷◌, ◌++◌, map, filter, length, get_or, take, Option, Some, None, refl, ap, sym, ◌∙◌, append_assoc}
 use Rattle.std.specs.Cmp.{IsTotalOrder, IsEquivalence, both_ways}
 use Rattle.std.specs.List.{list_any, dedup, AllByRecursion, AllWithin}
@@ -35,7 +36,7 @@ use Rattle.sr_domain.proofs.KeyLemmas.{any-to, any-from}
 use Rattle.sr_domain.proofs.MemberLemmas.{mapped-to}
 use Rattle.sr_domain.proofs.RunsLemmas.{partitioned-lt}
 use Rattle.sr_domain.specs.Groups.{name_cmp, is_name, numbered_name, unnumbered_name, speaks_of, same_pair, same_number, is_group_of}
-use Rattle.sr_domain.specs.GroupTables.{AddsAll, AreByName, AreByPair, AreInOrder, HasNamedGroups, HaveSameNames, HaveSameNotes, comes_before, entry_cmp, entry_group, entry_of, gives, groups_in, is_in, is_noted, is_of, is_under, link_pair, named, names_from, note_name}
+use Rattle.sr_domain.specs.GroupTables.{AddsAll, AreByName, AreByPair, AreInOrder, HasNamedGroups, HaveSameEntries, HaveSameNames, HaveSameNotes, comes_before, entry_cmp, entry_group, entry_of, gives, groups_in, is_in, is_noted, is_of, is_under, link_pair, named, names_from, note_name}
 
 pub name_total : IsTotalOrder name_cmp
 name_total = name_laws.total-law
@@ -169,6 +170,16 @@ any-names notes q g (a ∷ anns) =
     ∙ ap (λ b. same_pair q pair && b || list_any test (names_from anns)) (spoken notes a g)
     ∙ ap (λ b. same_pair q pair && list_any (λ (n : RiskNote). same_number g n.group && speaks_of n a) notes || b) (any-names notes q g anns)
 
+-- without notes there are no groups
+pub none-spoken : (anns : List Announcement) (pair : PairKey) (g : ℕ) → is_group_of anns [] pair g ≡ false
+none-spoken [] pair g = refl
+none-spoken (a ∷ anns) pair g = ap (λ b. b || is_group_of anns [] pair g) (sym (and_false (same_pair pair (pair_of a.key)))) ∙ none-spoken anns pair g
+
+pub groups-of_none : (table : List PairGroup) (links : List FoundLink) (anns : List Announcement) (said : List RiskNote) → table ≡ [] → said ≡ [] → AreByPair table links anns said
+groups-of_none table links anns said empty silent = λ link g there.
+    ap (list_any (gives (link_pair link) g)) empty
+    ∙ sym (ap (λ (ns : List RiskNote). is_group_of anns ns (link_pair link) g) silent ∙ none-spoken anns (link_pair link) g)
+
 -- entries in strict order are in order of pairs
 first-no_later : (r s : Ordering) → ordering_then r s ≡ Less → is_lt (ordering_reverse r) ≡ false
 first-no_later Less s e = refl
@@ -245,11 +256,85 @@ entry_exact a b h = ap made (exact_pairs pair_cmp nat_cmp pair_exact exact_unsig
     made : PairKey × ℕ → PairGroup
     made n = record { pair = n.0; group = n.1 }
 
-pub table-sorted : (eq : PairGroup → PairGroup → Bool) → ((a b : PairGroup) → eq a b ≡ eq_by_cmp entry_cmp a b) → (names : List PairName) (notes : List RiskNote) (es sorted : List PairGroup) → HasNamedGroups es names notes → IsPermutation es sorted → IsSorted entry_cmp sorted → AreByName (dedup eq sorted) names notes
-table-sorted eq ties names notes es sorted groups moved up = record {
-  ascending = IsStrictlySortedBy-dedup entry_total ties sorted up;
-  each = λ pair g. any-kept entry_total entry_exact eq ties es sorted moved (gives pair g) ∙ groups pair g;
-}
+pub entries-sorted : (eq : PairGroup → PairGroup → Bool) → ((a b : PairGroup) → eq a b ≡ eq_by_cmp entry_cmp a b) → (sorted : List PairGroup) → IsSorted entry_cmp sorted → IsStrictlySortedBy entry_cmp (dedup eq sorted)
+entries-sorted eq ties sorted up = IsStrictlySortedBy-dedup entry_total ties sorted up
+
+pub entries-kept : (eq : PairGroup → PairGroup → Bool) → ((a b : PairGroup) → eq a b ≡ eq_by_cmp entry_cmp a b) → (es sorted : List PairGroup) → IsPermutation es sorted → HaveSameEntries es (dedup eq sorted)
+entries-kept eq ties es sorted moved = any-kept entry_total entry_exact eq ties es sorted moved
+
+pub entry-found : (table : List PairGroup) (entry : PairGroup) (at : ℕ) → at < length table → ((d : PairGroup) → entry_cmp (get_or table at d) entry ≡ Equal) → Contains table entry
+entry-found table entry at within tied = (at, within, entry_exact (get_or table at entry) entry (tied entry))
+
+-- the entries of lower ends, and those of higher ones that they lack
+pub table-joined : (names : List PairName) (notes : List RiskNote) (low high table others joined : List PairGroup) → HasNamedGroups (low ++ high) names notes → HaveSameEntries low table → HaveSameEntries (table ++ high) (table ++ others) → HaveSameEntries (table ++ others) joined → HasNamedGroups joined names notes
+table-joined names notes low high table others joined groups same with all = λ pair g.
+    all (gives pair g) ∙ with (gives pair g)
+    ∙ list_any-append (gives pair g) table high
+    ∙ ap (λ b. b || list_any (gives pair g) high) (same (gives pair g))
+    ∙ sym (list_any-append (gives pair g) low high)
+    ∙ groups pair g
+
+or_last : (a b c : Bool) → (a || (b || (c || false))) ≡ ((a || b) || c)
+or_last true b c = refl
+or_last false true c = refl
+or_last false false true = refl
+or_last false false false = refl
+
+or_known : (a b c : Bool) → (c ≡ true → a ≡ true) → (a || b) ≡ (a || (b || (c || false)))
+or_known true b c known = refl
+or_known false true c known = refl
+or_known false false true known = let bad : false ≡ true = known refl in absurd (cc)
+or_known false false false known = refl
+
+any-next : (test : PairGroup → Bool) (table entries : List PairGroup) (i : ℕ) (e : PairGroup) → i < length entries → e ≡ get_or entries i e → (list_any test table || (list_any test (take i entries) || (test e || false))) ≡ list_any test (table ++ take (i + 1) entries)
+any-next test table entries i e within is =
+    ap (λ (m : PairGroup). list_any test table || (list_any test (take i entries) || (test m || false))) is
+    ∙ ap (λ b. list_any test table || b) (sym (list_any-append test (take i entries) (get_or entries i e ∷ [])))
+    ∙ sym (list_any-append test table (take i entries ++ get_or entries i e ∷ []))
+    ∙ ap (λ (es : List PairGroup). list_any test (table ++ es)) (sym (take_more entries i e within))
+
+-- one more entry, which is kept or is in the table
+pub entries-more : (table entries out : List PairGroup) (i : ℕ) (e : PairGroup) → i < length entries → e ≡ get_or entries i e → HaveSameEntries (table ++ take i entries) (table ++ out) → HaveSameEntries (table ++ take (i + 1) entries) (table ++ (out ++ e ∷ []))
+entries-more table entries out i e within is before = λ test.
+    list_any-append test table (out ++ e ∷ [])
+    ∙ ap (λ b. list_any test table || b) (list_any-append test out (e ∷ []))
+    ∙ or_last (list_any test table) (list_any test out) (test e)
+    ∙ ap (λ b. b || test e) (sym (list_any-append test table out) ∙ before test ∙ list_any-append test table (take i entries))
+    ∙ sym (or_last (list_any test table) (list_any test (take i entries)) (test e))
+    ∙ any-next test table entries i e within is
+
+pub entries-known : (table entries out : List PairGroup) (i : ℕ) (e : PairGroup) → i < length entries → e ≡ get_or entries i e → Contains table e → HaveSameEntries (table ++ take i entries) (table ++ out) → HaveSameEntries (table ++ take (i + 1) entries) (table ++ out)
+entries-known table entries out i e within is there before = λ test.
+    before test
+    ∙ list_any-append test table (take i entries)
+    ∙ or_known (list_any test table) (list_any test (take i entries)) (test e) (any-from test table e there)
+    ∙ any-next test table entries i e within is
+
+-- groups that are added to the entries of one end are added to those of both
+or_swapped : (a b c : Bool) → ((a || b) || c) ≡ ((a || c) || b)
+or_swapped true b c = refl
+or_swapped false true true = refl
+or_swapped false true false = refl
+or_swapped false false true = refl
+or_swapped false false false = refl
+
+or_assoc : (a b c : Bool) → (a || (b || c)) ≡ ((a || b) || c)
+or_assoc true b c = refl
+or_assoc false b c = refl
+
+pub adds-low : (old new high : List PairGroup) (pair : PairKey) (is_added : ℕ → Bool) → AddsAll old new pair is_added → AddsAll (old ++ high) (new ++ high) pair is_added
+adds-low old new high pair is_added adds = λ q v.
+    list_any-append (gives q v) new high
+    ∙ ap (λ b. b || list_any (gives q v) high) (adds q v)
+    ∙ or_swapped (list_any (gives q v) old) (same_pair q pair && is_added v) (list_any (gives q v) high)
+    ∙ ap (λ b. b || same_pair q pair && is_added v) (sym (list_any-append (gives q v) old high))
+
+pub adds-high : (low old new : List PairGroup) (pair : PairKey) (is_added : ℕ → Bool) → AddsAll old new pair is_added → AddsAll (low ++ old) (low ++ new) pair is_added
+adds-high low old new pair is_added adds = λ q v.
+    list_any-append (gives q v) low new
+    ∙ ap (λ b. list_any (gives q v) low || b) (adds q v)
+    ∙ or_assoc (list_any (gives q v) low) (list_any (gives q v) old) (same_pair q pair && is_added v)
+    ∙ ap (λ b. b || same_pair q pair && is_added v) (sym (list_any-append (gives q v) low old))
 
 -- names and notes in order of names
 exact_bool : CmpEqualImpliesEq bool_cmp

@@ -52,6 +52,10 @@ entry_cmp = pair_group.cmp-value.it
 abbrev pub entry_of : PairKey → RiskNote → PairGroup
 entry_of pair note = record { pair = pair; group = note.group }
 
+-- every test finds the same in both lists of entries
+abbrev pub HaveSameEntries : List PairGroup → List PairGroup → Type 0
+HaveSameEntries old new = (test : PairGroup → Bool) → list_any test new ≡ list_any test old
+
 -- the entry is of the pair
 abbrev pub is_of : PairKey → PairGroup → Bool
 is_of pair entry = same_pair pair entry.pair

@@ -3,6 +3,7 @@ ghost use Rattle.std.specs.Prelude.{◌≡◌, ◌++◌, IfOk, OnOk};
 ghost use Rattle.std.specs.List.{filter_map};
 ghost use Rattle.sr_domain.specs.Announced.{is_present as is_present_in, ident_by_ids, ident_of, adj_sid_label, adj_label, least, adj_sid_labels, lesser, announced_by, announcements_of};
 
+use crate::draft::MOST_LINKS;
 use sr_lsdb::Facts;
 use sr_lsp::{LspId, Part, Reach};
 use sr_model::{Ident, LinkKey, SystemId};
@@ -170,7 +171,8 @@ fn add_announced(
 pub(crate) fn announcements(alloc: Global, facts: &Facts) -> Result<Vec<Announcement>, AllocError>
     ensures { IfOk result (λ v. v.items ≡ announcements_of facts.now) }
 {
-    let mut out = Vec::new(alloc);
+    // Room for as many as there are links at most, so that it seldom grows.
+    let mut out = Vec::with_capacity(alloc, MOST_LINKS)?;
     let database = facts.database.as_map();
     for (id, stored) in database {
         if id.pseudonode == 0 && is_present(facts, id.system) {

@@ -29,6 +29,20 @@ fn place_of(nodes: &[SystemId], node: SystemId) -> usize
     }
 }
 
+/// The place of a node that there is. It is sought only where it isn't `near`.
+fn place_near(nodes: &[SystemId], near: usize, node: SystemId) -> usize
+    requires ascending { IsStrictlyIncreasing nodes.now }
+    requires there { Contains nodes.now node }
+    ensures place { result ≡ place_in nodes.now node }
+    ensures within { result < length nodes.now }
+{
+    if near < nodes.len() && nodes[near] == node {
+        near
+    } else {
+        place_of(nodes, node)
+    }
+}
+
 /// The adjacency labels of the links, each with the place of its node.
 fn adj_labels(
     alloc: Global,
@@ -41,13 +55,15 @@ fn adj_labels(
     ensures nodes { IfOk result (λ v. AreOfNodes (length nodes.now) v.items) }
 {
     let mut out = Vec::with_capacity(alloc, links.len())?;
+    // A node's announcements stand together, so that most links begin where the link before begins.
+    let mut near = 0;
     for link in links {
         match link.label {
             None => {}
-            Some(label) => out.push(AdjLabel {
-                node: place_of(nodes, link.key.from),
-                label,
-            })?,
+            Some(label) => {
+                near = place_near(nodes, near, link.key.from);
+                out.push(AdjLabel { node: near, label })?;
+            }
         }
     }
     Ok(out)

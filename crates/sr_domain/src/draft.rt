@@ -19,7 +19,7 @@ use std::alloc::{AllocError, Global};
 use std::cmp::Ordering;
 
 /// The most directed links that a graph has.
-const MOST_LINKS: usize = 2048;
+pub(crate) const MOST_LINKS: usize = 2048;
 
 /// Sorts the links by key.
 pub(crate) fn sort(links: &mut [FoundLink])
@@ -68,6 +68,9 @@ pub(crate) fn pair_groups(
         return Ok(Vec::new(alloc));
     }
     let said = notes(alloc, facts)?;
+    if said.as_slice().is_empty() {
+        return Ok(Vec::new(alloc));
+    }
     let ordered = by_name(said);
     let names = names_of(alloc, links, announced)?;
     let table = by_pair(alloc, &names, &ordered)?;

@@ -1,5 +1,5 @@
 //! The shared-risk groups of pairs of links.
-ghost use Rattle.std.specs.Prelude.{◌≡◌, ℕ, ◌+◌, ◌<◌, ◌≤◌, ◌++◌, true, false, length, map, slice_index_or, Some, IfOk, OnOk};
+ghost use Rattle.std.specs.Prelude.{◌≡◌, ℕ, ◌+◌, ◌<◌, ◌≤◌, ◌++◌, true, false, length, map, slice_index_or, Contains, Some, IfOk, OnOk};
 ghost use Rattle.std.specs.List.{AllWithin, filter};
 ghost use Rattle.std.specs.List.Sorted.{IsStrictlyIncreasing, IsStrictlySortedBy};
 ghost use Rattle.std.specs.Ordering.{is_gt};
@@ -7,7 +7,7 @@ ghost use Rattle.sr_lsdb.specs.Order.{pair_cmp};
 ghost use Rattle.sr_domain.specs.Groups.{name_cmp};
 ghost use Rattle.sr_domain.specs.declared.risks.RiskNote.{RiskNote as Spoken};
 ghost use Rattle.sr_domain.specs.declared.groups.PairGroup.{PairGroup as Grouped};
-ghost use Rattle.sr_domain.specs.GroupTables.{AddsAll, AreByName, AreInOrder, BeginsAt, HasNamedGroups, HaveSameNotes, comes_before, entry_cmp, entry_group, entry_of, groups_in, is_noted, is_of, is_under};
+ghost use Rattle.sr_domain.specs.GroupTables.{AddsAll, AreByName, AreInOrder, BeginsAt, HasNamedGroups, HaveSameEntries, HaveSameNotes, comes_before, entry_cmp, entry_group, entry_of, groups_in, is_noted, is_of, is_under};
 
 use crate::names::PairName;
 use crate::risks::{RiskName, RiskNote};
@@ -138,21 +138,66 @@ fn add_named(
     Ok(start + under.len())
 }
 
+/// The groups that the lower ends of pairs give them, and those that the higher ends give, with repeats.
+#[derive(Drop)]
+struct ByEnd {
+    low: Vec<PairGroup>,
+    high: Vec<PairGroup>,
+}
+
 /// The groups of the pairs by their names, with repeats.
-fn entries(
-    alloc: Global,
-    names: &[PairName],
-    notes: &[RiskNote],
-) -> Result<Vec<PairGroup>, AllocError>
+fn entries(alloc: Global, names: &[PairName], notes: &[RiskNote]) -> Result<ByEnd, AllocError>
     requires { AreInOrder notes.now }
-    ensures { IfOk result (λ v. HasNamedGroups v.items names.now notes.now) }
+    ensures { IfOk result (λ e. HasNamedGroups (e.low.items ++ e.high.items) names.now notes.now) }
 {
-    // Room for one entry a note: mostly a note names one announcement.
-    let mut out = Vec::with_capacity(alloc, notes.len())?;
+    // Room for one entry a note: mostly a note names one announcement, and half of them are of lower ends.
+    let mut low = Vec::with_capacity(alloc, notes.len() / 2)?;
+    let mut high = Vec::with_capacity(alloc, notes.len() / 2)?;
     // Where nodes announce their links in order, the notes of one name begin where those of the name before end.
     let mut near = 0;
     for named in names {
-        near = add_named(notes, named, near, &mut out)?;
+        if named.name.from == named.pair.low {
+            near = add_named(notes, named, near, &mut low)?;
+        } else {
+            near = add_named(notes, named, near, &mut high)?;
+        }
+    }
+    Ok(ByEnd { low, high })
+}
+
+/// The entries in order, each once.
+fn in_order(mut entries: Vec<PairGroup>) -> Vec<PairGroup>
+    ensures same { HaveSameEntries entries.items result.items }
+    ensures ascending { IsStrictlySortedBy entry_cmp result.items }
+{
+    entries.sort_unstable();
+    entries.dedup();
+    entries
+}
+
+/// Whether the entry is found in the table, as it is where it is there and the table in order.
+fn is_found(table: &[PairGroup], entry: &PairGroup) -> bool
+    ensures { result ≡ true → Contains table.now entry.now }
+{
+    match table.binary_search(entry) {
+        Ok(_) => true,
+        Err(_) => false,
+    }
+}
+
+/// Those of the entries that aren't found in the table.
+fn missing(
+    alloc: Global,
+    table: &[PairGroup],
+    entries: &[PairGroup],
+) -> Result<Vec<PairGroup>, AllocError>
+    ensures { IfOk result (λ v. HaveSameEntries (table.now ++ entries.now) (table.now ++ v.items)) }
+{
+    let mut out = Vec::new(alloc);
+    for entry in entries {
+        if !is_found(table, entry) {
+            out.push(*entry)?;
+        }
     }
     Ok(out)
 }
@@ -166,10 +211,12 @@ pub(crate) fn by_pair(
     requires { AreInOrder notes.now }
     ensures { IfOk result (λ v. AreByName v.items names.now notes.now) }
 {
-    let mut table = entries(alloc, names, notes)?;
-    table.sort_unstable();
-    table.dedup();
-    Ok(table)
+    let ByEnd { low, high } = entries(alloc, names, notes)?;
+    // Mostly lower ends speak of their links in order, and higher ends say the same, so that the order costs little.
+    let mut table = in_order(low);
+    let others = missing(alloc, &table, &high)?;
+    table.extend_from_slice(&others)?;
+    Ok(in_order(table))
 }
 
 /// How many of the entries come before one of a later pair.

@@ -3,6 +3,7 @@ ghost use Rattle.std.specs.Prelude.{◌≡◌, ℕ, ◌++◌, map, IfOk, OnOk};
 ghost use Rattle.sr_domain.specs.Groups.{notes_by, notes_from, notes_of, numbered_name, unnumbered_name};
 
 use crate::announced::{Announcement, is_present};
+use crate::draft::MOST_LINKS;
 use sr_lsdb::Facts;
 use sr_lsp::Part;
 use sr_model::{Ident, SystemId};
@@ -77,7 +78,8 @@ fn add_notes(node: SystemId, parts: &[Part], out: &mut Vec<RiskNote>) -> Result<
 pub(crate) fn notes(alloc: Global, facts: &Facts) -> Result<Vec<RiskNote>, AllocError>
     ensures { IfOk result (λ v. v.items ≡ notes_of facts.now) }
 {
-    let mut out = Vec::new(alloc);
+    // Room for one note a link, so that it seldom grows.
+    let mut out = Vec::with_capacity(alloc, MOST_LINKS)?;
     let database = facts.database.as_map();
     for (id, stored) in database {
         if id.pseudonode == 0 && is_present(facts, id.system) {

@@ -16,63 +16,16 @@ use Rattle.sr_model.specs.Label.{Net, Labels, labels_at, nameless}
 use Rattle.sr_model.specs.Case.{IsFailedSet, IsAffected, source_of}
 use Rattle.sr_model.specs.Repair.{IsAnswer, IsCaseAnswer}
 use Rattle.sr_encode.specs.declared.answers.NodeAnswer.{NodeAnswer}
-use Rattle.sr_encode.specs.Serve.{wanted_at, AreNodes}
+use Rattle.sr_encode.specs.Serve.{AreNodes}
+use Rattle.sr_encode.specs.Nodes.{listed_at}
 use Rattle.sr_encode.specs.Answered.{entry_at, destination_at, answer_at, AscendByNode, AreAnswers, AreAffected, AreAnswered}
 
--- what stands for a destination, and for an entry, past the end of a list
-abbrev no_node : NodeNo
-no_node = record { 0 = 0 }
-
+-- what stands for an entry past the end of a list
 abbrev pub no_entry : NodeAnswer
 no_entry = record { destination = record { 0 = 0 }; answer = NoPath }
 
-pub affected-none : (n : Net) (case : Case) → AreAffected n case 0 []
-affected-none n case = record { ascending = λ i j up lt. absurd (omega arith); affected = λ i lt. absurd (omega arith); all = λ d lt a. absurd (omega arith) }
-
--- a node that isn't affected
-pub affected-skip : (n : Net) (case : Case) (m : ℕ) (wanted : List NodeNo) → AreAffected n case m wanted → (IsAffected n case m → ⊥) → AreAffected n case (m + 1) wanted
-affected-skip n case m wanted r none = record {
-  ascending = r.ascending;
-  affected = λ i lt. ((let low : wanted_at wanted i < m = (r.affected i lt).0 in omega arith), (r.affected i lt).1);
-  all = λ d lt a. ⊎_elim
-      (λ (here : d ≡ m). absurd (none (subst (λ k. IsAffected n case k) here a)))
-      (λ (ne : d ≢ m). r.all d (omega arith) a)
-      (cases_eq d m);
-}
-
--- and one that is
-pub affected-push : (n : Net) (case : Case) (v : NodeNo) (wanted : List NodeNo) → AreAffected n case v.0 wanted → IsAffected n case v.0 → AreAffected n case (v.0 + 1) (wanted ++ v ∷ [])
-affected-push n case v wanted r is =
-    let long : length (wanted ++ v ∷ []) ≡ length wanted + 1 = length-append wanted (v ∷ []) in
-    let old : (i : ℕ) → i < length wanted → wanted_at (wanted ++ v ∷ []) i ≡ wanted_at wanted i = λ i lt. ap (λ (k : NodeNo). k.0) (get_or_append_left wanted (v ∷ []) no_node i lt) in
-    let last : wanted_at (wanted ++ v ∷ []) (length wanted) ≡ v.0 = ap (λ (k : NodeNo). k.0) (get_or_push wanted v no_node (length wanted) refl) in
-    record {
-      ascending = λ i j up lt. ⊎_elim
-          (λ (early : j < length wanted). let low : wanted_at wanted i < wanted_at wanted j = r.ascending i j up early in omega (arith, old i (omega arith), old j early))
-          (λ (late : length wanted ≤ j).
-          let at : j ≡ length wanted = omega arith in
-          let low : wanted_at wanted i < v.0 = (r.affected i (omega arith)).0 in
-          let here : wanted_at (wanted ++ v ∷ []) j ≡ v.0 = ap (λ k. wanted_at (wanted ++ v ∷ []) k) at ∙ last in
-          omega (arith, old i (omega arith)))
-          (cases_lt j (length wanted));
-      affected = λ i lt. ⊎_elim
-          (λ (early : i < length wanted). (
-            (let low : wanted_at wanted i < v.0 = (r.affected i early).0 in omega (arith, old i early)),
-            subst (λ k. IsAffected n case k) (sym (old i early)) (r.affected i early).1,
-          ))
-          (λ (late : length wanted ≤ i).
-          let at : i ≡ length wanted = omega arith in
-          let here : wanted_at (wanted ++ v ∷ []) i ≡ v.0 = ap (λ k. wanted_at (wanted ++ v ∷ []) k) at ∙ last in
-          (omega arith, subst (λ k. IsAffected n case k) (sym here) is))
-          (cases_lt i (length wanted));
-      all = λ d lt a. ⊎_elim
-          (λ (here : d ≡ v.0). (length wanted, omega arith, last ∙ sym here))
-          (λ (ne : d ≢ v.0). let q = r.all d (omega arith) a in (q.0, (let below : q.0 < length wanted = q.1 in omega arith), old q.0 q.1 ∙ q.2))
-          (cases_eq d v.0);
-    }
-
 pub affected-nodes : (n : Net) (case : Case) (wanted : List NodeNo) → AreAffected n case (node_count n.graph) wanted → AreNodes n wanted
-affected-nodes n case wanted r j lt = (r.affected j lt).0
+affected-nodes n case wanted r j lt = (r.each j lt).0
 
 -- what is affected is a node
 none_index : (o : Option ℕ) → o ≡ None → is_some o ≡ true → ⊥
@@ -92,21 +45,21 @@ pub answered-none : (n : Net) (x : List Bool) (s : ℕ) (wanted : List NodeNo) �
 answered-none n x s wanted = record { long = refl; nodes = λ i lt. absurd (omega arith); answers = λ i lt. absurd (omega arith) }
 
 -- one answer more
-pub answered-push : (n : Net) (x : List Bool) (s : ℕ) (wanted : List NodeNo) (m : ℕ) (list : List NodeAnswer) (entry : NodeAnswer) → AreAnswered n x s wanted m list → entry.destination.0 ≡ wanted_at wanted m → IsAnswer n x s (wanted_at wanted m) entry.answer → AreAnswered n x s wanted (m + 1) (list ++ entry ∷ [])
+pub answered-push : (n : Net) (x : List Bool) (s : ℕ) (wanted : List NodeNo) (m : ℕ) (list : List NodeAnswer) (entry : NodeAnswer) → AreAnswered n x s wanted m list → entry.destination.0 ≡ listed_at wanted m → IsAnswer n x s (listed_at wanted m) entry.answer → AreAnswered n x s wanted (m + 1) (list ++ entry ∷ [])
 answered-push n x s wanted m list entry r node answer =
     let old : (i : ℕ) → i < m → entry_at (list ++ entry ∷ []) i ≡ entry_at list i = λ i lt. get_or_append_left list (entry ∷ []) no_entry i (omega (arith, r.long)) in
     let last : entry_at (list ++ entry ∷ []) m ≡ entry = get_or_push list entry no_entry m r.long in
     record {
       long = length-append list (entry ∷ []) ∙ omega (arith, r.long);
       nodes = λ i lt. ⊎_elim
-          (λ (here : i ≡ m). ap (λ k. destination_at (list ++ entry ∷ []) k) here ∙ ap (λ (e : NodeAnswer). e.destination.0) last ∙ node ∙ ap (λ k. wanted_at wanted k) (sym here))
+          (λ (here : i ≡ m). ap (λ k. destination_at (list ++ entry ∷ []) k) here ∙ ap (λ (e : NodeAnswer). e.destination.0) last ∙ node ∙ ap (λ k. listed_at wanted k) (sym here))
           (λ (ne : i ≢ m). ap (λ (e : NodeAnswer). e.destination.0) (old i (omega arith)) ∙ r.nodes i (omega arith))
           (cases_eq i m);
       answers = λ i lt. ⊎_elim
           (λ (here : i ≡ m).
-          let P : ℕ → Type 0 = λ k. IsAnswer n x s (wanted_at wanted k) (answer_at (list ++ entry ∷ []) k) in
-          subst P (sym here) (subst (λ (e : NodeAnswer). IsAnswer n x s (wanted_at wanted m) e.answer) (sym last) answer))
-          (λ (ne : i ≢ m). subst (λ (e : NodeAnswer). IsAnswer n x s (wanted_at wanted i) e.answer) (sym (old i (omega arith))) (r.answers i (omega arith)))
+          let P : ℕ → Type 0 = λ k. IsAnswer n x s (listed_at wanted k) (answer_at (list ++ entry ∷ []) k) in
+          subst P (sym here) (subst (λ (e : NodeAnswer). IsAnswer n x s (listed_at wanted m) e.answer) (sym last) answer))
+          (λ (ne : i ≢ m). subst (λ (e : NodeAnswer). IsAnswer n x s (listed_at wanted i) e.answer) (sym (old i (omega arith))) (r.answers i (omega arith)))
           (cases_eq i m);
     }
 
@@ -115,9 +68,9 @@ pub answers-over : (n : Net) (case : Case) (x : List Bool) (wanted : List NodeNo
 answers-over n case x wanted list long set r a = record {
   ascending = λ i j up lt.
       let within : j < length wanted = omega (arith, a.long) in
-      let low : wanted_at wanted i < wanted_at wanted j = r.ascending i j up within in
+      let low : listed_at wanted i < listed_at wanted j = r.ascending i j up within in
       omega (arith, a.nodes i (omega arith), a.nodes j within);
-  affected = λ i lt. let within : i < length wanted = omega (arith, a.long) in subst (λ k. IsAffected n case k) (sym (a.nodes i within)) (r.affected i within).1;
+  affected = λ i lt. let within : i < length wanted = omega (arith, a.long) in subst (λ k. IsAffected n case k) (sym (a.nodes i within)) (r.each i within).1;
   answers = λ i lt. let within : i < length wanted = omega (arith, a.long) in
       subst (λ k. IsCaseAnswer n case k (answer_at list i)) (sym (a.nodes i within)) (record { failed = x; set = set; answers = a.answers i within });
   all = λ d is.

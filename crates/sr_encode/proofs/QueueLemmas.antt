@@ -69,7 +69,7 @@ fresh-from : (known : List (Option Path)) (order : List ℕ) (queue : List Waypo
 fresh-from known order queue met v r e = none_of (slice_index_or known v None) (sym (r.marked v) ∙ e)
 
 -- and one that was has one
-list-from : (known : List (Option Path)) (order : List ℕ) (queue : List Waypoint) (met : List Bool) (v : ℕ) → Agrees known order queue met → has met v ≡ true → (b : Path) × Knows known v b
+pub list-from : (known : List (Option Path)) (order : List ℕ) (queue : List Waypoint) (met : List Bool) (v : ℕ) → Agrees known order queue met → has met v ≡ true → (b : Path) × Knows known v b
 list-from known order queue met v r e = some_of (slice_index_or known v None) (sym (r.marked v) ∙ e)
 
 -- one waypoint more

@@ -8,7 +8,7 @@ use Rattle.sr_model.specs.Label.{Net}
 use Rattle.sr_model.specs.Case.{IsAffected}
 use Rattle.sr_model.specs.Repair.{IsAnswer, IsCaseAnswer}
 use Rattle.sr_encode.specs.declared.answers.NodeAnswer.{NodeAnswer}
-use Rattle.sr_encode.specs.Serve.{wanted_at}
+use Rattle.sr_encode.specs.Nodes.{listed_at, AreThose}
 
 -- the answer at place i, with its destination
 abbrev pub entry_at : List NodeAnswer → ℕ → NodeAnswer
@@ -42,13 +42,11 @@ pub record AreAnswers (n : Net) (case : Case) (list : List NodeAnswer) : Type 0 
   pub all : (d : ℕ) → IsAffected n case d → (i : ℕ) × (i < length list) × (destination_at list i ≡ d)
 
 -- the nodes are the affected destinations below m, ascending
-pub record AreAffected (n : Net) (case : Case) (m : ℕ) (wanted : List NodeNo) : Type 0 where
-  pub ascending : (i j : ℕ) → i < j → j < length wanted → wanted_at wanted i < wanted_at wanted j
-  pub affected : (i : ℕ) → i < length wanted → (wanted_at wanted i < m) × IsAffected n case (wanted_at wanted i)
-  pub all : (d : ℕ) → d < m → IsAffected n case d → (i : ℕ) × (i < length wanted) × (wanted_at wanted i ≡ d)
+abbrev pub AreAffected : Net → Case → ℕ → List NodeNo → Type 0
+AreAffected n case m wanted = AreThose (IsAffected n case) m wanted
 
 -- the list has the first m destinations, each with its answer
 pub record AreAnswered (n : Net) (x : List Bool) (s : ℕ) (wanted : List NodeNo) (m : ℕ) (list : List NodeAnswer) : Type 0 where
   pub long : length list ≡ m
-  pub nodes : (i : ℕ) → i < m → destination_at list i ≡ wanted_at wanted i
-  pub answers : (i : ℕ) → i < m → IsAnswer n x s (wanted_at wanted i) (answer_at list i)
+  pub nodes : (i : ℕ) → i < m → destination_at list i ≡ listed_at wanted i
+  pub answers : (i : ℕ) → i < m → IsAnswer n x s (listed_at wanted i) (answer_at list i)

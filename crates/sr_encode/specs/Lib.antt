@@ -1,4 +1,5 @@
 pub mod Waypoints
+pub mod Nodes
 pub mod Search
 pub mod Serve
 pub mod Answered

@@ -1,5 +1,5 @@
 -- Which waypoints serve which destinations.
-use Rattle.std.specs.Prelude.{◌≡◌, ℕ, ◌+◌, ◌<◌, Bool, true, List, [], length, Option, Some, None, slice_index, slice_index_or}
+use Rattle.std.specs.Prelude.{◌≡◌, ℕ, ◌+◌, ◌<◌, Bool, true, List, [], length, filter, All, Contains, Option, Some, None, is_none, slice_index, slice_index_or}
 use Rattle.sr_model.specs.declared.link.NodeNo.{NodeNo}
 use Rattle.sr_model.specs.declared.link.TheConstants.{FAR}
 use Rattle.sr_model.specs.Graph.{node_count, carries}
@@ -9,6 +9,7 @@ use Rattle.sr_model.specs.Walk.{IsDistance}
 use Rattle.sr_model.specs.Repair.{Path, IsSound, IsLeast}
 use Rattle.sr_encode.specs.declared.waypoint.Waypoint.{Waypoint}
 use Rattle.sr_encode.specs.Waypoints.{node_at, path_to, AreParents}
+use Rattle.sr_encode.specs.Nodes.{listed_at}
 
 -- lists to w can end there towards d: w is d or isn't overloaded, has d in its P, and keeps to the distances in post as far as d
 pub record EndsAt (n : Net) (x : List Bool) (post : List ℕ) (w d : ℕ) : Type 0 where
@@ -27,17 +28,13 @@ abbrev pub IsFirstLeast : Net → List Bool → ℕ → List ℕ → List Waypoi
 IsFirstLeast n x s post queue i =
     (d : ℕ) → d < node_count n.graph → NoneEnds n x post queue d i → EndsAt n x post (node_at queue i) d → IsLeast n x s d (path_to queue i)
 
--- the destination at place j
-abbrev pub wanted_at : List NodeNo → ℕ → ℕ
-wanted_at wanted j = (slice_index_or wanted j (record { 0 = 0 })).0
-
 -- the place in the queue of the waypoint that serves the destination at place j, if one does
 abbrev pub place_at : List (Option ℕ) → ℕ → Option ℕ
 place_at places j = slice_index_or places j None
 
 -- the destinations are nodes
 abbrev pub AreNodes : Net → List NodeNo → Type 0
-AreNodes n wanted = (j : ℕ) → j < length wanted → wanted_at wanted j < node_count n.graph
+AreNodes n wanted = (j : ℕ) → j < length wanted → listed_at wanted j < node_count n.graph
 
 -- the waypoint at this place has the least sound list to d
 abbrev pub IsServedBy : Net → List Bool → ℕ → List Waypoint → ℕ → Option ℕ → Type 0
@@ -51,11 +48,20 @@ pub record IsServed (n : Net) (x : List Bool) (s : ℕ) (post : List ℕ) (queue
 -- so it is with each destination
 pub record AreServed (n : Net) (x : List Bool) (s : ℕ) (post : List ℕ) (queue : List Waypoint) (i : ℕ) (wanted : List NodeNo) (places : List (Option ℕ)) : Type 0 where
   pub long : length places ≡ length wanted
-  pub each : (j : ℕ) → j < length wanted → IsServed n x s post queue i (wanted_at wanted j) (place_at places j)
+  pub each : (j : ℕ) → j < length wanted → IsServed n x s post queue i (listed_at wanted j) (place_at places j)
 
--- each destination with a walk is served
-abbrev pub IsOver : List ℕ → List NodeNo → List (Option ℕ) → Type 0
-IsOver post wanted places = (j : ℕ) → j < length wanted → slice_index post (wanted_at wanted j) < FAR → place_at places j ≡ None → ⊥
+-- the destination at place j has a walk and isn't served yet
+abbrev pub IsUnserved : List ℕ → List NodeNo → List (Option ℕ) → ℕ → Type 0
+IsUnserved post wanted places j = (slice_index post (listed_at wanted j) < FAR) × (place_at places j ≡ None)
+
+-- the list has the place of each such destination, and no place behind the last destination
+pub record HasUnserved (post : List ℕ) (wanted : List NodeNo) (places : List (Option ℕ)) (unserved : List ℕ) : Type 0 where
+  pub inside : All (λ j. j < length wanted) unserved
+  pub all : (j : ℕ) → j < length wanted → IsUnserved post wanted places j → Contains unserved j
+
+-- those of the places whose destination no waypoint serves
+abbrev pub not_served : List (Option ℕ) → List ℕ → List ℕ
+not_served places unserved = filter (λ j. is_none (place_at places j)) unserved
 
 -- d is served, or no list to it is sound, or no walk leads there
 pub record IsFound (n : Net) (x : List Bool) (s : ℕ) (post : List ℕ) (queue : List Waypoint) (d : ℕ) (place : Option ℕ) : Type 0 where
@@ -66,4 +72,4 @@ pub record IsFound (n : Net) (x : List Bool) (s : ℕ) (post : List ℕ) (queue 
 pub record AreFound (n : Net) (x : List Bool) (s : ℕ) (post : List ℕ) (queue : List Waypoint) (wanted : List NodeNo) (places : List (Option ℕ)) : Type 0 where
   pub parents : AreParents queue
   pub long : length places ≡ length wanted
-  pub each : (j : ℕ) → j < length wanted → IsFound n x s post queue (wanted_at wanted j) (place_at places j)
+  pub each : (j : ℕ) → j < length wanted → IsFound n x s post queue (listed_at wanted j) (place_at places j)

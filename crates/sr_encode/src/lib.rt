@@ -7,6 +7,8 @@ mod answers;
 mod repairs;
 mod search;
 mod serve;
+mod unmet;
+mod unserved;
 mod waypoint;
 
 pub use answers::{CaseAnswers, NodeAnswer};

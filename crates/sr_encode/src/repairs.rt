@@ -12,6 +12,8 @@ use crate::answer::answer_of;
 use crate::answers::{CaseAnswers, NodeAnswer};
 use crate::search::begin_all;
 use crate::serve::explore;
+use crate::unmet::unmet_nodes;
+use crate::unserved::unserved_places;
 use crate::waypoint::Waypoint;
 use sr_graph::LinkSet;
 use sr_labels::Net;
@@ -69,8 +71,9 @@ fn search(
     let mut places = vec![in alloc; None; wanted.len()]?;
     let mut queue = Vec::new(alloc);
     begin_all(net, cells, failed, source, &mut met, &mut queue)?;
+    let mut unmet = unmet_nodes(alloc, &met)?;
+    let mut unserved = unserved_places(alloc, cells, wanted, &places)?;
     explore(
-        alloc,
         net,
         trees,
         cells,
@@ -78,7 +81,9 @@ fn search(
         source,
         wanted,
         &mut met,
+        &mut unmet,
         &mut queue,
+        &mut unserved,
         &mut places,
     )?;
     Ok(Found { queue, places })

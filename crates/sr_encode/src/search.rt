@@ -3,32 +3,35 @@ ghost use Rattle.std.specs.Prelude.{◌≡◌, ◌+◌, ◌<◌, ◌∷◌, ◌+
 ghost use Rattle.sr_model.specs.declared.repair.Segment.TheVariants.{Node, Adj};
 ghost use Rattle.sr_model.specs.Graph.{node_count, link_count, tail, head, is_overloaded, IsGraph};
 ghost use Rattle.sr_model.specs.Walk.{IsRow};
-ghost use Rattle.sr_spaces.specs.Below.{IsP};
+ghost use Rattle.sr_spf.specs.Trees.{AreTrees};
 ghost use Rattle.sr_encode.specs.Waypoints.{waypoint_at, node_at, met_from, Extends};
+ghost use Rattle.sr_encode.specs.Nodes.{AreUnmet};
 ghost use Rattle.sr_encode.specs.Search.{StepsTo, IsSearching, IsStarting};
 
+use crate::unmet::forget_met;
 use crate::waypoint::Waypoint;
 use sr_graph::{LinkRange, LinkSet};
 use sr_labels::Net;
 use sr_model::{LinkNo, NodeNo, Segment};
-use sr_spaces::NodeSet;
+use sr_spaces::in_p;
+use sr_spf::Trees;
 use std::alloc::AllocError;
 
 /// Whether the node segment of v leads on from waypoint w, and keeps to the distances from the
-/// source. `row` has the distances from w, and `space` is its P.
+/// source. `row` has the distances from w.
 fn leads_to_node(
     net: &Net,
+    trees: &Trees,
     row: &[u64],
     cells: &[u64],
     failed: &LinkSet,
     source: NodeNo,
-    space: &NodeSet,
     w: NodeNo,
     v: NodeNo,
 ) -> bool
+    requires trees { AreTrees net.now.graph trees.now }
     requires row { IsRow net.now.graph [] w.0 row.now }
     requires cells { IsRow net.now.graph failed.now source.0 cells.now }
-    requires space { IsP net.now.graph failed.now w.0 space.now }
     requires w { w.0 < node_count net.now.graph }
     requires clear { is_overloaded net.now.graph w.0 ≡ false }
     requires v { v.0 < node_count net.now.graph }
@@ -40,10 +43,11 @@ fn leads_to_node(
     if v.0 == w.0 {
         return false;
     }
-    if !space.has(v) {
+    if net.labels(v).index().is_none() {
         return false;
     }
-    net.labels(v).index().is_some()
+    // Asked last, since the failed links have to be gone through.
+    in_p(net.graph(), trees, w, failed, v)
 }
 
 /// Whether the adjacency segment of the link leads on from waypoint w, where the link begins, and
@@ -103,20 +107,20 @@ fn meet(
 /// Looks at the node segment of v, after the waypoint w at place i.
 fn look_at_node(
     net: &Net,
+    trees: &Trees,
     row: &[u64],
     cells: &[u64],
     failed: &LinkSet,
     source: NodeNo,
-    space: &NodeSet,
     met: &mut [bool],
     queue: &mut Vec<Waypoint>,
     i: usize,
     w: NodeNo,
     v: NodeNo,
 ) -> Result<(), AllocError>
+    requires trees { AreTrees net.now.graph trees.now }
     requires row { IsRow net.now.graph [] w.0 row.now }
     requires cells { IsRow net.now.graph failed.now source.0 cells.now }
-    requires space { IsP net.now.graph failed.now w.0 space.now }
     requires search { IsSearching net.now failed.now source.0 cells.now queue.old.items met.old i v.0 }
     requires i { i < length queue.old.items }
     requires w { node_at queue.old.items i ≡ w.0 }
@@ -129,7 +133,7 @@ fn look_at_node(
     if met[v.0 as usize] {
         return Ok(());
     }
-    if !leads_to_node(net, row, cells, failed, source, space, w, v) {
+    if !leads_to_node(net, trees, row, cells, failed, source, w, v) {
         return Ok(());
     }
     meet(met, queue, i, v, Segment::Node(v))?;
@@ -169,51 +173,103 @@ fn look_over(
     Ok(())
 }
 
-/// Looks at every segment after the waypoint w at place i: the nodes first, then the links that
-/// begin there. Nothing leads on from an overloaded node.
-pub(crate) fn expand(
+/// Looks at the node segments after the waypoint w at place i. A node that was met before needs no
+/// look, since the list known to it is less.
+fn look_at_nodes(
     net: &Net,
+    trees: &Trees,
     row: &[u64],
     cells: &[u64],
     failed: &LinkSet,
     source: NodeNo,
-    space: &NodeSet,
+    met: &mut [bool],
+    unmet: &[NodeNo],
+    queue: &mut Vec<Waypoint>,
+    i: usize,
+    w: NodeNo,
+) -> Result<(), AllocError>
+    requires trees { AreTrees net.now.graph trees.now }
+    requires row { IsRow net.now.graph [] w.0 row.now }
+    requires cells { IsRow net.now.graph failed.now source.0 cells.now }
+    requires search { IsSearching net.now failed.now source.0 cells.now queue.old.items met.old i 0 }
+    requires unmet { AreUnmet met.old unmet.now }
+    requires i { i < length queue.old.items }
+    requires w { node_at queue.old.items i ≡ w.0 }
+    requires clear { is_overloaded net.now.graph w.0 ≡ false }
+    ensures search { OnOk result (IsSearching net.now failed.now source.0 cells.now queue.new.items met.new i (node_count net.now.graph)) }
+    ensures longer { OnOk result (Extends queue.old.items queue.new.items) }
+{
+    for j in 0..unmet.len() {
+        look_at_node(
+            net, trees, row, cells, failed, source, met, queue, i, w, unmet[j],
+        )?;
+    }
+    Ok(())
+}
+
+/// Looks at the adjacency segments after the waypoint w at place i, those of the links that begin
+/// there.
+fn look_over_links(
+    net: &Net,
+    cells: &[u64],
+    failed: &LinkSet,
+    source: NodeNo,
     met: &mut [bool],
     queue: &mut Vec<Waypoint>,
     i: usize,
     w: NodeNo,
 ) -> Result<(), AllocError>
-    requires row { IsRow net.now.graph [] w.0 row.now }
     requires cells { IsRow net.now.graph failed.now source.0 cells.now }
-    requires space { IsP net.now.graph failed.now w.0 space.now }
-    requires search { IsSearching net.now failed.now source.0 cells.now queue.old.items met.old i 0 }
+    requires search { IsSearching net.now failed.now source.0 cells.now queue.old.items met.old i (node_count net.now.graph) }
     requires i { i < length queue.old.items }
     requires w { node_at queue.old.items i ≡ w.0 }
+    requires clear { is_overloaded net.now.graph w.0 ≡ false }
     ensures search { OnOk result (IsSearching net.now failed.now source.0 cells.now queue.new.items met.new (i + 1) 0) }
     ensures longer { OnOk result (Extends queue.old.items queue.new.items) }
 {
-    let graph = net.graph();
-    if graph.is_overloaded(w) {
-        return Ok(());
-    }
-    for v in 0..graph.node_count() as u16 {
-        look_at_node(
-            net,
-            row,
-            cells,
-            failed,
-            source,
-            space,
-            met,
-            queue,
-            i,
-            w,
-            NodeNo(v),
-        )?;
-    }
-    let LinkRange { first, end } = graph.links_from(w);
+    let LinkRange { first, end } = net.graph().links_from(w);
     for link in first..end {
         look_over(net, cells, failed, source, met, queue, i, w, LinkNo(link))?;
+    }
+    Ok(())
+}
+
+/// Looks at every segment after the waypoint w at place i: the nodes first, then the links that
+/// begin there. Nothing leads on from an overloaded node. `unmet` has the nodes that aren't met.
+pub(crate) fn expand(
+    net: &Net,
+    trees: &Trees,
+    row: &[u64],
+    cells: &[u64],
+    failed: &LinkSet,
+    source: NodeNo,
+    met: &mut [bool],
+    unmet: &mut Vec<NodeNo>,
+    queue: &mut Vec<Waypoint>,
+    i: usize,
+    w: NodeNo,
+) -> Result<(), AllocError>
+    requires trees { AreTrees net.now.graph trees.now }
+    requires row { IsRow net.now.graph [] w.0 row.now }
+    requires cells { IsRow net.now.graph failed.now source.0 cells.now }
+    requires search { IsSearching net.now failed.now source.0 cells.now queue.old.items met.old i 0 }
+    requires unmet { AreUnmet met.old unmet.old.items }
+    requires i { i < length queue.old.items }
+    requires w { node_at queue.old.items i ≡ w.0 }
+    ensures search { OnOk result (IsSearching net.now failed.now source.0 cells.now queue.new.items met.new (i + 1) 0) }
+    ensures unmet { OnOk result (AreUnmet met.new unmet.new.items) }
+    ensures longer { OnOk result (Extends queue.old.items queue.new.items) }
+{
+    if net.graph().is_overloaded(w) {
+        return Ok(());
+    }
+    let count = queue.len();
+    look_at_nodes(
+        net, trees, row, cells, failed, source, met, unmet, queue, i, w,
+    )?;
+    look_over_links(net, cells, failed, source, met, queue, i, w)?;
+    if queue.len() > count {
+        forget_met(met, unmet);
     }
     Ok(())
 }

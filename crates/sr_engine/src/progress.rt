@@ -6,6 +6,7 @@ ghost use Rattle.sr_engine.specs.Moments.{Advances, AnswersLine, CarriesOn, Clos
 use crate::session::Session;
 use memchr::memchr;
 use std::alloc::{AllocError, Global};
+use std::thread::Threads;
 
 /// The most bytes that a line may have.
 const LONGEST_LINE: usize = 140_000;
@@ -38,6 +39,7 @@ fn keep(kept: &mut Vec<u8>, more: &[u8]) -> Result<(), AllocError>
 
 /// Answers the line that these bytes end, and holds nothing of it any more.
 fn answer_line<T: Session>(
+    rt: &(impl Threads + Sync),
     session: &mut T,
     number: u32,
     kept: &mut Vec<u8>,
@@ -49,11 +51,11 @@ fn answer_line<T: Session>(
 {
     if kept.as_slice().is_empty() {
         let count = line.len().min(LONGEST_LINE + 1);
-        let refused = session.answer(number, &line[..count], out)?;
+        let refused = session.answer(rt, number, &line[..count], out)?;
         return Ok(refused);
     }
     keep(kept, line)?;
-    let refused = session.answer(number, kept.as_slice(), out)?;
+    let refused = session.answer(rt, number, kept.as_slice(), out)?;
     kept.clear();
     Ok(refused)
 }
@@ -91,13 +93,14 @@ impl<T: Session> Progress<T> {
     }
 
     /// Answers the line that these bytes and a line feed end.
-    fn end_line(&mut self, line: &[u8]) -> Result<(), AllocError>
+    fn end_line(&mut self, rt: &(impl Threads + Sync), line: &[u8]) -> Result<(), AllocError>
         requires room { self.old.lines + 1 < 2 ^ 32 }
         requires line { IsUnbroken line.now }
         ensures { OnOk result (CarriesOn T.answers self.old (line.now ++ 10 ∷ []) self.new) }
     {
         let number = self.lines + 1;
         let refused = answer_line(
+            rt,
             &mut self.session,
             number,
             &mut self.kept,
@@ -120,14 +123,18 @@ impl<T: Session> Progress<T> {
 
     /// Answers the lines that end within the next bytes, and says how many of these bytes it took: all, or where many
     /// answers are gathered only those up to a line feed.
-    pub fn carry_on(&mut self, piece: &[u8]) -> Result<usize, AllocError>
+    pub fn carry_on(
+        &mut self,
+        rt: &(impl Threads + Sync),
+        piece: &[u8],
+    ) -> Result<usize, AllocError>
         requires room { self.old.lines + length piece.now < 2 ^ 32 }
         requires some { 0 < length piece.now }
         ensures { IfOk result (λ count. Advances T.answers self.old piece.now count self.new) }
     {
         let mut at = 0;
         'lines: while let Some(count) = memchr(b'\n', &piece[at..]) {
-            self.end_line(&piece[at..at + count])?;
+            self.end_line(rt, &piece[at..at + count])?;
             at += count + 1;
             if self.out.len() > GATHERED {
                 return Ok(at);
@@ -138,7 +145,7 @@ impl<T: Session> Progress<T> {
     }
 
     /// Answers the line that no line feed ends, where there is one.
-    fn end_last_line(&mut self) -> Result<(), AllocError>
+    fn end_last_line(&mut self, rt: &(impl Threads + Sync)) -> Result<(), AllocError>
         requires { self.old.lines + 1 < 2 ^ 32 }
         ensures { OnOk result (EndsLast T.answers self.old self.new) }
     {
@@ -147,6 +154,7 @@ impl<T: Session> Progress<T> {
         }
         let number = self.lines + 1;
         let refused = answer_line(
+            rt,
             &mut self.session,
             number,
             &mut self.kept,
@@ -158,11 +166,11 @@ impl<T: Session> Progress<T> {
     }
 
     /// Answers the line that no line feed ends, and the end of the script.
-    pub fn finish(&mut self) -> Result<(), AllocError>
+    pub fn finish(&mut self, rt: &(impl Threads + Sync)) -> Result<(), AllocError>
         requires { self.old.lines + 1 < 2 ^ 32 }
         ensures { OnOk result (Closes T.answers T.ends self.old self.new) }
     {
-        self.end_last_line()?;
+        self.end_last_line(rt)?;
         self.session.finish(&mut self.out)?;
         Ok(())
     }

@@ -10,6 +10,7 @@ use crate::progress::Progress;
 use crate::session::Session;
 use sr_base::{Sink, SinkFault, Source};
 use std::alloc::Global;
+use std::thread::Threads;
 
 /// How a run ended.
 #[derive(Debug, Drop, Clone, Copy)]
@@ -61,6 +62,7 @@ fn ending(fault: SinkFault) -> End
 
 /// Answers the lines that end within the next bytes, and writes the answers. A fault is the sink's, or want of memory.
 fn answer_piece<T: Session, K: Sink>(
+    rt: &(impl Threads + Sync),
     progress: &mut Progress<T>,
     piece: &[u8],
     sink: &mut K,
@@ -71,7 +73,7 @@ fn answer_piece<T: Session, K: Sink>(
 {
     let mut at = 0;
     'stretches: while at < piece.len() {
-        match progress.carry_on(&piece[at..]) {
+        match progress.carry_on(rt, &piece[at..]) {
             Ok(count) => at += count,
             Err(error) => return Err(SinkFault::Memory(error)),
         }
@@ -84,11 +86,15 @@ fn answer_piece<T: Session, K: Sink>(
 }
 
 /// Answers what is held and the end of the script, and writes the answers.
-fn end_script<T: Session, K: Sink>(progress: &mut Progress<T>, sink: &mut K) -> End
+fn end_script<T: Session, K: Sink>(
+    rt: &(impl Threads + Sync),
+    progress: &mut Progress<T>,
+    sink: &mut K,
+) -> End
     requires { progress.old.lines + 1 < 2 ^ 32 }
     ensures { Finishes T.answers T.ends progress.old progress.new (K.held sink.old) (K.held sink.new) (K.faults sink.old) (K.faults sink.new) result }
 {
-    match progress.finish() {
+    match progress.finish(rt) {
         Ok(()) => {}
         Err(_) => return End::Memory,
     }
@@ -100,6 +106,7 @@ fn end_script<T: Session, K: Sink>(progress: &mut Progress<T>, sink: &mut K) -> 
 
 /// Reads piece after piece, at most one byte past the limit, and has each answered before the next is read.
 fn read_all<T: Session, S: Source, K: Sink>(
+    rt: &(impl Threads + Sync),
     progress: &mut Progress<T>,
     buffer: &mut [u8],
     source: &mut S,
@@ -114,12 +121,12 @@ fn read_all<T: Session, S: Source, K: Sink>(
     'pieces: while taken <= MOST_BYTES {
         let room = buffer.len().min((MOST_BYTES + 1 - taken) as usize);
         let count = match source.read(&mut buffer[..room]) {
-            Ok(0) => return end_script(progress, sink),
+            Ok(0) => return end_script(rt, progress, sink),
             Ok(count) => count,
             Err(_) => return End::ReadFailed,
         };
         let within = count.min((MOST_BYTES - taken) as usize);
-        match answer_piece(progress, &buffer[..within], sink) {
+        match answer_piece(rt, progress, &buffer[..within], sink) {
             Ok(()) => {}
             Err(fault) => return ending(fault),
         }
@@ -137,7 +144,10 @@ fn read_all<T: Session, S: Source, K: Sink>(
 ///
 /// Beside the session the run takes memory for one piece, for the first 140,001 bytes of a line that goes on, and for
 /// answers: those of one line and 65,536 bytes more, since answers are written as soon as more than that is gathered.
-pub fn run_script<T: Session, S: Source, K: Sink>(
+///
+/// The run-time handle is for the session, which may split its work among threads: the run itself starts none.
+pub fn run_script<R: Threads + Sync, T: Session, S: Source, K: Sink>(
+    rt: &R,
     alloc: Global,
     session: T,
     source: &mut S,
@@ -151,6 +161,6 @@ pub fn run_script<T: Session, S: Source, K: Sink>(
         Err(_) => return (End::Memory, session),
     };
     let mut progress = Progress::new(alloc, session);
-    let end = read_all(&mut progress, &mut buffer, source, sink);
+    let end = read_all(rt, &mut progress, &mut buffer, source, sink);
     (end, progress.into_session())
 }

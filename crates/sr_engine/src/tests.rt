@@ -8,6 +8,7 @@ use sr_base::{
 };
 use std::alloc::{AllocError, Global};
 use std::cell::Cell;
+use std::thread::Threads;
 
 /// Answers a line by the last digit of its number and itself, and the end by `end`. An empty line and one with `#`
 /// are answered by nothing, one with `*` by 70,000 bytes more, and one with `!` is refused. At `?` memory is wanted.
@@ -30,7 +31,13 @@ impl Session for Echo {
 
     ghost ends = { λ state said next. Unit {0} };
 
-    fn answer(&mut self, number: u32, line: &[u8], out: &mut Vec<u8>) -> Result<bool, AllocError> {
+    fn answer<R: Threads + Sync>(
+        &mut self,
+        rt: &R,
+        number: u32,
+        line: &[u8],
+        out: &mut Vec<u8>,
+    ) -> Result<bool, AllocError> {
         if line.is_empty() {
             return Ok(false);
         }
@@ -144,7 +151,7 @@ fn a_script_is_answered(rt: HostRuntime) -> Result<(), AllocError> {
     for (script, status, answers) in scripts {
         let mut source = SteadySource::new(listed(alloc, script)?);
         let mut sink = SteadySink::new(alloc);
-        let (end, _session) = run_script(alloc, Echo { alloc }, &mut source, &mut sink);
+        let (end, _session) = run_script(&rt, alloc, Echo { alloc }, &mut source, &mut sink);
         assert_eq!(rt; end.status(), status);
         assert_eq!(rt; sink.bytes(), answers);
     }
@@ -168,7 +175,7 @@ fn a_read_fails(rt: HostRuntime) -> Result<(), AllocError> {
             listed(alloc, &[failing])?,
         );
         let mut sink = SteadySink::new(alloc);
-        let (end, _session) = run_script(alloc, Echo { alloc }, &mut source, &mut sink);
+        let (end, _session) = run_script(&rt, alloc, Echo { alloc }, &mut source, &mut sink);
         assert_eq!(rt; end.status(), status);
         assert_eq!(rt; sink.bytes(), answers);
     }
@@ -184,7 +191,7 @@ fn a_write_fails(rt: HostRuntime) -> Result<(), AllocError> {
         Vec::new(alloc),
     );
     let mut sink = MemorySink::new(alloc, listed(alloc, &[1u64])?);
-    let (end, _session) = run_script(alloc, Echo { alloc }, &mut source, &mut sink);
+    let (end, _session) = run_script(&rt, alloc, Echo { alloc }, &mut source, &mut sink);
     assert_eq!(rt; end.status(), 4);
     assert_eq!(rt; sink.bytes(), b"1one\n".as_slice());
     assert_eq!(rt; sink.calls(), 2);
@@ -197,7 +204,7 @@ fn long_answers_are_not_gathered(rt: HostRuntime) -> Result<(), AllocError> {
     let alloc = rt.alloc();
     let mut source = SteadySource::new(listed(alloc, b"*\n*\n*\n")?);
     let mut sink = MemorySink::new(alloc, Vec::new(alloc));
-    let (end, _session) = run_script(alloc, Echo { alloc }, &mut source, &mut sink);
+    let (end, _session) = run_script(&rt, alloc, Echo { alloc }, &mut source, &mut sink);
     assert_eq!(rt; end.status(), 0);
     assert_eq!(rt; sink.bytes().len(), 3 * 70_002 + 4);
     assert_eq!(rt; sink.calls(), 4);
@@ -212,7 +219,7 @@ fn a_long_line_is_cut(rt: HostRuntime) -> Result<(), AllocError> {
     for (length, handed) in lines {
         let mut source = SteadySource::new(vec![in alloc; b'a'; length]?);
         let mut sink = SteadySink::new(alloc);
-        let (end, _session) = run_script(alloc, Echo { alloc }, &mut source, &mut sink);
+        let (end, _session) = run_script(&rt, alloc, Echo { alloc }, &mut source, &mut sink);
         assert_eq!(rt; end.status(), 0);
         assert_eq!(rt; sink.bytes().len(), handed + 6);
     }
@@ -230,7 +237,7 @@ fn a_script_is_too_long(rt: HostRuntime) -> Result<(), AllocError> {
     for (left, status, rest, answers) in lengths {
         let mut source = Remarks { left };
         let mut sink = SteadySink::new(alloc);
-        let (end, _session) = run_script(alloc, Echo { alloc }, &mut source, &mut sink);
+        let (end, _session) = run_script(&rt, alloc, Echo { alloc }, &mut source, &mut sink);
         assert_eq!(rt; end.status(), status);
         assert_eq!(rt; source.left, rest);
         assert_eq!(rt; sink.bytes(), answers);
@@ -249,7 +256,7 @@ fn answers_come_before_the_next_read(rt: HostRuntime) {
         calls: 0,
     };
     let mut sink = Tally { written: &written };
-    let (end, _session) = run_script(alloc, Echo { alloc }, &mut source, &mut sink);
+    let (end, _session) = run_script(&rt, alloc, Echo { alloc }, &mut source, &mut sink);
     assert_eq!(rt; end.status(), 0);
     assert_eq!(rt; source.seen, [0, 3, 6, 9, 9]);
     assert_eq!(rt; written.get(), 3 * 3 + 4 + 4);

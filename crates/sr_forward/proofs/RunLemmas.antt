@@ -10,9 +10,9 @@ use Rattle.sr_model.specs.Graph.{node_count, link_count, has}
 use Rattle.sr_model.specs.Label.{Net}
 use Rattle.sr_model.specs.Rule.{IsNet}
 use Rattle.sr_model.specs.Forward.{Step, StepBy, RunBy, AreLawful, IsChosen, IsWalked, crossed}
-use Rattle.sr_laws.proofs.Arrivals.{packet-arrives}
+use Rattle.sr_laws.proofs.Arrivals.{packet-arrives, sound-arrives}
 use Rattle.sr_fib.specs.Entries.{numbers}
-use Rattle.sr_forward.specs.Runs.{IsMove, PacketArrives}
+use Rattle.sr_forward.specs.Runs.{IsMove, PacketArrives, RepairArrives}
 
 -- the packet took so many steps by the choice number, crossed these links, and is at node v with the stack `after`
 pub record IsUnderWay (n : Net) (closed : List Bool) (choice u : ℕ) (stack : List ℕ) (turn : ℕ) (links : List ℕ) (v : ℕ) (after : List ℕ) : Type 0 where
@@ -104,20 +104,30 @@ opens-walked n closed none choice u stack turns links v after walked = record {
       walked.ends;
 }
 
-pub walked-arrives : (n : Net) → IsNet n → (closed : List Bool) (choice u : ℕ) (stack : List ℕ) (links : List ℕ) (v : ℕ) (after : List ℕ) → u < node_count n.graph → IsWalked n closed choice u stack (node_count n.graph * (length stack + 2)) links v after → PacketArrives n closed u stack links v after
+walked-arrives : (n : Net) → IsNet n → (closed : List Bool) (choice u : ℕ) (stack : List ℕ) (links : List ℕ) (v : ℕ) (after : List ℕ) → u < node_count n.graph → IsWalked n closed choice u stack (node_count n.graph * (length stack + 2)) links v after → PacketArrives n closed u stack links v after
 walked-arrives n r closed choice u stack links v after source walked = λ none d label c one is far.
     packet-arrives n r u d label c source far is choice links v after
     (opens-walked n closed none choice u (label ∷ []) (node_count n.graph * (1 + 2)) links v after
     (subst (λ (st : List ℕ). IsWalked n closed choice u st (node_count n.graph * (length st + 2)) links v after) one walked))
 
+-- ---- with the failed links closed
+repaired-arrives : (n : Net) → IsNet n → (closed : List Bool) (choice u : ℕ) (stack : List ℕ) (links : List ℕ) (v : ℕ) (after : List ℕ) → IsWalked n closed choice u stack (node_count n.graph * (length stack + 2)) links v after → RepairArrives n closed u stack links v after
+repaired-arrives n r closed choice u stack links v after walked = λ s d a source within sound at labels.
+    sound-arrives n r closed s d a stack source within sound labels choice links v after
+    (subst (λ (k : ℕ). IsWalked n closed choice k stack (node_count n.graph * (length stack + 2)) links v after) at walked)
+
 -- the walk is over where no step is lawful, and after the last turn
-pub under-way-ends : (n : Net) (closed : List Bool) (choice u : ℕ) (stack : List ℕ) (turn turns : ℕ) (links : List ℕ) (v : ℕ) (after last : List ℕ) → IsUnderWay n closed choice u stack turn links v after → ((m : Move) (w : ℕ) (next : List ℕ) → Step n closed v after m w next → ⊥) ⊎ (turn ≡ turns) → turn ≤ turns → last ≡ after → IsWalked n closed choice u stack turns links v last
-under-way-ends n closed choice u stack turn turns links v after last way ends few same =
-    subst (λ (st : List ℕ). IsWalked n closed choice u stack turns links v st) (sym same)
-    (record {
-      moves = way.moves;
-      run = way.run;
-      crosses = way.crosses;
-      within = omega (arith, way.long);
-      ends = ⊎_elim (λ over. inl over) (λ at. inr (way.long ∙ at)) ends;
-    })
+under-way-ends : (n : Net) (closed : List Bool) (choice u : ℕ) (stack : List ℕ) (turn turns : ℕ) (links : List ℕ) (v : ℕ) (after : List ℕ) → IsUnderWay n closed choice u stack turn links v after → ((m : Move) (w : ℕ) (next : List ℕ) → Step n closed v after m w next → ⊥) ⊎ (turn ≡ turns) → turn ≤ turns → IsWalked n closed choice u stack turns links v after
+under-way-ends n closed choice u stack turn turns links v after way ends few = record {
+  moves = way.moves;
+  run = way.run;
+  crosses = way.crosses;
+  within = omega (arith, way.long);
+  ends = ⊎_elim (λ over. inl over) (λ at. inr (way.long ∙ at)) ends;
+}
+
+-- a packet, and that of a repair, arrives when its walk is over
+pub under-way-arrives : {n : Net} {closed : List Bool} {choice u : ℕ} {stack : List ℕ} {turn : ℕ} {links : List ℕ} {v : ℕ} {after : List ℕ} → IsNet n → u < node_count n.graph → IsUnderWay n closed choice u stack turn links v after → ((m : Move) (w : ℕ) (next : List ℕ) → Step n closed v after m w next → ⊥) ⊎ (turn ≡ node_count n.graph * (length stack + 2)) → turn ≤ node_count n.graph * (length stack + 2) → PacketArrives n closed u stack links v after × RepairArrives n closed u stack links v after
+under-way-arrives {n} {closed} {choice} {u} {stack} {turn} {links} {v} {after} r source way ends few =
+    let walked : IsWalked n closed choice u stack (node_count n.graph * (length stack + 2)) links v after = under-way-ends n closed choice u stack turn (node_count n.graph * (length stack + 2)) links v after way ends few in
+    (walked-arrives n r closed choice u stack links v after source walked, repaired-arrives n r closed choice u stack links v after walked)

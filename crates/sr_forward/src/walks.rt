@@ -6,7 +6,7 @@ ghost use Rattle.sr_model.specs.Forward.{crossed, IsWalked};
 ghost use Rattle.sr_fib.specs.Tables.{IsFib};
 ghost use Rattle.sr_forward.specs.Steps.{end_of};
 ghost use Rattle.sr_fib.specs.Entries.{numbers};
-ghost use Rattle.sr_forward.specs.Runs.{IsMove, PacketArrives};
+ghost use Rattle.sr_forward.specs.Runs.{IsMove, PacketArrives, RepairArrives};
 
 use crate::moves::step;
 use crate::trace::Walk;
@@ -44,7 +44,10 @@ fn advance(
 /// no step is lawful, or until it took nodes times (labels + 2) steps (this project's rule).
 ///
 /// Where no link is closed and the stack is the label of a node that is reached, the packet ends
-/// there with an empty stack, and its links are a shortest walk.
+/// there with an empty stack, and its links are a shortest walk. Where the failed links are closed
+/// and the stack is that of a sound list at the end of its first link, the packet ends at the list's
+/// destination with an empty stack, and with the first link its links are a shortest walk without
+/// the failed links.
 pub fn walk(
     alloc: Global,
     net: &Net,
@@ -60,6 +63,8 @@ pub fn walk(
         (reverse stack.items) (node_count net.now.graph * (vec_len stack + 2))
         (numbers w.links.items) w.end.0 (reverse w.rest.items)) }
     ensures packet { IfOk result (λ w. PacketArrives net.now closed.now node.0
+        (reverse stack.items) (numbers w.links.items) w.end.0 (reverse w.rest.items)) }
+    ensures repaired { IfOk result (λ w. RepairArrives net.now closed.now node.0
         (reverse stack.items) (numbers w.links.items) w.end.0 (reverse w.rest.items)) }
     ensures end { IfOk result (λ w. w.end.0 < node_count net.now.graph) }
     ensures links { IfOk result

@@ -4,6 +4,8 @@ pub mod RangesLemmas
 pub mod NumbersLemmas
 pub mod EdgesLemmas
 pub mod FailedLemmas
+pub mod MemberLemmas
+pub mod MarkLemmas
 pub mod FixtureLemmas
 pub mod GraphLemmas
 pub mod ZipLemmas

@@ -4,3 +4,5 @@ pub mod Ranges
 pub mod Edges
 pub mod Built
 pub mod Failed
+pub mod Members
+pub mod Marks

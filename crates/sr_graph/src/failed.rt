@@ -110,6 +110,6 @@ impl Graph {
         for link in 0..count {
             tests.push(self.fails(case, LinkNo(link as u16)))?;
         }
-        Ok(LinkSet::of(tests))
+        LinkSet::of(alloc, tests)
     }
 }

@@ -22,11 +22,11 @@ use std::marker::Model;
 /// A directed graph with metrics. Nodes are numbered from 0 in order of system id, links from 0 in order of key.
 #[derive(Debug, Drop)]
 pub struct Graph {
-    systems: Vec<SystemId>,
+    pub(crate) systems: Vec<SystemId>,
     links: Vec<Link>,
     edges: Vec<Edge>,
     groups: Vec<Groups>,
-    overloaded: Vec<bool>,
+    pub(crate) overloaded: Vec<bool>,
     starts: Vec<u16>,
 }
 

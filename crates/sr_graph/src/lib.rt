@@ -7,6 +7,7 @@ mod failed;
 mod fault;
 mod graph;
 mod link_set;
+mod mark;
 mod numbers;
 mod order;
 mod ranges;

@@ -1,9 +1,10 @@
 //! Sets of links.
-ghost use Rattle.std.specs.Prelude.{◌≡◌, []};
+ghost use Rattle.std.specs.Prelude.{◌≡◌, ◌≤◌, [], length, IfOk};
 ghost use Rattle.sr_model.specs.Graph.{has};
+ghost use Rattle.sr_graph.specs.Members.{AreMembers};
 
 use sr_model::LinkNo;
-use std::alloc::Global;
+use std::alloc::{AllocError, Global};
 use std::marker::Model;
 
 /// A set of links of a graph. Contracts see it as a list of tests, one for each link number; past the list's end no link
@@ -11,14 +12,32 @@ use std::marker::Model;
 #[derive(Debug, Drop)]
 pub struct LinkSet {
     tests: Vec<bool>,
+    links: Vec<LinkNo>,
 }
 
 impl Model for LinkSet {
     ghost use Rattle.std.specs.Prelude.{List, Bool};
+    ghost use Rattle.sr_graph.specs.Members.{AreMembers};
 
     ghost Value = { List Bool };
 
     ghost view = { λ a. a.tests.items };
+
+    ghost invariant = { λ a. AreMembers a.tests.items a.links.items };
+}
+
+/// The numbers of the links whose test is true, ascending.
+fn members(alloc: Global, tests: &[bool]) -> Result<Vec<LinkNo>, AllocError>
+    requires { length tests.now ≤ 65536 }
+    ensures { IfOk result (λ links. AreMembers tests.now links.items) }
+{
+    let mut links = Vec::new(alloc);
+    for link in 0..tests.len() {
+        if tests[link] {
+            links.push(LinkNo(link as u16))?;
+        }
+    }
+    Ok(links)
 }
 
 impl LinkSet {
@@ -28,14 +47,24 @@ impl LinkSet {
     {
         LinkSet {
             tests: Vec::new(alloc),
+            links: Vec::new(alloc),
         }
     }
 
     /// The set of the links whose test is true.
-    pub(crate) fn of(tests: Vec<bool>) -> LinkSet
-        ensures { result ≡ tests.items }
+    pub(crate) fn of(alloc: Global, tests: Vec<bool>) -> Result<LinkSet, AllocError>
+        requires { length tests.items ≤ 65536 }
+        ensures { IfOk result (λ set. set ≡ tests.items) }
     {
-        LinkSet { tests }
+        let links = members(alloc, &tests)?;
+        Ok(LinkSet { tests, links })
+    }
+
+    /// The links in the set, ascending.
+    pub fn links(&self) -> &[LinkNo]
+        ensures { AreMembers self.now result.now }
+    {
+        &self.links
     }
 
     /// Whether the link is in the set.

@@ -36,6 +36,21 @@ fn number(systems: &[SystemId], system: SystemId) -> NodeNo
     place(systems, system).unwrap()
 }
 
+/// The number of a node that there is. It is sought only where it isn't `near`.
+fn number_near(systems: &[SystemId], near: NodeNo, system: SystemId) -> NodeNo
+    requires ascending { IsStrictlyIncreasing systems.now }
+    requires few { length systems.now ≤ 256 }
+    requires there { Contains systems.now system }
+    ensures { IsPlace systems.now result.0 system }
+{
+    let at = near.0 as usize;
+    if at < systems.len() && systems[at] == system {
+        near
+    } else {
+        number(systems, system)
+    }
+}
+
 /// The one place where a link of this key can stand.
 fn place_of(links: &[Link], key: &LinkKey) -> usize
     requires { AscendByKey links.now }
@@ -80,9 +95,11 @@ pub(crate) fn number_all(
 {
     let mut links = Vec::with_capacity(alloc, drafted.len())?;
     let mut groups = Vec::with_capacity(alloc, drafted.len())?;
+    // In order of key, most links begin where the link before begins.
+    let mut from = NodeNo(0);
     for link in drafted {
         let key = link.key;
-        let from = number(systems, key.from);
+        from = number_near(systems, from, key.from);
         let to = number(systems, key.to);
         links.push(Link {
             key,

@@ -6,10 +6,13 @@ use Rattle.sr_model.specs.declared.case.Kind.{Kind}
 use Rattle.sr_model.specs.declared.case.Kind.TheVariants.{Link as LinkKind, Node as NodeKind, Risk as RiskKind}
 use Rattle.sr_model.specs.declared.repair.Segment.{Segment}
 use Rattle.sr_model.specs.declared.repair.Segment.TheVariants.{Node, Adj}
+use Rattle.sr_model.specs.declared.audit.Counts.{Counts}
+use Rattle.sr_model.specs.declared.audit.Item.{Item}
 use Rattle.sr_model.specs.declared.repair.RepairList.{RepairList}
 use Rattle.sr_model.specs.declared.repair.Answer.{Answer}
 use Rattle.sr_model.specs.declared.repair.Answer.TheVariants.{Least, NoPath, NoList, TooDeep}
 use Rattle.sr_model.specs.Graph.{Graph, node_count, link_count, system_at}
+use Rattle.sr_model.specs.Case.{IsCase}
 use Rattle.sr_model.specs.Label.{Net}
 use Rattle.sr_model.specs.SystemText.{system_text}
 use Rattle.sr_print.specs.Links.{link_text, link_word}
@@ -54,16 +57,44 @@ abbrev pub list_text : Net → RepairList → List ℕ → List ℕ
 list_text n list labels =
     codes " via" ++ link_word n list.first.0 ++ segments_text n list.segments ++ labels_text labels ++ numbered (codes " cost ") list.cost
 
+-- why there is no repair, and nothing where there is one
+abbrev pub uncovered_text : Answer → List ℕ
+uncovered_text (Least list) = []
+uncovered_text NoPath = codes " uncovered nopath"
+uncovered_text NoList = codes " uncovered nolist"
+uncovered_text (TooDeep needed) = numbered (codes " uncovered toodeep ") needed
+
 -- a repair, or why there is none
 abbrev pub answer_text : Net → Answer → List ℕ → List ℕ
 answer_text n (Least list) labels = list_text n list labels
-answer_text n NoPath labels = codes " uncovered nopath"
-answer_text n NoList labels = codes " uncovered nolist"
-answer_text n (TooDeep needed) labels = numbered (codes " uncovered toodeep ") needed
+answer_text n NoPath labels = uncovered_text NoPath
+answer_text n NoList labels = uncovered_text NoList
+answer_text n (TooDeep needed) labels = uncovered_text (TooDeep needed)
 
 -- the answer of a case for destination d
 abbrev pub repair_line : Net → Case → ℕ → Answer → List ℕ → List ℕ
 repair_line n case d answer labels = ended (case_text n case d ++ answer_text n answer labels)
+
+-- why the packet of a repair isn't walked
+abbrev pub uncovered_walk_line : Answer → List ℕ
+uncovered_walk_line answer = ended (codes "walk" ++ uncovered_text answer)
+
+-- an item of an audit, as the answer of its case for its destination
+unfoldable pub item_line : Net → Item → List ℕ
+item_line n item = repair_line n item.case item.dest.0 item.answer item.labels
+
+-- the items of an audit, in their order
+abbrev pub item_lines : Net → List Item → List ℕ
+item_lines n items = flat_map (item_line n) items
+
+-- how many answers of each sort the audit of a version has
+abbrev pub counts_text : Counts → List ℕ
+counts_text counts =
+    numbered (codes " covered ") counts.covered ++ numbered (codes " nopath ") counts.nopath ++ numbered (codes " nolist ") counts.nolist ++ numbered (codes " toodeep ") counts.toodeep
+
+-- the audit of a version in one line: its number, and how many answers of each sort there are
+abbrev pub summary_line : ℕ → Counts → List ℕ
+summary_line version counts = ended (numbered (codes "audit version ") version ++ counts_text counts)
 
 -- the segment is a node or a link of the graph
 abbrev pub IsSegment : Graph → Segment → Type 0
@@ -80,3 +111,13 @@ IsAnswerWithin g (Least list) = (list.first.0 < link_count g) × AreSegments g l
 IsAnswerWithin g NoPath = Unit {0}
 IsAnswerWithin g NoList = Unit {0}
 IsAnswerWithin g (TooDeep needed) = Unit {0}
+
+-- the case, the destination and the answer of the item are those of the net
+pub record IsItemWithin (n : Net) (item : Item) : Type 0 where
+  pub case : IsCase n.graph item.case
+  pub dest : item.dest.0 < node_count n.graph
+  pub answer : IsAnswerWithin n.graph item.answer
+
+-- each of these is an item of the net
+abbrev pub AreItemsWithin : Net → List Item → Type 0
+AreItemsWithin n items = All (IsItemWithin n) items

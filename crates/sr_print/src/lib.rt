@@ -2,6 +2,7 @@
 //! part of its line may stand there, and what stood before stays.
 #![tactic(auto)]
 
+mod audit;
 mod forwarding;
 mod line;
 mod link;
@@ -14,10 +15,11 @@ mod spaces;
 mod tests;
 mod walk;
 
+pub use audit::{put_items, put_summary};
 pub use forwarding::{put_label, put_next};
 pub use line::{put_dist, put_dropped, put_show, put_staged, put_version};
 pub use refusal::Refusal;
 pub use refused::put_refused;
-pub use repair::put_repair;
+pub use repair::{put_repair, put_walk_uncovered};
 pub use spaces::put_spaces;
 pub use walk::put_walk;

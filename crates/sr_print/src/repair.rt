@@ -1,11 +1,13 @@
 //! The line of a repair.
-ghost use Rattle.std.specs.Prelude.{◌≡◌, ◌<◌, ◌++◌, reverse, OnOk, OnErr};
+ghost use Rattle.std.specs.Prelude.{◌≡◌, ◌<◌, ◌++◌, false, reverse, OnOk, OnErr};
 ghost use Rattle.std.specs.List.{flat_map};
+ghost use Rattle.sr_model.specs.Audit.{is_least};
 ghost use Rattle.sr_model.specs.Case.{IsCase};
 ghost use Rattle.sr_model.specs.Graph.{node_count, link_count};
 ghost use Rattle.sr_print.specs.Printed.{BeginsWith};
 ghost use Rattle.sr_print.specs.Repairs.{kind_name, case_text, segment_word, segments_text, label_word, labels_text};
-ghost use Rattle.sr_print.specs.Repairs.{list_text, answer_text, repair_line, IsSegment, AreSegments, IsAnswerWithin};
+ghost use Rattle.sr_print.specs.Repairs.{list_text, uncovered_text, answer_text, repair_line, uncovered_walk_line};
+ghost use Rattle.sr_print.specs.Repairs.{IsSegment, AreSegments, IsAnswerWithin};
 
 use crate::line::{end, put_numbered};
 use crate::link::{put_link, put_link_text};
@@ -133,6 +135,21 @@ fn put_list(
     put_numbered(b" cost ", list.cost, out)
 }
 
+/// Appends ` uncovered nopath`, ` uncovered nolist` or ` uncovered toodeep K`: why there is no
+/// repair. Of a repair nothing is appended.
+/// After an error a part of it may stand there; what stood before stays.
+fn put_uncovered(answer: &Answer, out: &mut Vec<u8>) -> Result<(), AllocError>
+    ensures line { OnOk result (out.new.items ≡ out.old.items ++ uncovered_text answer.now) }
+    ensures err { OnErr result (BeginsWith out.old.items out.new.items) }
+{
+    match answer {
+        Answer::Least(_) => Ok(()),
+        Answer::NoPath => out.extend_from_slice(b" uncovered nopath"),
+        Answer::NoList => out.extend_from_slice(b" uncovered nolist"),
+        Answer::TooDeep { needed } => put_numbered(b" uncovered toodeep ", u64::from(*needed), out),
+    }
+}
+
 /// Appends a repair, or why there is none. After an error a part of it may stand there;
 /// what stood before stays.
 fn put_answer(
@@ -147,9 +164,7 @@ fn put_answer(
 {
     match answer {
         Answer::Least(list) => put_list(net, list, labels, out),
-        Answer::NoPath => out.extend_from_slice(b" uncovered nopath"),
-        Answer::NoList => out.extend_from_slice(b" uncovered nolist"),
-        Answer::TooDeep { needed } => put_numbered(b" uncovered toodeep ", u64::from(*needed), out),
+        _ => put_uncovered(answer, out),
     }
 }
 
@@ -176,5 +191,18 @@ pub fn put_repair(
 {
     put_case(net, case, destination, out)?;
     put_answer(net, answer, labels, out)?;
+    end(out)
+}
+
+/// Appends `walk uncovered nopath`, `walk uncovered nolist` or `walk uncovered toodeep K`: why there
+/// is no repair whose packet could be walked. The answer isn't a list.
+/// After an error a part of the line may stand there; what stood before stays.
+pub fn put_walk_uncovered(answer: &Answer, out: &mut Vec<u8>) -> Result<(), AllocError>
+    requires { is_least answer.now ≡ false }
+    ensures line { OnOk result (out.new.items ≡ out.old.items ++ uncovered_walk_line answer.now) }
+    ensures err { OnErr result (BeginsWith out.old.items out.new.items) }
+{
+    out.extend_from_slice(b"walk")?;
+    put_uncovered(answer, out)?;
     end(out)
 }

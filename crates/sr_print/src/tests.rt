@@ -1,8 +1,11 @@
 //! What is printed.
 
 use crate::refusal::Refusal;
-use crate::{put_dist, put_dropped, put_refused, put_show, put_staged, put_version};
-use sr_model::SystemId;
+use crate::{
+    put_dist, put_dropped, put_refused, put_show, put_staged, put_summary, put_version,
+    put_walk_uncovered,
+};
+use sr_model::{Answer, Counts, SystemId};
 use std::alloc::AllocError;
 
 #[test]
@@ -65,5 +68,46 @@ fn refusals_are_printed(rt: HostRuntime) -> Result<(), AllocError> {
     let text =
         "refused 1 25 NoVersion\nrefused 2 4 Malformed 45 8\nrefused 3 13 DuplicateIndex 3 0000.0000.0003 0000.0000.0abc\nrefused 4 14 IndexOutside 300 0000.0000.0003\nrefused 5 22 NoLink 0000.0000.0003 0000.0000.0abc 1\nrefused 6 19 TooManyLinks 2070\n";
     assert_eq!(rt; out.as_slice(), text.as_bytes());
+    Ok(())
+}
+
+#[test]
+fn counts_of_audits_are_printed(rt: HostRuntime) -> Result<(), AllocError> {
+    for (version, [covered, nopath, nolist, toodeep], line) in [
+        (
+            3,
+            [40, 0, 1, 2],
+            "audit version 3 covered 40 nopath 0 nolist 1 toodeep 2\n",
+        ),
+        (
+            65_535,
+            [4, 300, 20, 1_000],
+            "audit version 65535 covered 4 nopath 300 nolist 20 toodeep 1000\n",
+        ),
+    ] {
+        let counts = Counts {
+            covered,
+            nopath,
+            nolist,
+            toodeep,
+        };
+        let mut out = Vec::new(rt.alloc());
+        put_summary(version, counts, &mut out)?;
+        assert_eq!(rt; out.as_slice(), line.as_bytes());
+    }
+    Ok(())
+}
+
+#[test]
+fn uncovered_walks_are_printed(rt: HostRuntime) -> Result<(), AllocError> {
+    for (answer, line) in [
+        (Answer::NoPath, "walk uncovered nopath\n"),
+        (Answer::NoList, "walk uncovered nolist\n"),
+        (Answer::TooDeep { needed: 4 }, "walk uncovered toodeep 4\n"),
+    ] {
+        let mut out = Vec::new(rt.alloc());
+        put_walk_uncovered(&answer, &mut out)?;
+        assert_eq!(rt; out.as_slice(), line.as_bytes());
+    }
     Ok(())
 }

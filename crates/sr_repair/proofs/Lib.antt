@@ -1,2 +1,5 @@
 pub mod PlaceLemmas
+pub mod KindLemmas
+pub mod CollectLemmas
 pub mod StackLemmas
+pub mod DeliveryLemmas

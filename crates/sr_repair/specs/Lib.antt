@@ -1,3 +1,4 @@
 pub mod Version
 pub mod Answers
+pub mod Delivery
 pub mod Stack

@@ -10,6 +10,7 @@ use Rattle.sr_model.specs.Label.{Net, labels_at, adj_at, IsLabel}
 use Rattle.sr_model.specs.Case.{IsAffected}
 use Rattle.sr_model.specs.Repair.{IsCaseAnswer}
 use Rattle.sr_model.specs.Forward.{IsStack}
+use Rattle.sr_repair.specs.Delivery.{RepairDelivers}
 
 -- the segment has a label: the index of its node, or the adjacency label of its link
 abbrev pub CanLabel : Net → Segment → Type 0
@@ -38,9 +39,10 @@ goes_to n (Adj l) = head n.graph l.0
 abbrev pub HasNoList : Net → Case → ℕ → Type 0
 HasNoList n case d = (list : RepairList) → IsAffected n case d → IsCaseAnswer n case d (Least list) → ⊥
 
--- d is affected, its answer is a list, and these are the labels of that list, the top last
+-- d is affected, its answer is a list, these are the labels of that list, the top last, and they deliver
 pub record IsStackOf (n : Net) (case : Case) (d : ℕ) (labels : List ℕ) : Type 0 where
   pub list : RepairList
   pub affected : IsAffected n case d
   pub answer : IsCaseAnswer n case d (Least list)
   pub stack : IsStack n d list.first.0 list.segments (reverse labels)
+  pub delivers : RepairDelivers n case d list (reverse labels)

@@ -6,6 +6,7 @@ ghost use Rattle.sr_model.specs.Case.{IsCase, IsAffected};
 ghost use Rattle.sr_model.specs.Repair.{IsCaseAnswer};
 ghost use Rattle.sr_model.specs.Forward.{Crossing, IsStack};
 ghost use Rattle.sr_model.specs.Audit.{AreLabelsOf};
+ghost use Rattle.sr_repair.specs.Delivery.{DeliverWhereListed};
 ghost use Rattle.sr_repair.specs.Stack.{CanLabel, HaveLabels, IsSegmentLabel, goes_to, HasNoList, IsStackOf};
 
 use sr_labels::Net;
@@ -13,7 +14,7 @@ use sr_model::{Answer, Case, LinkNo, NodeNo, Segment};
 use std::alloc::{AllocError, Global};
 
 /// The label of node `end` at node `at` (RFC 8660, 2.4). It is there, since each index lies in the ranges of each node.
-fn node_label(net: &Net, at: NodeNo, end: NodeNo) -> u32
+pub fn node_label(net: &Net, at: NodeNo, end: NodeNo) -> u32
     requires at { at.0 < node_count net.now.graph }
     requires end { end.0 < node_count net.now.graph }
     requires index { is_some (labels_at net.now end.0).index ≡ true }
@@ -61,7 +62,9 @@ fn label_left(net: &Net, at: NodeNo, d: NodeNo) -> Option<u32>
     requires at { at.0 < node_count net.now.graph }
     requires d { d.0 < node_count net.now.graph }
     requires index { is_some (labels_at net.now d.0).index ≡ true }
-    ensures { MatchOption result (Crossing net.now d.0 at.0 [] []) (λ label. Crossing net.now d.0 at.0 [] (label ∷ [])) }
+    ensures { MatchOption result
+        (Crossing net.now d.0 at.0 [] [])
+        (λ label. Crossing net.now d.0 at.0 [] (label ∷ [])) }
 {
     if at.0 == d.0 {
         if !net.labels(d).keep() {
@@ -120,7 +123,7 @@ fn stack(
     Ok(labels)
 }
 
-/// The labels of an answer on its first link, the top last; none where the answer isn't a list.
+/// The labels of an answer on its first link, the top last; none where the answer isn't a list. Those of a list deliver.
 pub fn labels_of(
     alloc: Global,
     net: &Net,
@@ -131,7 +134,8 @@ pub fn labels_of(
     requires case { IsCase net.now.graph case }
     requires affected { IsAffected net.now case destination.0 }
     requires answer { IsCaseAnswer net.now case destination.0 answer.now }
-    ensures { IfOk result (λ labels. AreLabelsOf net.now destination.0 answer.now labels.items) }
+    ensures labels { IfOk result (λ labels. AreLabelsOf net.now destination.0 answer.now labels.items) }
+    ensures delivers { IfOk result (λ labels. DeliverWhereListed net.now case destination.0 answer.now labels.items) }
 {
     let _graph = net.graph();
     match answer {
@@ -140,7 +144,7 @@ pub fn labels_of(
     }
 }
 
-/// The labels of an answer on its first link, the top last. None exactly where the answer isn't a list.
+/// The labels of an answer on its first link, the top last: they deliver. None exactly where the answer isn't a list.
 pub(crate) fn list_labels(
     alloc: Global,
     net: &Net,
@@ -151,14 +155,13 @@ pub(crate) fn list_labels(
     requires case { IsCase net.now.graph case }
     requires affected { IsAffected net.now case destination.0 }
     requires answer { IsCaseAnswer net.now case destination.0 answer.now }
-    ensures { IfOk result (λ found. MatchOption found (HasNoList net.now case destination.0) (λ labels. IsStackOf net.now case destination.0 labels.items)) }
+    ensures { IfOk result
+        (λ found. MatchOption found
+        (HasNoList net.now case destination.0)
+        (λ labels. IsStackOf net.now case destination.0 labels.items)) }
 {
-    let _graph = net.graph();
     match answer {
-        Answer::Least(list) => {
-            let labels = stack(alloc, net, list.first, list.segments.list(), destination)?;
-            Ok(Some(labels))
-        }
+        Answer::Least(_) => Ok(Some(labels_of(alloc, net, case, destination, answer)?)),
         Answer::NoPath | Answer::NoList | Answer::TooDeep { .. } => Ok(None),
     }
 }

@@ -6,6 +6,7 @@ ghost use Rattle.sr_model.specs.Repair.{IsCaseAnswer};
 ghost use Rattle.sr_model.specs.Rule.{IsNet};
 ghost use Rattle.sr_spf.specs.Trees.{AreTrees};
 ghost use Rattle.sr_fib.specs.Tables.{IsFib};
+ghost use Rattle.sr_encode.specs.Answered.{AreAnswers};
 ghost use Rattle.sr_repair.specs.Version.{version_of};
 ghost use Rattle.sr_repair.specs.Stack.{HasNoList, IsStackOf};
 
@@ -19,9 +20,10 @@ use sr_spf::{Steps, Trees};
 use std::alloc::{AllocError, Global};
 use std::marker::Model;
 use std::sync::ledger::Ledger;
+use std::thread::Threads;
 
-/// The net of an accepted commit, with its number, its trees, its label tables and the answers of all cases. Contracts see
-/// it as number and net: the rest is determined by these.
+/// The net of an accepted commit, with its number, its trees, its label tables and the answers of all cases. Contracts
+/// see it as number and net: the rest is determined by these.
 #[derive(Drop)]
 pub struct Version {
     number: u32,
@@ -41,12 +43,16 @@ impl Model for Version {
 
     ghost view = { λ v. version_of v.number v.net };
 
-    ghost invariant = { λ v. AreTrees v.net.graph v.trees × IsFib v.net v.fib × AreAllAnswers v.net (case_count v.net.graph) v.answers.items };
+    ghost invariant = { λ v. AreTrees v.net.graph v.trees
+        × IsFib v.net v.fib
+        × AreAllAnswers v.net (case_count v.net.graph) v.answers.items };
 }
 
 impl Version {
-    /// The first version, of this net. At most one search is counted for each node, and one for each case.
+    /// The first version, of this net. At most one search is counted for each node, and one for each case. The cases are
+    /// split among threads where there are any.
     pub fn opening<L: Ledger>(
+        rt: &(impl Threads + Sync),
         alloc: Global,
         net: Net,
         steps: &mut Steps<L>,
@@ -54,13 +60,14 @@ impl Version {
         ensures version { IfOk result (λ v. v ≡ version_of 1 net) }
         ensures most { steps.new ≤ steps.old + node_count net.graph + 3 * link_count net.graph }
     {
-        Version::numbered(alloc, 1, net, steps)
+        Version::numbered(rt, alloc, 1, net, steps)
     }
 
     /// The version after this one, of this net: the same as `opening` gives, but for the number. At most one search is
     /// counted for each node, and one for each case.
     pub fn next<L: Ledger>(
         &self,
+        rt: &(impl Threads + Sync),
         alloc: Global,
         net: Net,
         steps: &mut Steps<L>,
@@ -69,7 +76,7 @@ impl Version {
         ensures version { IfOk result (λ v. v ≡ version_of (self.now.number + 1) net) }
         ensures most { steps.new ≤ steps.old + node_count net.graph + 3 * link_count net.graph }
     {
-        Version::numbered(alloc, self.number + 1, net, steps)
+        Version::numbered(rt, alloc, self.number + 1, net, steps)
     }
 
     /// The version after this one, of the same net: nothing is computed.
@@ -88,6 +95,7 @@ impl Version {
 
     /// The version of this number and net.
     fn numbered<L: Ledger>(
+        rt: &(impl Threads + Sync),
         alloc: Global,
         number: u32,
         net: Net,
@@ -98,7 +106,7 @@ impl Version {
     {
         let trees = Trees::build(alloc, net.graph(), steps)?;
         let fib = Fib::build(alloc, &net, &trees)?;
-        let answers = all_answers(alloc, &net, &trees, steps)?;
+        let answers = all_answers(rt, alloc, &net, &trees, steps)?;
         Ok(Version {
             number,
             net,
@@ -137,16 +145,30 @@ impl Version {
     {
         &self.fib
     }
-    /// The answer of the case for the destination (this project's rule). None exactly where the destination isn't affected.
-    pub fn repair(&self, case: Case, destination: NodeNo) -> Option<&Answer>
+
+    /// The answers of the case for the destinations that it affects, ascending.
+    pub fn answers(&self, case: Case) -> &CaseAnswers
         requires case { IsCase self.now.net.graph case }
-        ensures { MatchOption result (IsAffected self.now.net case destination.0 → ⊥) (λ answer. IsAffected self.now.net case destination.0 × IsCaseAnswer self.now.net case destination.0 answer.now) }
+        ensures { AreAnswers self.now.net case result.now }
     {
         let place = place_of(self.net.graph(), case);
-        self.answers[place as usize].answer_for(destination)
+        &self.answers[place as usize]
     }
-    /// The labels on the first link of the repair, the top last. None exactly where the destination isn't affected, or its
-    /// answer isn't a list.
+
+    /// The answer of the case for the destination (this project's rule). None exactly where the destination isn't
+    /// affected.
+    pub fn repair(&self, case: Case, destination: NodeNo) -> Option<&Answer>
+        requires case { IsCase self.now.net.graph case }
+        ensures { MatchOption result
+            (IsAffected self.now.net case destination.0 → ⊥)
+            (λ answer. IsAffected self.now.net case destination.0
+            × IsCaseAnswer self.now.net case destination.0 answer.now) }
+    {
+        self.answers(case).answer_for(destination)
+    }
+
+    /// The labels on the first link of the repair, the top last: they deliver, whichever equal-cost links the other nodes
+    /// take. None exactly where the destination isn't affected, or its answer isn't a list.
     pub fn stack_of(
         &self,
         alloc: Global,
@@ -154,7 +176,10 @@ impl Version {
         destination: NodeNo,
     ) -> Result<Option<Vec<u32>>, AllocError>
         requires case { IsCase self.now.net.graph case }
-        ensures { IfOk result (λ found. MatchOption found (HasNoList self.now.net case destination.0) (λ labels. IsStackOf self.now.net case destination.0 labels.items)) }
+        ensures { IfOk result
+            (λ found. MatchOption found
+            (HasNoList self.now.net case destination.0)
+            (λ labels. IsStackOf self.now.net case destination.0 labels.items)) }
     {
         match self.repair(case, destination) {
             Some(answer) => list_labels(alloc, &self.net, case, destination, answer),

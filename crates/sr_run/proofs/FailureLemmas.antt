@@ -1,11 +1,11 @@
 -- What the answers on failures owe.
-use Rattle.std.proofs.Common.{◌≡◌, ℕ, ◌<◌, Bool, true, List, ◌++◌, Option, Some, None, refl, sym, ap, subst, inl, inr}
+use Rattle.std.proofs.Common.{◌≡◌, ℕ, Bool, true, List, ◌++◌, Option, Some, None, refl, sym, ap, subst, inl, inr}
 use Rattle.sr_model.specs.declared.case.Case.{Case}
 use Rattle.sr_model.specs.declared.case.Kind.{Kind}
 use Rattle.sr_model.specs.Graph.{Graph}
 use Rattle.sr_model.specs.Case.{IsFailedSet, source_of}
 use Rattle.sr_model.specs.Label.{Net}
-use Rattle.sr_spaces.specs.Below.{IsP, IsExtendedP, IsQ}
+use Rattle.sr_spaces.specs.Sets.{IsP, IsExtendedP, IsQ}
 use Rattle.sr_print.specs.declared.refusal.Refusal.{Refusal}
 use Rattle.sr_print.specs.Refused.{refused_line}
 use Rattle.sr_script.specs.declared.command.Command.{Command}

@@ -1,18 +1,13 @@
 -- What the answers on next hops, labels and walks owe.
-use Rattle.std.proofs.Common.{◌≡◌, ℕ, ◌<◌, ◌^◌, Bool, true, false, List, [], ◌∷◌, ◌++◌, Option, Some, None, refl, sym, ap, subst, arith, inl, inr, reverse}
-use Rattle.std.specs.Prelude.{IfSome}
+use Rattle.std.proofs.Common.{◌≡◌, ℕ, ◌<◌, ◌^◌, Bool, true, false, List, [], ◌∷◌, Option, Some, refl, sym, subst, arith, inl}
 use Rattle.sr_model.specs.declared.link.LinkNo.{LinkNo}
-use Rattle.sr_model.specs.declared.entry.Entry.{Entry}
-use Rattle.sr_model.specs.Graph.{Graph, node_count, has, IsGraph}
+use Rattle.sr_model.specs.Graph.{node_count, has, IsGraph}
 use Rattle.sr_model.specs.Walk.{IsDistance, cost}
 use Rattle.sr_model.specs.Label.{Net, IsLabel}
 use Rattle.sr_model.specs.Forward.{IsWalked, RunBy}
-use Rattle.sr_model.specs.Table.{IsLookup}
 use Rattle.sr_walks.proofs.Distinct.{distance-small}
-use Rattle.sr_spf.specs.Hops.{AreNextHops}
 use Rattle.sr_laws.specs.Delivery.{Arrives}
 use Rattle.sr_forward.specs.Runs.{PacketArrives}
-use Rattle.sr_print.specs.Links.{AreLinks}
 use Rattle.sr_fib.specs.Entries.{numbers}
 use Rattle.sr_print.specs.declared.refusal.Refusal.TheVariants as refusal
 use Rattle.sr_print.specs.Refused.{refused_line}

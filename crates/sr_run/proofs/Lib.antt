@@ -1,3 +1,5 @@
 pub mod SessionLemmas
 pub mod ForwardLemmas
 pub mod FailureLemmas
+pub mod AuditLemmas
+pub mod RepairedLemmas

@@ -1,24 +1,27 @@
 -- What the session answers to each line, and the state after it.
-use Rattle.std.specs.Prelude.{◌≡◌, ℕ, ◌+◌, ◌<◌, ◌≤◌, ◌⊎◌, Bool, true, false, List, [], ◌∷◌, ◌++◌, Option, Some, None, IfSome, is_some}
+use Rattle.std.specs.Prelude.{◌≡◌, ℕ, ◌+◌, ◌<◌, ◌≤◌, ◌⊎◌, Bool, true, false, List, [], ◌∷◌, ◌++◌, Option, Some, None, IfSome, is_some, reverse}
 use Rattle.sr_model.specs.declared.name.LinkKey.{LinkKey}
 use Rattle.sr_model.specs.Key.{pair_of}
-use Rattle.sr_model.specs.Graph.{Graph, node_count, link_count, system_at}
+use Rattle.sr_model.specs.Graph.{Graph, node_count, link_count, head, system_at}
 use Rattle.sr_model.specs.Label.{Net, labels_at, key_named, IsLabel}
-use Rattle.sr_model.specs.Walk.{Distance, NoWalk}
+use Rattle.sr_model.specs.Walk.{Distance, NoWalk, cost}
 use Rattle.sr_model.specs.declared.link.LinkNo.{LinkNo}
 use Rattle.sr_model.specs.declared.entry.Entry.{Entry}
 use Rattle.sr_model.specs.declared.entry.Move.{Move}
-use Rattle.sr_model.specs.Forward.{RunBy, crossed}
+use Rattle.sr_model.specs.Forward.{RunBy, IsStack, crossed}
 use Rattle.sr_model.specs.Table.{IsLookup}
 use Rattle.sr_model.specs.declared.case.Case.{Case}
 use Rattle.sr_model.specs.declared.case.Kind.{Kind}
 use Rattle.sr_model.specs.declared.repair.Answer.{Answer}
+use Rattle.sr_model.specs.declared.repair.Answer.TheVariants.{Least}
+use Rattle.sr_model.specs.declared.repair.RepairList.{RepairList}
+use Rattle.sr_model.specs.declared.audit.Item.{Item}
 use Rattle.sr_model.specs.Case.{key_at, IsFailedSet, IsAffected, source_of}
 use Rattle.sr_model.specs.Repair.{IsCaseAnswer}
-use Rattle.sr_model.specs.Audit.{AreLabelsOf}
-use Rattle.sr_spaces.specs.Below.{IsP, IsExtendedP, IsQ}
+use Rattle.sr_model.specs.Audit.{AreLabelsOf, IsAudit, is_least, counts_of}
+use Rattle.sr_spaces.specs.Sets.{IsP, IsExtendedP, IsQ}
 use Rattle.sr_print.specs.Spaces.{spaces_lines}
-use Rattle.sr_print.specs.Repairs.{repair_line}
+use Rattle.sr_print.specs.Repairs.{repair_line, uncovered_walk_line, item_lines, summary_line}
 use Rattle.sr_spf.specs.Hops.{AreNextHops}
 use Rattle.sr_lsp.specs.declared.fault.Malformed.{Malformed}
 use Rattle.sr_lsp.specs.declared.lsp.Lsp.{Lsp}
@@ -36,7 +39,7 @@ use Rattle.sr_domain.specs.declared.fault.DomainRule.{DomainRule}
 use Rattle.sr_domain.specs.Net.{IsNetOf}
 use Rattle.sr_domain.specs.Rules.{IsFirstBroken}
 use Rattle.sr_script.specs.declared.command.Command.{Command}
-use Rattle.sr_script.specs.declared.command.Command.TheVariants.{Lsp as LspWord, Cost, Down, Up, Depth, Commit, DropStaged, Dist, Next, Label, Spaces, Repair, Walk, Show}
+use Rattle.sr_script.specs.declared.command.Command.TheVariants.{Lsp as LspWord, Cost, Down, Up, Depth, Commit, DropStaged, Dist, Next, Label, Spaces, Repair, Walk, WalkRepair, Audit, AuditFull, Show}
 use Rattle.sr_script.specs.declared.line.Line.TheVariants.{Nothing, Word}
 use Rattle.sr_script.specs.declared.line.LineFault.{LineFault}
 use Rattle.sr_script.specs.LineSays.{LineSays, IsLineFault}
@@ -47,6 +50,7 @@ use Rattle.sr_print.specs.Forwarding.{next_line, label_line, walk_line}
 use Rattle.sr_fib.specs.Entries.{numbers}
 use Rattle.sr_print.specs.Refused.{refused_line}
 use Rattle.sr_repair.specs.Version.{Numbered}
+use Rattle.sr_repair.specs.Delivery.{RepairDelivers, EachRepairDelivers}
 use Rattle.sr_run.specs.State.{State, number_of, net_of, with_editing, with_dropped, with_version}
 use Rattle.sr_run.specs.Refusals.{refusal_of_rule, refusal_of_malformed, IsRefusedAs}
 
@@ -97,12 +101,12 @@ EditsLink edit (Some net) from to n number old out refused new =
     ⊎ ((HasNode net.graph from × HasNode net.graph to × (key_named net.announced from to n ≡ None) × Refuses (refusal.NoLink from to n) number old out refused new)
     ⊎ (HasNode net.graph from × HasNode net.graph to × (key : LinkKey) × (key_named net.announced from to n ≡ Some key) × StagesEdit (edit key) number old out refused new))
 
--- `commit`, up to 65,535 times: the first broken rule of the tentative facts is named, and the staged edits are dropped; or the facts are accepted, and their net is the next version
+-- `commit`, up to 65,535 times: the first broken rule of the tentative facts is named, and the staged edits are dropped; or the facts are accepted, and their net, in which every repair delivers, is the next version
 abbrev pub Commits : ℕ → State → List ℕ → Bool → State → Type 0
 Commits number old out refused new =
     ((65535 ≤ number_of old.current) × Refuses refusal.VersionsFull number old out refused new)
     ⊎ (((number_of old.current < 65535) × (rule : DomainRule) × IsFirstBroken old.editing.tentative rule × Refuses (refusal_of_rule rule) number (with_dropped old) out refused new)
-    ⊎ ((number_of old.current < 65535) × (net : Net) × IsNetOf old.editing.tentative net
+    ⊎ ((number_of old.current < 65535) × (net : Net) × IsNetOf old.editing.tentative net × EachRepairDelivers net
     × Accepts (version_line (number_of old.current + 1) (node_count net.graph) (link_count net.graph)) (with_version old net) out refused new))
 
 -- both are nodes, and this is the distance from the first to the second
@@ -205,11 +209,12 @@ abbrev pub TellsSpaces : State → List ℕ → Bool → State → Net → Case 
 TellsSpaces old out refused new net case d =
     (p : List Bool) × (extended : List Bool) × (q : List Bool) × AreSpaces net.graph case d p extended q × Accepts (spaces_lines net.graph p extended q) old out refused new
 
--- the destination is affected, and has this answer and these labels on the first link
+-- the destination is affected, and has this answer and these labels on the first link, the top last; where the answer is a list, they deliver
 pub record IsRepaired (net : Net) (case : Case) (d : ℕ) (answer : Answer) (labels : List ℕ) : Type 0 where
   pub affected : IsAffected net case d
   pub answer_is : IsCaseAnswer net case d answer
   pub labels_are : AreLabelsOf net d answer labels
+  pub delivers : (list : RepairList) → answer ≡ Least list → RepairDelivers net case d list (reverse labels)
 
 -- `repair`: the destination has no index, or isn't affected, or its answer and its labels are told
 abbrev pub TellsRepair : ℕ → ℕ → State → List ℕ → Bool → State → Net → Case → ℕ → Type 0
@@ -217,6 +222,47 @@ TellsRepair dest number old out refused new net case d =
     (((labels_at net d).index ≡ None) × Refuses (refusal.NoDestination dest) number old out refused new)
     ⊎ (((is_some (labels_at net d).index ≡ true) × (IsAffected net case d → ⊥) × Refuses (refusal.NotAffected dest) number old out refused new)
     ⊎ ((answer : Answer) × (labels : List ℕ) × IsRepaired net case d answer labels × Accepts (repair_line net case d answer labels) old out refused new))
+
+-- the packet of the repair crosses its first link, and goes on under its stack by the choice number, the failed links being closed; it comes to the destination with an empty stack, at the cost of the repair
+pub record IsRepairWalked (net : Net) (case : Case) (d choice : ℕ) (links : List LinkNo) : Type 0 where
+  pub affected : IsAffected net case d
+  pub list : RepairList
+  pub answer : IsCaseAnswer net case d (Least list)
+  pub labels : List ℕ
+  pub stack : IsStack net d list.first.0 list.segments labels
+  pub x : List Bool
+  pub failed : IsFailedSet net.graph case x
+  pub moves : List Move
+  pub run : RunBy net x choice (head net.graph list.first.0) labels moves d []
+  pub crosses : numbers links ≡ list.first.0 ∷ crossed moves
+  pub costs : cost net.graph (numbers links) ≡ list.cost
+
+-- the destination is affected, and its answer isn't a list
+pub record IsUncovered (net : Net) (case : Case) (d : ℕ) (answer : Answer) : Type 0 where
+  pub affected : IsAffected net case d
+  pub answer_is : IsCaseAnswer net case d answer
+  pub no_list : is_least answer ≡ false
+
+-- `walk` of a repaired packet: the destination has no index, or isn't affected, or why there is no repair is told, or the packet's links are
+abbrev pub WalksRepair : ℕ → ℕ → ℕ → State → List ℕ → Bool → State → Net → Case → ℕ → Type 0
+WalksRepair dest choice number old out refused new net case d =
+    (((labels_at net d).index ≡ None) × Refuses (refusal.NoDestination dest) number old out refused new)
+    ⊎ (((is_some (labels_at net d).index ≡ true) × (IsAffected net case d → ⊥) × Refuses (refusal.NotAffected dest) number old out refused new)
+    ⊎ (((answer : Answer) × IsUncovered net case d answer × Accepts (uncovered_walk_line answer) old out refused new)
+    ⊎ ((links : List LinkNo) × IsRepairWalked net case d choice links × Accepts (walk_line net (source_of net.graph case) (Some links)) old out refused new)))
+
+-- `audit`: how many answers of each sort the audit of the last version has
+abbrev pub SumsUp : Option Numbered → ℕ → State → List ℕ → Bool → State → Type 0
+SumsUp None number old out refused new = Refuses refusal.NoVersion number old out refused new
+SumsUp (Some version) number old out refused new =
+    (items : List Item) × IsAudit version.net items × Accepts (summary_line version.number (counts_of items)) old out refused new
+
+-- `audit full`: the audit of the last version, item by item, and then how many answers of each sort it has
+abbrev pub AuditsWhole : Option Numbered → ℕ → State → List ℕ → Bool → State → Type 0
+AuditsWhole None number old out refused new = Refuses refusal.NoVersion number old out refused new
+AuditsWhole (Some version) number old out refused new =
+    (items : List Item) × IsAudit version.net items
+    × Accepts (item_lines version.net items ++ summary_line version.number (counts_of items)) old out refused new
 
 -- how many nodes the last net has, and 0 before the first
 abbrev pub nodes_of : Option Net → ℕ
@@ -247,6 +293,9 @@ CarriesOut (Label node label) number old out refused new = LooksUp (net_of old.c
 CarriesOut (Spaces kind from to n dest) number old out refused new = AsksOfFailure (TellsSpaces old out refused new) (net_of old.current) kind from to n dest number old out refused new
 CarriesOut (Repair kind from to n dest) number old out refused new = AsksOfFailure (TellsRepair dest number old out refused new) (net_of old.current) kind from to n dest number old out refused new
 CarriesOut (Walk from dest choice) number old out refused new = Walks (net_of old.current) from dest choice number old out refused new
+CarriesOut (WalkRepair kind from to n dest choice) number old out refused new = AsksOfFailure (WalksRepair dest choice number old out refused new) (net_of old.current) kind from to n dest number old out refused new
+CarriesOut Audit number old out refused new = SumsUp old.current number old out refused new
+CarriesOut AuditFull number old out refused new = AuditsWhole old.current number old out refused new
 CarriesOut Show number old out refused new = Accepts (shown old) old out refused new
 CarriesOut _ number old out refused new = Refuses refusal.NotBuilt number old out refused new
 

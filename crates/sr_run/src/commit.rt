@@ -6,6 +6,7 @@ ghost use Rattle.sr_domain.specs.Net.{IsNetOf};
 ghost use Rattle.sr_domain.specs.Rules.{IsFirstBroken};
 ghost use Rattle.sr_script.specs.declared.command.Command.TheVariants.{Commit};
 ghost use Rattle.sr_print.specs.Printed.{version_line};
+ghost use Rattle.sr_repair.specs.Delivery.{EachRepairDelivers};
 ghost use Rattle.sr_repair.specs.Version.{version_of};
 ghost use Rattle.sr_run.specs.State.{number_of};
 ghost use Rattle.sr_run.specs.Session.{IsCarriedOut, IsNext};
@@ -20,6 +21,7 @@ use sr_spf::Steps;
 use std::alloc::{AllocError, Global};
 use std::marker::Brand;
 use std::sync::ledger::{Blank, Ledger};
+use std::thread::Threads;
 
 /// The most commits that a session accepts.
 const MOST_VERSIONS: u32 = 65_535;
@@ -36,6 +38,7 @@ pub(crate) fn last_number(current: &Option<Version>) -> u32
 
 /// The version of this net after the last one. The searches are counted by a counter of its own.
 fn version_counted<L: Ledger>(
+    rt: &(impl Threads + Sync),
     alloc: Global,
     current: &Option<Version>,
     net: Net,
@@ -48,17 +51,22 @@ fn version_counted<L: Ledger>(
 {
     let mut steps = Steps::<L>::new(blank);
     match current {
-        Some(version) => version.next(alloc, net, &mut steps),
-        None => Version::opening(alloc, net, &mut steps),
+        Some(version) => version.next(rt, alloc, net, &mut steps),
+        None => Version::opening(rt, alloc, net, &mut steps),
     }
 }
 
 /// The version of this net after the last one.
-fn version_after(alloc: Global, current: &Option<Version>, net: Net) -> Result<Version, AllocError>
+fn version_after(
+    rt: &(impl Threads + Sync),
+    alloc: Global,
+    current: &Option<Version>,
+    net: Net,
+) -> Result<Version, AllocError>
     requires { number_of current.now < 65535 }
     ensures { IfOk result (λ version. version ≡ version_of (number_of current.now + 1) net) }
 {
-    version_counted::<Brand>(alloc, current, net, Blank::new(1))
+    version_counted::<Brand>(rt, alloc, current, net, Blank::new(1))
 }
 
 impl DomainSession {
@@ -80,7 +88,10 @@ impl DomainSession {
     }
 
     /// Makes the version of the tentative facts, or answers the first rule that they break.
-    fn next_version(&self) -> Result<Result<Version, DomainRule>, AllocError>
+    fn next_version(
+        &self,
+        rt: &(impl Threads + Sync),
+    ) -> Result<Result<Version, DomainRule>, AllocError>
         requires { number_of self.now.current < 65535 }
         ensures { IfOk result (λ made. MatchResult made
             (IsNext self.now)
@@ -91,14 +102,17 @@ impl DomainSession {
             Err(DomainFault::Rule(rule)) => return Ok(Err(rule)),
             Err(DomainFault::Memory(wanting)) => return Err(wanting),
         };
-        match version_after(self.alloc, &self.current, net) {
+        match version_after(rt, self.alloc, &self.current, net) {
             Ok(version) => Ok(Ok(version)),
             Err(wanting) => Err(wanting),
         }
     }
 
     /// The version of the tentative facts, or the first rule that they break.
-    fn make_version(&mut self) -> Result<Result<Version, DomainRule>, AllocError>
+    fn make_version(
+        &mut self,
+        rt: &(impl Threads + Sync),
+    ) -> Result<Result<Version, DomainRule>, AllocError>
         requires { number_of self.old.current < 65535 }
         ensures made { IfOk result (λ made. MatchResult made
             (IsNext self.old)
@@ -108,11 +122,12 @@ impl DomainSession {
     {
         match self.take_current() {
             Some(version) => Ok(Ok(version)),
-            None => self.next_version(),
+            None => self.next_version(rt),
         }
     }
 
-    /// Accepts the tentative facts with their version, and says its number, nodes and links.
+    /// Accepts the tentative facts with their version, in the net of which every repair delivers, and says its number,
+    /// nodes and links.
     fn publish(&mut self, version: Version, out: &mut Vec<u8>) -> Result<(), AllocError>
         requires room { version.number ≤ 65535 }
         requires net { IsNetOf self.old.editing.tentative version.net }
@@ -120,6 +135,7 @@ impl DomainSession {
             version_line version.number (node_count version.net.graph) (link_count version.net.graph)) }
         ensures editing { OnOk result (self.new.editing ≡ with_accepted self.old.editing) }
         ensures version { OnOk result (self.new.current ≡ Some version) }
+        ensures delivers { OnOk result (EachRepairDelivers version.net) }
     {
         let graph = version.net().graph();
         put_version(
@@ -134,14 +150,19 @@ impl DomainSession {
     }
 
     /// Carries out `commit`.
-    pub(crate) fn commit(&mut self, number: u32, out: &mut Vec<u8>) -> Result<bool, AllocError>
+    pub(crate) fn commit(
+        &mut self,
+        rt: &(impl Threads + Sync),
+        number: u32,
+        out: &mut Vec<u8>,
+    ) -> Result<bool, AllocError>
         ensures { IfOk result (λ refused.
             IsCarriedOut Commit number self.old out.old.items out.new.items refused self.new) }
     {
         if last_number(&self.current) >= MOST_VERSIONS {
             return DomainSession::refuse(number, &Refusal::VersionsFull, out);
         }
-        match self.make_version()? {
+        match self.make_version(rt)? {
             Ok(version) => {
                 self.publish(version, out)?;
                 Ok(false)

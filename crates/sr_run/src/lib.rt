@@ -1,6 +1,7 @@
 //! The program's session, and its top call.
 #![tactic(auto)]
 
+mod audits;
 mod commit;
 mod edits;
 mod failures;
@@ -9,6 +10,7 @@ mod names;
 mod program;
 mod questions;
 mod refusals;
+mod repaired;
 mod session;
 mod version;
 

@@ -7,6 +7,7 @@ use crate::session::DomainSession;
 use sr_base::{Sink, Source};
 use sr_engine::run_script;
 use std::alloc::AllocGlobal;
+use std::thread::Threads;
 
 /// Whether the words are the one word `run`.
 fn ask_run(words: &[String]) -> bool
@@ -24,7 +25,10 @@ fn ask_run(words: &[String]) -> bool
 /// 0: the script was read to its end, and no line was refused; 1: it was read to its end, and a
 /// line was refused; 2: the words aren't a command, and nothing was read; 3: a read failed; 4: a
 /// write failed; 5: memory was wanting; 6: the script has more than 33,554,432 bytes.
-pub fn tilfa<R: AllocGlobal, S: Source, K: Sink>(
+///
+/// A commit and an audit split their cases among threads where there are any: the answers are the
+/// same without.
+pub fn tilfa<R: AllocGlobal + Threads + Sync, S: Source, K: Sink>(
     rt: &R,
     words: &[String],
     source: &mut S,
@@ -42,6 +46,6 @@ pub fn tilfa<R: AllocGlobal, S: Source, K: Sink>(
     }
     let alloc = rt.alloc();
     let session = DomainSession::new(alloc);
-    let (end, _session) = run_script(alloc, session, source, sink);
+    let (end, _session) = run_script(rt, alloc, session, source, sink);
     end.status()
 }

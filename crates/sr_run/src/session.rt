@@ -10,6 +10,7 @@ use sr_repair::Version;
 use sr_script::{Command, Line, LineFault, read_line};
 use std::alloc::{AllocError, Global};
 use std::marker::Model;
+use std::thread::Threads;
 
 /// The facts that a script edits, and the version of the last accepted commit.
 #[derive(Drop)]
@@ -85,6 +86,7 @@ impl DomainSession {
     /// Carries out a command, and says whether it was refused.
     fn carry_out(
         &mut self,
+        rt: &(impl Threads + Sync),
         number: u32,
         command: Command,
         out: &mut Vec<u8>,
@@ -104,7 +106,7 @@ impl DomainSession {
             Command::Down { from, to, n } => self.take_down(number, from, to, n, out),
             Command::Up { from, to, n } => self.bring_up(number, from, to, n, out),
             Command::Depth { depth } => self.set_depth(number, depth, out),
-            Command::Commit => self.commit(number, out),
+            Command::Commit => self.commit(rt, number, out),
             Command::DropStaged => self.drop_staged(number, out),
             Command::Dist { from, to } => self.measure(number, from, to, out),
             Command::Next { from, to } => self.name_hops(number, from, to, out),
@@ -124,6 +126,16 @@ impl DomainSession {
                 dest,
             } => self.name_repair(number, kind, from, to, n, dest, out),
             Command::Walk { from, dest, choice } => self.forward(number, from, dest, choice, out),
+            Command::WalkRepair {
+                kind,
+                from,
+                to,
+                n,
+                dest,
+                choice,
+            } => self.walk_repair(number, kind, from, to, n, dest, choice, out),
+            Command::Audit => self.sum_up(rt, number, out),
+            Command::AuditFull => self.audit_whole(rt, number, out),
             Command::Show => self.show(number, out),
             _ => DomainSession::refuse(number, &Refusal::NotBuilt, out),
         }
@@ -137,10 +149,16 @@ impl Session for DomainSession {
 
     ghost ends = { Ends };
 
-    fn answer(&mut self, number: u32, line: &[u8], out: &mut Vec<u8>) -> Result<bool, AllocError> {
+    fn answer<R: Threads + Sync>(
+        &mut self,
+        rt: &R,
+        number: u32,
+        line: &[u8],
+        out: &mut Vec<u8>,
+    ) -> Result<bool, AllocError> {
         match read_line(self.alloc, line) {
             Ok(Line::Nothing) => Ok(false),
-            Ok(Line::Word(command)) => self.carry_out(number, command, out),
+            Ok(Line::Word(command)) => self.carry_out(rt, number, command, out),
             Err(fault) => DomainSession::refuse_line(number, &fault, out),
         }
     }

@@ -1,7 +1,7 @@
 //! What a line asks of a version.
 ghost use Rattle.std.specs.Prelude.{[], ◌≡◌, ◌<◌, ◌^◌, true, is_some, IfOk, IfSome, MatchOption};
 ghost use Rattle.sr_model.specs.Graph.{node_count};
-ghost use Rattle.sr_model.specs.Label.{labels_at, IsLabel};
+ghost use Rattle.sr_model.specs.Label.{labels_at};
 ghost use Rattle.sr_model.specs.Walk.{Distance, NoWalk, cost};
 ghost use Rattle.sr_model.specs.Table.{IsLookup};
 ghost use Rattle.sr_spf.specs.Hops.{AreNextHops};
@@ -14,7 +14,7 @@ ghost use Rattle.sr_run.specs.Session.{HasNode, IsNodeOf, IsForwarded};
 use sr_fib::Entry;
 use sr_forward::{Walk, walk};
 use sr_model::{LinkNo, NodeNo, SystemId};
-use sr_repair::Version;
+use sr_repair::{Version, node_label};
 use std::alloc::{AllocError, Global};
 
 /// The node of this system id. None exactly where the net has none.
@@ -55,23 +55,6 @@ pub fn look(version: &Version, node: NodeNo, label: u32) -> Option<Entry<'_>>
     version.fib().look(node, label)
 }
 
-/// The label of a node at another. It is there, since each index lies in the ranges of each node.
-fn label_at(version: &Version, at: NodeNo, node: NodeNo) -> u32
-    requires at { at.0 < node_count version.now.net.graph }
-    requires node { node.0 < node_count version.now.net.graph }
-    requires index { is_some (labels_at version.now.net node.0).index ≡ true }
-    ensures { IsLabel version.now.net at.0 node.0 result }
-{
-    let net = version.net();
-    match net.labels(node).index() {
-        None => unreachable!(),
-        Some(index) => match net.labels(at).srgb().label(index) {
-            None => unreachable!(),
-            Some(label) => label,
-        },
-    }
-}
-
 /// The walk of a packet from one node under the label of another, no link being closed. None exactly where there is no
 /// walk.
 pub fn forwarded(
@@ -95,18 +78,11 @@ pub fn forwarded(
     match distance(version, from, to) {
         None => Ok(None),
         Some(_cost) => {
-            let label = label_at(version, from, to);
-            let nothing = version.net().graph().nothing(alloc)?;
+            let net = version.net();
+            let label = node_label(net, from, to);
+            let nothing = net.graph().nothing(alloc)?;
             let stack = vec![in alloc; label]?;
-            let walk = walk(
-                alloc,
-                version.net(),
-                version.fib(),
-                &nothing,
-                from,
-                stack,
-                choice,
-            )?;
+            let walk = walk(alloc, net, version.fib(), &nothing, from, stack, choice)?;
             Ok(Some(walk))
         }
     }

@@ -1,3 +1,1 @@
-pub mod Strike
-pub mod Below
-pub mod Join
+pub mod Sets

@@ -197,6 +197,35 @@ fn a_ring_without_a_pair_is_a_chain(rt: HostRuntime) -> Result<(), Fail> {
 }
 
 #[test]
+fn no_walk_passes_through_an_overloaded_node(rt: HostRuntime) -> Result<(), Fail> {
+    let alloc = rt.alloc();
+    let mut graph = Graph::build(alloc, ring(alloc, 1, 1)?)?;
+    graph.mark(alloc, [id(4)].as_slice())?;
+    assert!(rt; graph.node_count() == 4);
+    assert!(rt; graph.link_count() == 8);
+    let trees = trees_of(alloc, &graph)?;
+    assert_eq!(rt; trees.cells(NodeNo(0)), [0, 1, 2, 1].as_slice());
+    assert_eq!(rt;
+        trees.next_hops(NodeNo(0), NodeNo(2)),
+        [LinkNo(0)].as_slice()
+    );
+    assert_eq!(rt;
+        trees.next_hops(NodeNo(3), NodeNo(1)),
+        [LinkNo(6), LinkNo(7)].as_slice()
+    );
+    let failed = graph.failed(
+        alloc,
+        Case {
+            kind: Kind::Link,
+            link: LinkNo(0),
+        },
+    )?;
+    let row = row_of(alloc, &graph, &failed, NodeNo(0))?;
+    assert_eq!(rt; row.cells(), [0, FAR, FAR, 1].as_slice());
+    Ok(())
+}
+
+#[test]
 fn a_chain_has_an_end(rt: HostRuntime) -> Result<(), Fail> {
     let alloc = rt.alloc();
     let graph = Graph::build(alloc, chain(alloc, 7)?)?;

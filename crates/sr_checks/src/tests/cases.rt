@@ -387,7 +387,7 @@ pub const CASES: [Case; 24] = [
                 dropped 1\n\
                 refused 18 2 BadForm\n\
                 refused 19 29 NotBuilt\n\
-                refused 20 29 NotBuilt\n\
+                audit version 1 covered 0 nopath 0 nolist 0 toodeep 0\n\
                 refused 21 2 BadForm\n\
                 refused 22 29 NotBuilt\n\
                 refused 23 29 NotBuilt\n\

@@ -6,7 +6,8 @@ use sr_lsp::{AdjSids, Capability, Lsp, LspId, Part, Parts, Reach, in_range, writ
 use sr_model::{Range, SystemId};
 use sr_run::tilfa;
 use sr_subtlv::{LinkIds, Msds, Ranges, SrCap};
-use std::alloc::{AllocError, Global};
+use std::alloc::{AllocError, AllocGlobal, Global};
+use std::thread::Threads;
 
 /// A pair of links between two nodes, numbered from 1, with one metric both ways.
 #[derive(Clone, Copy, Debug)]
@@ -104,8 +105,8 @@ fn put_node(
 }
 
 /// The last line that the program answers to the nodes' PDUs, a commit, and a question.
-fn last_answer(
-    rt: &HostRuntime,
+fn last_answer<R: AllocGlobal + Threads + Sync>(
+    rt: &R,
     nodes: u32,
     pairs: &[Pair],
     question: &[u8],

@@ -52,10 +52,14 @@ pub const PAIRS: [Case; 7] = [
         answers: "staged 1\n\
                 staged 2\n\
                 version 1 nodes 2 links 2\n\
-                refused 4 29 NotBuilt\n\
+                repair link 0000.0000.0001>0000.0000.0002#1 to 0000.0000.0002 uncovered nopath\n\
+                repair link 0000.0000.0002>0000.0000.0001#1 to 0000.0000.0001 uncovered nopath\n\
+                repair risk 0000.0000.0001>0000.0000.0002#1 to 0000.0000.0002 uncovered nopath\n\
+                repair risk 0000.0000.0002>0000.0000.0001#1 to 0000.0000.0001 uncovered nopath\n\
+                audit version 1 covered 0 nopath 4 nolist 0 toodeep 0\n\
                 repair link 0000.0000.0001>0000.0000.0002#1 to 0000.0000.0002 uncovered nopath\n\
                 repair link 0000.0000.0002>0000.0000.0001#1 to 0000.0000.0001 uncovered nopath\n",
-        status: 1,
+        status: 0,
     },
     Case {
         name: "a square",
@@ -110,7 +114,7 @@ pub const PAIRS: [Case; 7] = [
                 staged 2\n\
                 version 1 nodes 2 links 4\n\
                 repair link 0000.0000.0001>0000.0000.0002#1 to 0000.0000.0002 via 0000.0000.0001>0000.0000.0002#2 segments none labels 0 cost 1\n\
-                refused 5 29 NotBuilt\n",
-        status: 1,
+                walk 0000.0000.0001 0000.0000.0002 cost 1\n",
+        status: 0,
     },
 ];

@@ -42,12 +42,12 @@ pub const RINGS: [Case; 7] = [
                 label none\n\
                 walk 0000.0000.0001 0000.0000.0002 0000.0000.0003 cost 2\n\
                 walk 0000.0000.0001 0000.0000.0004 0000.0000.0003 cost 2\n\
-                refused 18 29 NotBuilt\n\
+                audit version 1 covered 40 nopath 0 nolist 0 toodeep 0\n\
                 walk 0000.0000.0001 cost 0\n\
                 p 0000.0000.0001 0000.0000.0004\n\
                 extended 0000.0000.0001 0000.0000.0003 0000.0000.0004\n\
                 q 0000.0000.0002 0000.0000.0003\n",
-        status: 1,
+        status: 0,
     },
     Case {
         name: "a ring of four, and a node that is cut off",
@@ -112,8 +112,8 @@ pub const RINGS: [Case; 7] = [
                 version 1 nodes 5 links 10\n\
                 repair link 0000.0000.0001>0000.0000.0002#1 to 0000.0000.0002 via 0000.0000.0001>0000.0000.0005#1 segments node:0000.0000.0004 adj:0000.0000.0004>0000.0000.0003#1 labels 16004 24003 16002 cost 103\n\
                 repair link 0000.0000.0001>0000.0000.0002#1 to 0000.0000.0003 via 0000.0000.0001>0000.0000.0005#1 segments node:0000.0000.0004 adj:0000.0000.0004>0000.0000.0003#1 labels 16004 24003 16003 cost 102\n\
-                refused 9 29 NotBuilt\n",
-        status: 1,
+                walk 0000.0000.0001 0000.0000.0005 0000.0000.0004 0000.0000.0003 0000.0000.0002 cost 103\n",
+        status: 0,
     },
     Case {
         name: "a ring with one costly pair, at depths of 1 and 2",
@@ -140,7 +140,7 @@ pub const RINGS: [Case; 7] = [
                 staged 1\n\
                 version 2 nodes 5 links 10\n\
                 repair link 0000.0000.0001>0000.0000.0002#1 to 0000.0000.0002 uncovered toodeep 2\n\
-                refused 10 29 NotBuilt\n\
+                walk uncovered toodeep 2\n\
                 staged 1\n\
                 version 3 nodes 5 links 10\n\
                 repair link 0000.0000.0001>0000.0000.0002#1 to 0000.0000.0002 via 0000.0000.0001>0000.0000.0005#1 segments node:0000.0000.0004 adj:0000.0000.0004>0000.0000.0003#1 labels 16004 24003 16002 cost 103\n\

@@ -1,8 +1,10 @@
-use Rattle.std.proofs.Common.{◌≡◌, true, false, ap, sym, ◌∙◌}
+use Rattle.std.proofs.Common.{◌≡◌, true, false, length, ap, sym, ◌∙◌}
 use Rattle.std.specs.List.{list_any}
+use Rattle.std.proofs.lemmas.Bool.{eqb-true}
+use Rattle.std.proofs.lemmas.List.{nil_from_length}
 use Rattle.sr_domain.specs.Announced.{announcements_of}
 use Rattle.sr_domain.specs.Groups.{notes_of}
-use Rattle.sr_domain.proofs.GroupsLemmas.{groups-of_names, none-ascend}
+use Rattle.sr_domain.proofs.GroupsLemmas.{groups-of_names, groups-of_none, none-ascend}
 use Rattle.sr_domain.proofs.draft.pair_groups.Goals as goal
 
 pub returns-clause-groups : goal.returns-clause-groups
@@ -17,3 +19,12 @@ returns-then-are_refused-clause-ascending c = none-ascend c.new.result.items c.n
 
 pub returns-then-are_refused-clause-groups : goal.returns-then-are_refused-clause-groups
 returns-then-are_refused-clause-groups c = λ few up. let bad : true ≡ false = sym c.if-are_refused.true ∙ c.are_refused.ensures few up in absurd (cc)
+
+pub returns-then-is_empty-clause-ascending : goal.returns-then-is_empty-clause-ascending
+returns-then-is_empty-clause-ascending c = none-ascend c.new-then-is_empty.result.items c.new-then-is_empty.ensures.items
+
+pub returns-then-is_empty-clause-groups : goal.returns-then-is_empty-clause-groups
+returns-then-is_empty-clause-groups c = λ few up.
+    let none = nil_from_length c.as_slice.result.now (eqb-true (length c.as_slice.result.now) 0 (sym c.is_empty.ensures ∙ c.if-is_empty.true)) in
+    groups-of_none c.new-then-is_empty.result.items c.args.links.now (announcements_of c.args.facts.now) (notes_of c.args.facts.now) c.new-then-is_empty.ensures.items
+    (sym c.in_ok-said.ensures ∙ sym c.as_slice.ensures.value ∙ none)

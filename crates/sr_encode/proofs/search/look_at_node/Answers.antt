@@ -3,14 +3,13 @@ use Rattle.sr_model.specs.declared.repair.Segment.TheVariants.{Node}
 use Rattle.sr_model.specs.Graph.{node_count}
 use Rattle.sr_encode.specs.Waypoints.{waypoint_at, node_at}
 use Rattle.sr_encode.specs.Search.{StepsTo}
-use Rattle.sr_encode.proofs.QueueLemmas.{step-node, segment-node, searching-skip, searching-known, searching-push, searching-short}
+use Rattle.sr_encode.proofs.QueueLemmas.{step-node, segment-node, searching-skip, searching-push, searching-short}
+use Rattle.sr_encode.proofs.UnmetLemmas.{pass-met}
 use Rattle.sr_encode.proofs.search.look_at_node.Goals as goal
 
 pub returns-then-met-v-clause-search : goal.returns-then-met-v-clause-search
 returns-then-met-v-clause-search c =
-    searching-known c.args.net.now c.args.failed.now c.args.source.0 c.args.cells.now c.args.queue.now.items c.args.met.now c.args.i c.args.v.0 c.requires.search c.requires.i
-    (Node c.args.v) c.args.v.0 (segment-node c.args.net.now.graph c.args.v c.requires.v) c.if-met-v.true
-    (λ u step. step-node c.args.net.now c.args.failed.now c.args.cells.now (node_at c.args.queue.now.items c.args.i) c.args.v u step)
+    pass-met c.args.net.now c.args.failed.now c.args.source.0 c.args.cells.now c.args.queue.now.items c.args.met.now c.args.i c.args.v c.requires.search c.requires.i c.requires.v c.if-met-v.true
 
 pub returns-then-not-leads_to_node-clause-search : goal.returns-then-not-leads_to_node-clause-search
 returns-then-not-leads_to_node-clause-search c =

@@ -20,6 +20,6 @@ pub loop-link-preserved : goal.loop-link-preserved
 loop-link-preserved c = record {
   all = yielded-more _ _ _ _ _ c.loop-link.invariant.all c.in-Some.ensures.steps.0;
   ends = All-rest (HasEnds c.args.systems.now) _ _ _ c.in-Some.ensures.steps.0 c.loop-link.invariant.ends;
-  links = rw c.in_ok-push.ensures.items (zip-push (IsNumbered c.args.systems.now) _ _ _ _ c.loop-link.invariant.links (record { key = refl; metric = refl; from = c.number-from.ensures; to = c.number-to.ensures }));
+  links = rw c.in_ok-push.ensures.items (zip-push (IsNumbered c.args.systems.now) _ _ _ _ c.loop-link.invariant.links (record { key = refl; metric = refl; from = c.number_near-from.ensures; to = c.number-to.ensures }));
   groups = c.in_ok-push-2.ensures.items ∙ ap (λ gs. gs ++ c.in-Some.link.groups ∷ []) c.loop-link.invariant.groups ∙ sym (map_push (λ (link : DraftLink). link.groups) _ _);
 }

@@ -1,12 +1,7 @@
 use Rattle.std.proofs.Common.{◌≡◌, ⊎_elim, false, ap}
 use Rattle.sr_model.specs.Audit.{is_least}
-use Rattle.sr_repair.proofs.StackLemmas.{list-labels, other-answer}
+use Rattle.sr_repair.proofs.StackLemmas.{other-answer}
 use Rattle.sr_repair.proofs.stack.list_labels.Goals as goal
-
-pub stack-requires-clause-segments : goal.stack-requires-clause-segments
-stack-requires-clause-segments c =
-    rw c.list.ensures
-    (list-labels c.args.net.now c.args.case c.args.destination.0 c.in-Least.list (rw c.in-Least.is at c.requires.answer)).1
 
 pub returns-in-NoPath : goal.returns-in-NoPath
 returns-in-NoPath c =

@@ -7,7 +7,7 @@ use Rattle.sr_engine.proofs.progress.Progress.carry_on.Goals as goal
 pub end_line-requires-clause-line : goal.end_line-requires-clause-line
 end_line-requires-clause-line g c =
     let f = line-found c.args.piece.now c.lines.at c.in-Some.count _ c.lines.invariant.within refl c.in-Some.ensures in
-    f.line
+    λ lifetimes outlives. f.line
 
 pub returns-then-len-gt-GATHERED : goal.returns-then-len-gt-GATHERED
 returns-then-len-gt-GATHERED g c =

@@ -1,0 +1,74 @@
+#!/usr/bin/env python3
+"""Measures what the first commit of a domain takes, on one processor and on all, and what an audit takes after it.
+
+usage: versions.py PROGRAM SCRIPT [SCRIPT ..]
+
+PROGRAM is the built program. Each SCRIPT begins with a domain's `lsp` lines; its other lines are left out. Where the
+variable PEER names a second implementation's program, which tells the times of its phases with `--time`, its times for
+distances and cases on one processor stand beside, and the ratio. The least time of several runs counts. Overload bits are
+cleared, since a commit refuses them.
+"""
+
+import os
+import pathlib
+import re
+import subprocess
+import sys
+import time
+
+RUNS = 9
+OVERLOAD = 0x04
+ONE_PROCESSOR = ["taskset", "-c", "0"]
+
+
+def cleared(line):
+    """The line with the overload bit (ISO 10589, 9.9) of its PDU cleared."""
+    octets = bytearray(bytes.fromhex(line.split()[1]))
+    octets[26] &= ~OVERLOAD
+    return f"lsp {octets.hex()}"
+
+
+def milliseconds(command, lines):
+    text = "".join(line + "\n" for line in lines).encode()
+    least = float("inf")
+    for _ in range(RUNS):
+        start = time.perf_counter()
+        subprocess.run(command, input=text, stdout=subprocess.DEVNULL, stderr=subprocess.DEVNULL, check=False)
+        least = min(least, 1000 * (time.perf_counter() - start))
+    return least
+
+
+def phases(peer, lines):
+    """What the second implementation takes for distances and cases."""
+    command = [*ONE_PROCESSOR, peer, "run", "--rules", "base", "--eager", "--threads", "1", "--time"]
+    text = "".join(line + "\n" for line in lines).encode()
+    least = float("inf")
+    for _ in range(RUNS):
+        run = subprocess.run(command, input=text, stdout=subprocess.DEVNULL, stderr=subprocess.PIPE, check=False)
+        found = re.search(r"trees ([\d.]+) cases ([\d.]+)", run.stderr.decode())
+        least = min(least, float(found[1]) + float(found[2]))
+    return least
+
+
+def measure(program, script):
+    lines = [cleared(line) for line in script.read_text().splitlines() if line.startswith("lsp ")]
+    run = [program, "run"]
+    read = milliseconds([*ONE_PROCESSOR, *run], lines)
+    one = milliseconds([*ONE_PROCESSOR, *run], lines + ["commit"]) - read
+    every = milliseconds(run, lines + ["commit"]) - read
+    audit = milliseconds([*ONE_PROCESSOR, *run], lines + ["commit", "audit"]) - read - one
+    print(f"{script.stem}: commit {one:.0f} ms on one processor, {every:.0f} on all; audit {audit:.0f} ms", end="")
+    peer = os.environ.get("PEER")
+    if peer:
+        theirs = phases(peer, lines + ["commit"])
+        print(f"; second implementation {theirs:.1f} ms, ratio {one / theirs:.1f}", end="")
+    print(flush=True)
+
+
+def main():
+    for script in sys.argv[2:]:
+        measure(sys.argv[1], pathlib.Path(script))
+
+
+if __name__ == "__main__":
+    main()

@@ -1,0 +1,27 @@
+-- The places of two lists that are joined.
+use Rattle.std.proofs.Common.{◌≡◌, ℕ, zero, suc, ◌+◌, ◌<◌, ◌⊎◌, inl, inr, ⊎_elim, List, [], ◌∷◌, ◌++◌, length, Some, slice_get, subst, arith}
+
+-- the item stands at its place in the first list, or in the second
+abbrev pub IsIn : {X : Type 0} → List X → List X → ℕ → X → Type 0
+IsIn xs ys k x = ((k < length xs) × (slice_get xs k ≡ Some x)) ⊎ ((j : ℕ) × (k ≡ length xs + j) × (slice_get ys j ≡ Some x))
+
+-- an item of the joined list stands in one of the two
+pub get-append : {X : Type 0} (xs ys : List X) (k : ℕ) (x : X) → slice_get (xs ++ ys) k ≡ Some x → IsIn xs ys k x
+get-append [] ys k x e = inr (k, omega arith, e)
+get-append (y ∷ xs) ys zero x e = inl (omega arith, e)
+get-append (y ∷ xs) ys (suc k) x e = ⊎_elim
+    (λ h. inl (omega (arith, h.0), h.1))
+    (λ h. inr (h.0, omega (arith, h.1), h.2))
+    (get-append xs ys k x e)
+
+-- an item of the first list
+pub get-left : {X : Type 0} (xs ys : List X) (k : ℕ) (x : X) → slice_get xs k ≡ Some x → slice_get (xs ++ ys) k ≡ Some x
+get-left [] ys k x e = absurd (cc)
+get-left (y ∷ xs) ys zero x e = e
+get-left (y ∷ xs) ys (suc k) x e = get-left xs ys k x e
+
+-- an item of the second list
+pub get-right : {X : Type 0} (xs ys : List X) (j k : ℕ) (x : X) → k ≡ length xs + j → slice_get ys j ≡ Some x → slice_get (xs ++ ys) k ≡ Some x
+get-right [] ys j k x at e = let same : j ≡ k = omega (arith, at) in subst (λ i. slice_get ys i ≡ Some x) same e
+get-right (y ∷ xs) ys j zero x at e = absurd (omega (arith, at))
+get-right (y ∷ xs) ys j (suc k) x at e = get-right xs ys j k x (omega (arith, at)) e

@@ -1,0 +1,3 @@
+pub mod AppendLemmas
+pub mod CaseLemmas
+pub mod JoinLemmas

@@ -1,0 +1,143 @@
+//! The audit of a version, its cases split among threads.
+ghost use Rattle.std.specs.Prelude.{◌≡◌, ◌<◌, ◌≤◌, ◌^◌, length, IfOk, flat_map, vec_items};
+ghost use Rattle.sr_model.specs.declared.audit.Item.{Item as Line};
+ghost use Rattle.sr_model.specs.Audit.{IsAudit};
+ghost use Rattle.sr_model.specs.Case.{IsCase, IsAffected};
+ghost use Rattle.sr_model.specs.Repair.{IsCaseAnswer};
+ghost use Rattle.sr_encode.specs.Answered.{AreAnswers};
+ghost use Rattle.sr_repair.specs.Answers.{case_count};
+ghost use Rattle.sr_audit.specs.Audited.{Audited};
+ghost use Rattle.sr_audit.specs.Cases.{IsItemOf, IsCaseAudit, IsAuditAt, AreAuditsAt};
+
+use crate::report::Report;
+use rayon::prelude::*;
+use sr_encode::NodeAnswer;
+use sr_labels::Net;
+use sr_model::{Case, Item, Stack};
+use sr_repair::{Version, case_at, case_count, labels_of};
+use std::alloc::{AllocError, Global};
+use std::thread::Threads;
+
+/// The item of an answer of the case.
+fn item_of(alloc: Global, net: &Net, case: Case, entry: &NodeAnswer) -> Result<Item, AllocError>
+    requires case { IsCase net.now.graph case }
+    requires affected { IsAffected net.now case entry.now.destination.0 }
+    requires answer { IsCaseAnswer net.now case entry.now.destination.0 entry.now.answer }
+    ensures item { IfOk result (IsItemOf net.now case) }
+    ensures destination { IfOk result (λ (item : Line). item.dest ≡ entry.now.destination) }
+{
+    let labels = labels_of(alloc, net, case, entry.destination, &entry.answer)?;
+    Ok(Item {
+        case,
+        dest: entry.destination,
+        answer: entry.answer.copied(alloc)?,
+        labels: Stack::new(labels),
+    })
+}
+
+/// The items of these answers of the case, destinations ascending.
+fn items_of(
+    alloc: Global,
+    net: &Net,
+    case: Case,
+    answers: &[NodeAnswer],
+) -> Result<Vec<Item>, AllocError>
+    requires case { IsCase net.now.graph case }
+    requires answers { AreAnswers net.now case answers.now }
+    ensures { IfOk result (λ items. IsCaseAudit net.now case items.items) }
+{
+    let mut items = Vec::with_capacity(alloc, answers.len())?;
+    for entry in answers {
+        let item = item_of(alloc, net, case, entry)?;
+        items.push(item)?;
+    }
+    Ok(items)
+}
+
+/// The items of the case, destinations ascending.
+fn case_items(alloc: Global, version: &Version, case: Case) -> Result<Vec<Item>, AllocError>
+    requires { IsCase version.now.net.graph case }
+    ensures audit { IfOk result (λ items. IsCaseAudit version.now.net case items.items) }
+    ensures few { IfOk result (λ items. length items.items ≤ 256) }
+{
+    items_of(alloc, version.net(), case, version.answers(case).list())
+}
+
+/// The items of the case at this place.
+fn items_at(alloc: Global, version: &Version, place: u32) -> Result<Vec<Item>, AllocError>
+    requires { place < case_count version.now.net.graph }
+    ensures { IfOk result (λ items. IsAuditAt version.now.net place items.items) }
+{
+    let case = case_at(version.net().graph(), place);
+    case_items(alloc, version, case)
+}
+
+/// The items of each case, in order of the cases' places.
+fn all_items(
+    rt: &(impl Threads + Sync),
+    alloc: Global,
+    version: &Version,
+    count: u32,
+) -> Result<Vec<Vec<Item>>, AllocError>
+    requires count { count ≡ case_count version.now.net.graph }
+    requires few { count ≤ 6144 }
+    ensures audits { IfOk result (λ lists. AreAuditsAt version.now.net 0 count lists.items) }
+    ensures few { IfOk result (λ lists. length (flat_map vec_items lists.items) < 2 ^ 32) }
+{
+    // A thread costs more than a few cases.
+    let collected = (0..count)
+        .into_par_iter()
+        .with_min_len(16)
+        .map(
+            |place: u32| -> Result<Vec<Item>, AllocError>
+                requires { place < case_count version.now.net.graph }
+                ensures { IfOk result (λ items. IsAuditAt version.entry.now.net place items.items) }
+            { items_at(alloc, version, place) },
+        )
+        .collect::<Result<Vec<Vec<Item>>, AllocError>>(rt, alloc);
+    match collected {
+        Ok(lists) => lists,
+        Err(refused) => Err(refused),
+    }
+}
+
+/// How many items the lists have.
+fn item_count(lists: &[Vec<Item>]) -> usize
+    requires { length (flat_map vec_items lists.now) < 2 ^ 32 }
+    ensures { result ≡ length (flat_map vec_items lists.now) }
+{
+    let mut count = 0;
+    for list in lists {
+        count += list.len();
+    }
+    count
+}
+
+/// The items of all lists, in order.
+fn joined(alloc: Global, lists: Vec<Vec<Item>>) -> Result<Vec<Item>, AllocError>
+    requires { length (flat_map vec_items lists.items) < 2 ^ 32 }
+    ensures { IfOk result (λ items. items.items ≡ flat_map vec_items lists.items) }
+{
+    let mut items = Vec::with_capacity(alloc, item_count(&lists))?;
+    for list in lists {
+        items.extend(list)?;
+    }
+    Ok(items)
+}
+
+/// The audit of the version: each case and each destination that it affects once, in order, with its answer and the labels
+/// on the first link. The cases are split among threads where there are any; the report is the same without.
+pub fn audit(
+    rt: &(impl Threads + Sync),
+    alloc: Global,
+    version: &Version,
+) -> Result<Report, AllocError>
+    ensures version { IfOk result (λ (report : Audited). report.version ≡ version.now.number) }
+    ensures audit { IfOk result (λ (report : Audited). IsAudit version.now.net report.items) }
+    ensures few { IfOk result (λ (report : Audited). length report.items < 2 ^ 32) }
+{
+    let count = case_count(version.net().graph());
+    let lists = all_items(rt, alloc, version, count)?;
+    let items = joined(alloc, lists)?;
+    Ok(Report::new(version.number(), items))
+}

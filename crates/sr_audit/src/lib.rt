@@ -1,0 +1,11 @@
+//! The audit of a version: the answers of all its cases with their labels, in order, and how many are of each sort.
+#![tactic(auto)]
+
+mod audits;
+mod report;
+#[cfg(test)]
+mod tests;
+
+pub use audits::audit;
+pub use report::Report;
+pub use sr_model::{Counts, Item};

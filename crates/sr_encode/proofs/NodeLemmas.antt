@@ -1,0 +1,138 @@
+-- What lists of nodes keep.
+use Rattle.std.proofs.Common.{◌≡◌, ◌≢◌, ℕ, zero, suc, ◌+◌, ◌<◌, ◌≤◌, ⊎_elim, Bool, true, false, List, [], ◌∷◌, ◌++◌, length, refl, arith, ap, sym, ◌∙◌, subst}
+use Rattle.std.specs.Prelude.{not, filter, slice_index_or}
+use Rattle.std.proofs.lemmas.Bool.{cond_both, cases_eq, cases_lt, false_from_ne_true}
+use Rattle.std.proofs.lemmas.List.{length-append, get_or_push, get_or_append_left}
+use Rattle.sr_model.specs.declared.link.NodeNo.{NodeNo}
+use Rattle.sr_model.specs.Graph.{has}
+use Rattle.sr_encode.specs.Nodes.{listed_at, AreThose, AreUnmet, not_met}
+
+-- what stands for a node past the end of a list
+abbrev pub no_node : NodeNo
+no_node = record { 0 = 0 }
+
+-- there is none below 0
+pub those-none : (P : ℕ → Type 0) → AreThose P 0 []
+those-none P = record { ascending = λ i j up lt. absurd (omega arith); each = λ i lt. absurd (omega arith); all = λ d lt a. absurd (omega arith) }
+
+-- one more, which has the property
+pub those-push : (P : ℕ → Type 0) (v : NodeNo) (nodes : List NodeNo) → AreThose P v.0 nodes → P v.0 → AreThose P (v.0 + 1) (nodes ++ v ∷ [])
+those-push P v nodes r is =
+    let long : length (nodes ++ v ∷ []) ≡ length nodes + 1 = length-append nodes (v ∷ []) in
+    let old : (i : ℕ) → i < length nodes → listed_at (nodes ++ v ∷ []) i ≡ listed_at nodes i = λ i lt. ap (λ (k : NodeNo). k.0) (get_or_append_left nodes (v ∷ []) no_node i lt) in
+    let last : listed_at (nodes ++ v ∷ []) (length nodes) ≡ v.0 = ap (λ (k : NodeNo). k.0) (get_or_push nodes v no_node (length nodes) refl) in
+    record {
+      ascending = λ i j up lt. ⊎_elim
+          (λ (early : j < length nodes). let low : listed_at nodes i < listed_at nodes j = r.ascending i j up early in omega (arith, old i (omega arith), old j early))
+          (λ (late : length nodes ≤ j).
+          let at : j ≡ length nodes = omega arith in
+          let low : listed_at nodes i < v.0 = (r.each i (omega arith)).0 in
+          let here : listed_at (nodes ++ v ∷ []) j ≡ v.0 = ap (λ k. listed_at (nodes ++ v ∷ []) k) at ∙ last in
+          omega (arith, old i (omega arith)))
+          (cases_lt j (length nodes));
+      each = λ i lt. ⊎_elim
+          (λ (early : i < length nodes). (
+            (let low : listed_at nodes i < v.0 = (r.each i early).0 in omega (arith, old i early)),
+            subst P (sym (old i early)) (r.each i early).1,
+          ))
+          (λ (late : length nodes ≤ i).
+          let at : i ≡ length nodes = omega arith in
+          let here : listed_at (nodes ++ v ∷ []) i ≡ v.0 = ap (λ k. listed_at (nodes ++ v ∷ []) k) at ∙ last in
+          (omega arith, subst P (sym here) is))
+          (cases_lt i (length nodes));
+      all = λ d lt a. ⊎_elim
+          (λ (here : d ≡ v.0). (length nodes, omega arith, last ∙ sym here))
+          (λ (ne : d ≢ v.0). let q = r.all d (omega arith) a in (q.0, (let below : q.0 < length nodes = q.1 in omega arith), old q.0 q.1 ∙ q.2))
+          (cases_eq d v.0);
+    }
+
+-- the node at place j of the kept ones is one of the nodes, and passes
+abbrev Passes : (NodeNo → Bool) → List NodeNo → List NodeNo → ℕ → Type 0
+Passes test nodes kept j = (k : ℕ) × (k < length nodes) × (listed_at nodes k ≡ listed_at kept j) × (test (slice_index_or nodes k no_node) ≡ true)
+
+passes-behind : (test : NodeNo → Bool) (v : NodeNo) (rest kept : List NodeNo) (j : ℕ) → Passes test rest kept j → Passes test (v ∷ rest) kept j
+passes-behind test v rest kept j q = (suc q.0, (let lt : q.0 < length rest = q.1 in omega arith), q.2, q.3)
+
+passes-first : (test : NodeNo → Bool) (v : NodeNo) (rest kept : List NodeNo) → test v ≡ true → ((j : ℕ) → j < length kept → Passes test rest kept j) → (j : ℕ) → j < length (v ∷ kept) → Passes test (v ∷ rest) (v ∷ kept) j
+passes-first test v rest kept passes others zero lt = (zero, omega arith, refl, passes)
+passes-first test v rest kept passes others (suc j) lt = let q = others j (omega arith) in (suc q.0, (let lt' : q.0 < length rest = q.1 in omega arith), q.2, q.3)
+
+filter-from : (test : NodeNo → Bool) (nodes : List NodeNo) (j : ℕ) → j < length (filter test nodes) → Passes test nodes (filter test nodes) j
+filter-from test [] j lt = absurd (omega arith)
+filter-from test (v ∷ rest) j lt =
+    cond_both (test v) (v ∷ filter test rest) (filter test rest) (λ kept. j < length kept → Passes test (v ∷ rest) kept j)
+    (λ passes. passes-first test v rest (filter test rest) passes (filter-from test rest) j)
+    (λ fails lt'. passes-behind test v rest (filter test rest) j (filter-from test rest j lt'))
+    lt
+
+-- nodes ascend
+abbrev Ascend : List NodeNo → Type 0
+Ascend nodes = (i j : ℕ) → i < j → j < length nodes → listed_at nodes i < listed_at nodes j
+
+ascend-first : (v : NodeNo) (rest : List NodeNo) → ((j : ℕ) → j < length rest → v.0 < listed_at rest j) → Ascend rest → Ascend (v ∷ rest)
+ascend-first v rest low up zero zero i_j lt = absurd (omega arith)
+ascend-first v rest low up zero (suc j) i_j lt = low j (omega arith)
+ascend-first v rest low up (suc i) zero i_j lt = absurd (omega arith)
+ascend-first v rest low up (suc i) (suc j) i_j lt = up i j (omega arith) (omega arith)
+
+ascend-behind : (v : NodeNo) (rest : List NodeNo) → Ascend (v ∷ rest) → Ascend rest
+ascend-behind v rest up i j i_j lt = up (suc i) (suc j) (omega arith) (omega arith)
+
+-- what passes stays in its order
+filter-ascend : (test : NodeNo → Bool) (nodes : List NodeNo) → Ascend nodes → Ascend (filter test nodes)
+filter-ascend test [] up = up
+filter-ascend test (v ∷ rest) up =
+    let behind : Ascend (filter test rest) = filter-ascend test rest (ascend-behind v rest up) in
+    cond_both (test v) (v ∷ filter test rest) (filter test rest) Ascend
+    (λ passes. ascend-first v (filter test rest)
+    (λ j lt. let q = filter-from test rest j lt in let low : v.0 < listed_at rest q.0 = up zero (suc q.0) (omega arith) (let lt' : q.0 < length rest = q.1 in omega arith) in omega (arith, q.2))
+    behind)
+    (λ fails. behind)
+
+-- a node that passes is kept
+abbrev Keeps : List NodeNo → ℕ → Type 0
+Keeps kept v = (j : ℕ) × (j < length kept) × (listed_at kept j ≡ v)
+
+keeps-behind : (v : NodeNo) (rest : List NodeNo) (u : ℕ) → Keeps rest u → Keeps (v ∷ rest) u
+keeps-behind v rest u q = (suc q.0, (let lt : q.0 < length rest = q.1 in omega arith), q.2)
+
+filter-keeps : (test : NodeNo → Bool) (nodes : List NodeNo) (k : ℕ) → k < length nodes → test (slice_index_or nodes k no_node) ≡ true → Keeps (filter test nodes) (listed_at nodes k)
+filter-keeps test [] k lt passes = absurd (omega arith)
+filter-keeps test (v ∷ rest) zero lt passes = rw passes (zero, omega arith, refl)
+filter-keeps test (v ∷ rest) (suc k) lt passes =
+    let behind : Keeps (filter test rest) (listed_at rest k) = filter-keeps test rest k (omega arith) passes in
+    cond_both (test v) (v ∷ filter test rest) (filter test rest) (λ kept. Keeps kept (listed_at rest k))
+    (λ _. keeps-behind v (filter test rest) (listed_at rest k) behind) (λ _. behind)
+
+not-true : (b : Bool) → not b ≡ true → b ≡ false
+not-true true e = let z : false ≡ true = e in absurd (cc)
+not-true false e = refl
+
+was-apart : (met more : List Bool) (v : ℕ) → ((v : ℕ) → has met v ≡ true → has more v ≡ true) → has more v ≡ false → has met v ≡ false
+was-apart met more v kept apart =
+    false_from_ne_true (has met v) (λ was. let z : true ≡ false = sym (kept v was) ∙ apart in absurd (cc))
+
+-- nodes met since are taken out of the list
+pub unmet-filter : (met more : List Bool) (unmet : List NodeNo) → AreUnmet met unmet → length more ≡ length met → ((v : ℕ) → has met v ≡ true → has more v ≡ true) → AreUnmet more (not_met more unmet)
+unmet-filter met more unmet r long kept =
+    let test : NodeNo → Bool = λ (v : NodeNo). not (has more v.0) in
+    record {
+      ascending = filter-ascend test unmet r.ascending;
+      each = λ j lt. let q = filter-from test unmet j lt in (
+        (let below : listed_at unmet q.0 < length met = (r.each q.0 q.1).0 in omega (arith, q.2)),
+        subst (λ v. has more v ≡ false) q.2 (not-true (has more (listed_at unmet q.0)) q.3),
+      );
+      all = λ v lt apart.
+          let before : has met v ≡ false = was-apart met more v kept apart in
+          let q = r.all v (omega arith) before in
+          let here : has more (listed_at unmet q.0) ≡ false = subst (λ u. has more u ≡ false) (sym q.2) apart in
+          subst (λ u. Keeps (filter test unmet) u) q.2 (filter-keeps test unmet q.0 q.1 (ap not here));
+    }
+
+-- the list stays where no mark changes
+pub unmet-same : (met more : List Bool) (unmet : List NodeNo) → AreUnmet met unmet → length more ≡ length met → ((v : ℕ) → has met v ≡ true → has more v ≡ true) → ((v : ℕ) → has more v ≡ true → has met v ≡ true) → AreUnmet more unmet
+unmet-same met more unmet r long kept back = record {
+  ascending = r.ascending;
+  each = λ j lt. ((let below : listed_at unmet j < length met = (r.each j lt).0 in omega arith), was-apart more met (listed_at unmet j) back (r.each j lt).1);
+  all = λ v lt apart. r.all v (omega arith) (was-apart met more v kept apart);
+}

@@ -1,0 +1,37 @@
+//! The nodes that a search hasn't met yet, which alone it looks at.
+ghost use Rattle.std.specs.Prelude.{◌≡◌, ◌≤◌, length, IfOk};
+ghost use Rattle.sr_model.specs.Graph.{has};
+ghost use Rattle.sr_encode.specs.Nodes.{AreUnmet, not_met};
+
+use sr_model::NodeNo;
+use std::alloc::{AllocError, Global};
+
+/// Whether the node is met.
+fn is_met(met: &[bool], v: NodeNo) -> bool
+    ensures { result ≡ has met.now v.0 }
+{
+    let place = v.0 as usize;
+    place < met.len() && met[place]
+}
+
+/// The nodes that aren't met, ascending.
+pub(crate) fn unmet_nodes(alloc: Global, met: &[bool]) -> Result<Vec<NodeNo>, AllocError>
+    requires few { length met.now ≤ 256 }
+    ensures { IfOk result (λ unmet. AreUnmet met.now unmet.items) }
+{
+    let mut unmet = Vec::new(alloc);
+    for v in 0..met.len() as u16 {
+        if is_met(met, NodeNo(v)) {
+            continue;
+        }
+        unmet.push(NodeNo(v))?;
+    }
+    Ok(unmet)
+}
+
+/// Takes the nodes that are met out of the list.
+pub(crate) fn forget_met(met: &[bool], unmet: &mut Vec<NodeNo>)
+    ensures { unmet.new.items ≡ not_met met.now unmet.old.items }
+{
+    unmet.retain(|v| !is_met(met, *v));
+}

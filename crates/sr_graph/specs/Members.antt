@@ -1,0 +1,13 @@
+-- The links of a set.
+use Rattle.std.specs.Prelude.{◌≡◌, ℕ, ◌<◌, Bool, true, List, length, slice_index_or}
+use Rattle.sr_model.specs.declared.link.LinkNo.{LinkNo}
+use Rattle.sr_model.specs.Graph.{has}
+
+-- number i of the list
+abbrev pub number_at : List LinkNo → ℕ → ℕ
+number_at links i = (slice_index_or links i (record { 0 = 0 })).0
+
+-- the list has the links of the set, and no others
+pub record AreMembers (set : List Bool) (links : List LinkNo) : Type 0 where
+  pub each : (i : ℕ) → i < length links → has set (number_at links i) ≡ true
+  pub all : (l : ℕ) → has set l ≡ true → (i : ℕ) × (i < length links) × (number_at links i ≡ l)

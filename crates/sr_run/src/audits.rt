@@ -1,0 +1,51 @@
+//! The audit of the last version: `audit` and `audit full`.
+ghost use Rattle.std.specs.Prelude.{IfOk};
+ghost use Rattle.sr_script.specs.declared.command.Command.TheVariants.{Audit, AuditFull};
+ghost use Rattle.sr_run.specs.Session.{IsCarriedOut};
+
+use crate::session::DomainSession;
+use sr_audit::audit;
+use sr_print::{Refusal, put_items, put_summary};
+use std::alloc::AllocError;
+use std::thread::Threads;
+
+impl DomainSession {
+    /// Carries out `audit`.
+    pub(crate) fn sum_up(
+        &self,
+        rt: &(impl Threads + Sync),
+        number: u32,
+        out: &mut Vec<u8>,
+    ) -> Result<bool, AllocError>
+        ensures { IfOk result (λ refused.
+            IsCarriedOut Audit number self.now out.old.items out.new.items refused self.now) }
+    {
+        let version = match &self.current {
+            Some(version) => version,
+            None => return DomainSession::refuse(number, &Refusal::NoVersion, out),
+        };
+        let report = audit(rt, self.alloc, version)?;
+        put_summary(report.version(), report.counts(), out)?;
+        Ok(false)
+    }
+
+    /// Carries out `audit full`.
+    pub(crate) fn audit_whole(
+        &self,
+        rt: &(impl Threads + Sync),
+        number: u32,
+        out: &mut Vec<u8>,
+    ) -> Result<bool, AllocError>
+        ensures { IfOk result (λ refused.
+            IsCarriedOut AuditFull number self.now out.old.items out.new.items refused self.now) }
+    {
+        let version = match &self.current {
+            Some(version) => version,
+            None => return DomainSession::refuse(number, &Refusal::NoVersion, out),
+        };
+        let report = audit(rt, self.alloc, version)?;
+        put_items(version.net(), report.items(), out)?;
+        put_summary(report.version(), report.counts(), out)?;
+        Ok(false)
+    }
+}
