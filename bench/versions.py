@@ -1,11 +1,12 @@
 #!/usr/bin/env python3
-"""Measures what the first commit of a domain takes, on one processor and on all, and what an audit takes after it.
+"""Measures what the first commit of a domain takes, on one processor and on all, and what audits take after it.
 
 usage: versions.py PROGRAM SCRIPT [SCRIPT ..]
 
 PROGRAM is the built program. Each SCRIPT begins with a domain's `lsp` lines; its other lines are left out. Where the
 variable PEER names a second implementation's program, which tells the times of its phases with `--time`, its times for
-distances and cases on one processor stand beside, and the ratio. The least time of several runs counts. Overload bits are
+distances and cases, and for printing, on one processor stand beside, with the ratios. Printing is the time of `audit full`
+over that of `audit`. The least time of several runs counts. Overload bits are
 cleared, since a commit refuses them.
 """
 
@@ -39,15 +40,16 @@ def milliseconds(command, lines):
 
 
 def phases(peer, lines):
-    """What the second implementation takes for distances and cases."""
+    """What the second implementation takes for distances and cases, and for printing."""
     command = [*ONE_PROCESSOR, peer, "run", "--rules", "base", "--eager", "--threads", "1", "--time"]
     text = "".join(line + "\n" for line in lines).encode()
-    least = float("inf")
+    solving = printing = float("inf")
     for _ in range(RUNS):
         run = subprocess.run(command, input=text, stdout=subprocess.DEVNULL, stderr=subprocess.PIPE, check=False)
-        found = re.search(r"trees ([\d.]+) cases ([\d.]+)", run.stderr.decode())
-        least = min(least, float(found[1]) + float(found[2]))
-    return least
+        found = re.search(r"trees ([\d.]+) cases ([\d.]+) .*print ([\d.]+)", run.stderr.decode())
+        solving = min(solving, float(found[1]) + float(found[2]))
+        printing = min(printing, float(found[3]))
+    return solving, printing
 
 
 def measure(program, script):
@@ -57,11 +59,13 @@ def measure(program, script):
     one = milliseconds([*ONE_PROCESSOR, *run], lines + ["commit"]) - read
     every = milliseconds(run, lines + ["commit"]) - read
     audit = milliseconds([*ONE_PROCESSOR, *run], lines + ["commit", "audit"]) - read - one
-    print(f"{script.stem}: commit {one:.0f} ms on one processor, {every:.0f} on all; audit {audit:.0f} ms", end="")
+    full = milliseconds([*ONE_PROCESSOR, *run], lines + ["commit", "audit full"]) - read - one - audit
+    print(f"{script.stem}: commit {one:.0f} ms on one processor, {every:.0f} on all", end="")
+    print(f"; audit {audit:.0f} ms, printing {full:.0f} ms", end="")
     peer = os.environ.get("PEER")
     if peer:
-        theirs = phases(peer, lines + ["commit"])
-        print(f"; second implementation {theirs:.1f} ms, ratio {one / theirs:.1f}", end="")
+        solving, printing = phases(peer, lines + ["commit", "audit full"])
+        print(f"; second implementation {solving:.1f} and {printing:.1f} ms, ratios {one / solving:.1f} and {full / printing:.1f}", end="")
     print(flush=True)
 
 
