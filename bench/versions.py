@@ -1,13 +1,13 @@
 #!/usr/bin/env python3
-"""Measures what the first commit of a domain takes, on one processor and on all, and what audits take after it.
+"""Measures what commits and audits of a domain take, on one processor and on all.
 
 usage: versions.py PROGRAM SCRIPT [SCRIPT ..]
 
-PROGRAM is the built program. Each SCRIPT begins with a domain's `lsp` lines; its other lines are left out. Where the
-variable PEER names a second implementation's program, which tells the times of its phases with `--time`, its times for
-distances and cases, and for printing, on one processor stand beside, with the ratios. Printing is the time of `audit full`
-over that of `audit`. The least time of several runs counts. Overload bits are
-cleared, since a commit refuses them.
+PROGRAM is the built program. Each SCRIPT has a domain's `lsp` lines, a commit, and edits with their commits. Measured are
+the first commit, `audit` and `audit full` after it, each over what goes before, and the edits with their commits and
+questions. Where the variable PEER names a second implementation's program, which tells the times of its phases with
+`--time`, its times for distances and cases, for printing, and for the edits stand beside, on one processor and on all, with
+the ratios. The least time of several runs counts. Overload bits are cleared, since a commit refuses them.
 """
 
 import os
@@ -29,44 +29,72 @@ def cleared(line):
     return f"lsp {octets.hex()}"
 
 
-def milliseconds(command, lines):
+def milliseconds(command, lines, runs=RUNS):
     text = "".join(line + "\n" for line in lines).encode()
     least = float("inf")
-    for _ in range(RUNS):
+    for _ in range(runs):
         start = time.perf_counter()
         subprocess.run(command, input=text, stdout=subprocess.DEVNULL, stderr=subprocess.DEVNULL, check=False)
         least = min(least, 1000 * (time.perf_counter() - start))
     return least
 
 
-def phases(peer, lines):
-    """What the second implementation takes for distances and cases, and for printing."""
-    command = [*ONE_PROCESSOR, peer, "run", "--rules", "base", "--eager", "--threads", "1", "--time"]
-    text = "".join(line + "\n" for line in lines).encode()
-    solving = printing = float("inf")
-    for _ in range(RUNS):
-        run = subprocess.run(command, input=text, stdout=subprocess.DEVNULL, stderr=subprocess.PIPE, check=False)
-        found = re.search(r"trees ([\d.]+) cases ([\d.]+) .*print ([\d.]+)", run.stderr.decode())
-        solving = min(solving, float(found[1]) + float(found[2]))
-        printing = min(printing, float(found[3]))
-    return solving, printing
+class Program:
+    """The built program, run on as many processors as are asked for."""
+
+    def __init__(self, path, processors):
+        self.command = [*(ONE_PROCESSOR if processors == 1 else []), path, "run"]
+
+    def times(self, opening, edits):
+        read = milliseconds(self.command, opening)
+        commit = milliseconds(self.command, opening + ["commit"])
+        audit = milliseconds(self.command, opening + ["commit", "audit"])
+        full = milliseconds(self.command, opening + ["commit", "audit full"])
+        churn = milliseconds(self.command, opening + ["commit"] + edits, runs=2)
+        return {"commit": commit - read, "audit": audit - commit, "printing": full - commit, "edits": churn - commit}
+
+
+class Peer:
+    """A second implementation, which tells the times of its phases."""
+
+    def __init__(self, path, processors):
+        threads = ["--threads", str(processors)] if processors else []
+        self.command = [*(ONE_PROCESSOR if processors == 1 else []), path, "run", "--rules", "base", "--eager", *threads, "--time"]
+
+    def phases(self, lines):
+        text = "".join(line + "\n" for line in lines).encode()
+        least = [float("inf")] * 3
+        for _ in range(RUNS):
+            run = subprocess.run(self.command, input=text, stdout=subprocess.DEVNULL, stderr=subprocess.PIPE, check=False)
+            found = re.search(r"trees ([\d.]+) cases ([\d.]+) .*print ([\d.]+) .*total ([\d.]+)", run.stderr.decode())
+            trees, cases, printing, total = map(float, found.groups())
+            least = [min(pair) for pair in zip(least, (trees + cases, printing, total))]
+        return least
+
+    def times(self, opening, edits):
+        solving, printing, _ = self.phases(opening + ["commit", "audit full"])
+        _, _, first = self.phases(opening + ["commit"])
+        _, _, churn = self.phases(opening + ["commit"] + edits)
+        return {"commit": solving, "printing": printing, "edits": churn - first}
+
+
+def shown(name, mine, theirs):
+    text = f"{name} {mine[name]:.0f}"
+    if name in theirs:
+        text += f" ({mine[name] / theirs[name]:.1f})"
+    return text
 
 
 def measure(program, script):
-    lines = [cleared(line) for line in script.read_text().splitlines() if line.startswith("lsp ")]
-    run = [program, "run"]
-    read = milliseconds([*ONE_PROCESSOR, *run], lines)
-    one = milliseconds([*ONE_PROCESSOR, *run], lines + ["commit"]) - read
-    every = milliseconds(run, lines + ["commit"]) - read
-    audit = milliseconds([*ONE_PROCESSOR, *run], lines + ["commit", "audit"]) - read - one
-    full = milliseconds([*ONE_PROCESSOR, *run], lines + ["commit", "audit full"]) - read - one - audit
-    print(f"{script.stem}: commit {one:.0f} ms on one processor, {every:.0f} on all", end="")
-    print(f"; audit {audit:.0f} ms, printing {full:.0f} ms", end="")
+    lines = [cleared(line) if line.startswith("lsp ") else line for line in script.read_text().splitlines()]
+    first = lines.index("commit")
+    opening, edits = lines[:first], [line for line in lines[first + 1 :] if not line.startswith("audit")]
     peer = os.environ.get("PEER")
-    if peer:
-        solving, printing = phases(peer, lines + ["commit", "audit full"])
-        print(f"; second implementation {solving:.1f} and {printing:.1f} ms, ratios {one / solving:.1f} and {full / printing:.1f}", end="")
-    print(flush=True)
+    for processors in (1, None):
+        mine = Program(program, processors).times(opening, edits)
+        theirs = Peer(peer, processors).times(opening, edits) if peer else {}
+        where = "one processor" if processors else "all"
+        print(f"{script.stem}, {where}: " + ", ".join(shown(name, mine, theirs) for name in mine) + " ms", flush=True)
 
 
 def main():

@@ -84,7 +84,7 @@ has-right n m items list at case d within place affected =
     (length items + h.0, h.1, get-right items list h.0 (length items + h.0) h.1 refl h.2, (at.audit.each h.0 h.1 h.2).1 ∙ sym same, h.3)
 
 -- no items are the audit of no cases
-first-none : (n : Net) → AreFirst n 0 []
+pub first-none : (n : Net) → AreFirst n 0 []
 first-none n = record {
   each = λ k item e. absurd (cc);
   ascending = λ j k a b lt ea eb. absurd (cc);
@@ -92,7 +92,7 @@ first-none n = record {
 }
 
 -- the items of the next case
-first-more : (n : Net) (m : ℕ) (items list : List Item) → AreFirst n m items → IsAuditAt n m list → AreFirst n (m + 1) (items ++ list)
+pub first-more : (n : Net) (m : ℕ) (items list : List Item) → AreFirst n m items → IsAuditAt n m list → AreFirst n (m + 1) (items ++ list)
 first-more n m items list r at = record {
   each = λ k item e. each-more n m items list r at k item (get-append items list k item e);
   ascending = λ j k a b lt ea eb. ascending-more n m items list r at j k a b lt (get-append items list j a ea) (get-append items list k b eb);
@@ -114,7 +114,7 @@ first-lists n m (suc k) p items (list ∷ lists) e r zip =
     subst (AreFirst n p) (append_assoc items list.items (flat_map vec_items lists)) more
 
 -- the audit of the cases at all places is the audit
-first-audit : (n : Net) (items : List Item) → AreFirst n (case_count n.graph) items → IsAudit n items
+pub first-audit : (n : Net) (items : List Item) → AreFirst n (case_count n.graph) items → IsAudit n items
 first-audit n items r = record {
   each = λ k item e. (r.each k item e).0;
   ascending = r.ascending;

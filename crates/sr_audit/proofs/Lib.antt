@@ -1,3 +1,4 @@
 pub mod AppendLemmas
 pub mod CaseLemmas
+pub mod CountLemmas
 pub mod JoinLemmas

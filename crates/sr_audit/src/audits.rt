@@ -1,13 +1,14 @@
 //! The audit of a version, its cases split among threads.
 ghost use Rattle.std.specs.Prelude.{◌≡◌, ◌<◌, ◌≤◌, ◌^◌, length, IfOk, flat_map, vec_items};
-ghost use Rattle.sr_model.specs.declared.audit.Item.{Item as Line};
+ghost use Rattle.std.specs.List.{AllZip};
 ghost use Rattle.sr_model.specs.Audit.{IsAudit};
 ghost use Rattle.sr_model.specs.Case.{IsCase, IsAffected};
 ghost use Rattle.sr_model.specs.Repair.{IsCaseAnswer};
 ghost use Rattle.sr_encode.specs.Answered.{AreAnswers};
 ghost use Rattle.sr_repair.specs.Answers.{case_count};
+ghost use Rattle.sr_repair.specs.Items.{IsItemFor};
 ghost use Rattle.sr_audit.specs.Audited.{Audited};
-ghost use Rattle.sr_audit.specs.Cases.{IsItemOf, IsCaseAudit, IsAuditAt, AreAuditsAt};
+ghost use Rattle.sr_audit.specs.Cases.{IsCaseAudit, IsAuditAt, AreAuditsAt};
 
 use crate::report::Report;
 use rayon::prelude::*;
@@ -18,13 +19,12 @@ use sr_repair::{Version, case_at, case_count, labels_of};
 use std::alloc::{AllocError, Global};
 use std::thread::Threads;
 
-/// The item of an answer of the case.
+/// The item that stands for an answer of the case.
 fn item_of(alloc: Global, net: &Net, case: Case, entry: &NodeAnswer) -> Result<Item, AllocError>
     requires case { IsCase net.now.graph case }
     requires affected { IsAffected net.now case entry.now.destination.0 }
     requires answer { IsCaseAnswer net.now case entry.now.destination.0 entry.now.answer }
-    ensures item { IfOk result (IsItemOf net.now case) }
-    ensures destination { IfOk result (λ (item : Line). item.dest ≡ entry.now.destination) }
+    ensures { IfOk result (IsItemFor net.now case entry.now) }
 {
     let labels = labels_of(alloc, net, case, entry.destination, &entry.answer)?;
     Ok(Item {
@@ -35,7 +35,7 @@ fn item_of(alloc: Global, net: &Net, case: Case, entry: &NodeAnswer) -> Result<I
     })
 }
 
-/// The items of these answers of the case, destinations ascending.
+/// The items that stand for these answers of the case, in their order.
 fn items_of(
     alloc: Global,
     net: &Net,
@@ -44,7 +44,7 @@ fn items_of(
 ) -> Result<Vec<Item>, AllocError>
     requires case { IsCase net.now.graph case }
     requires answers { AreAnswers net.now case answers.now }
-    ensures { IfOk result (λ items. IsCaseAudit net.now case items.items) }
+    ensures { IfOk result (λ items. AllZip (IsItemFor net.now case) answers.now items.items) }
 {
     let mut items = Vec::with_capacity(alloc, answers.len())?;
     for entry in answers {
@@ -125,8 +125,8 @@ fn joined(alloc: Global, lists: Vec<Vec<Item>>) -> Result<Vec<Item>, AllocError>
     Ok(items)
 }
 
-/// The audit of the version: each case and each destination that it affects once, in order, with its answer and the labels
-/// on the first link. The cases are split among threads where there are any; the report is the same without.
+/// The audit of the version: each case and each destination that it affects once, in order, with its answer and the
+/// labels on the first link. The cases are split among threads where there are any; the report is the same without.
 pub fn audit(
     rt: &(impl Threads + Sync),
     alloc: Global,

@@ -2,10 +2,12 @@
 #![tactic(auto)]
 
 mod audits;
+mod counting;
 mod report;
 #[cfg(test)]
 mod tests;
 
 pub use audits::audit;
+pub use counting::counts;
 pub use report::Report;
 pub use sr_model::{Counts, Item};

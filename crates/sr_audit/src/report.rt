@@ -2,11 +2,12 @@
 ghost use Rattle.std.specs.Prelude.{◌≡◌, ◌<◌, ◌^◌, length};
 ghost use Rattle.sr_model.specs.Audit.{counts_of};
 
+use crate::counting::no_counts;
 use sr_model::{Answer, Counts, Item};
 use std::marker::Model;
 
-/// The answers of all cases of a version with their labels: cases by kind (link, node, risk) and then by protected link, in
-/// a case the affected destinations ascending. Contracts see the version's number and the list.
+/// The answers of all cases of a version with their labels: cases by kind (link, node, risk) and then by protected link,
+/// in a case the affected destinations ascending. Contracts see the version's number and the list.
 #[derive(Debug, Drop)]
 pub struct Report {
     version: u32,
@@ -49,12 +50,7 @@ impl Report {
         requires { length self.now.items < 2 ^ 32 }
         ensures { result ≡ counts_of self.now.items }
     {
-        let mut counts = Counts {
-            covered: 0,
-            nopath: 0,
-            nolist: 0,
-            toodeep: 0,
-        };
+        let mut counts = no_counts();
         for item in &self.items {
             match item.answer {
                 Answer::Least(_) => counts.covered += 1,

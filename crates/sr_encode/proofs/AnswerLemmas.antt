@@ -78,6 +78,15 @@ answers-over n case x wanted list long set r a = record {
       (q.0, (let below : q.0 < length wanted = q.1 in omega (arith, a.long)), a.nodes q.0 q.1 ∙ q.2);
 }
 
+-- a case that affects no destination has no answers
+pub answers-none : (n : Net) (case : Case) (wanted : List NodeNo) → length n.labels ≡ node_count n.graph → AreAffected n case (node_count n.graph) wanted → length wanted ≡ 0 → AreAnswers n case []
+answers-none n case wanted long r none = record {
+  ascending = λ i j up lt. absurd (omega arith);
+  affected = λ i lt. absurd (omega arith);
+  answers = λ i lt. absurd (omega arith);
+  all = λ d is. let q = r.all d (affected-within n case d long is) is in let lt : q.0 < length wanted = q.1 in absurd (omega arith);
+}
+
 -- what a search by destination finds
 module _ (list : List NodeAnswer) (up : AscendByNode list) (d : ℕ) where
   key : NodeAnswer → ℕ

@@ -46,6 +46,22 @@ those-push P v nodes r is =
           (cases_eq d v.0);
     }
 
+-- each stands no lower than its place
+those-above : (P : ℕ → Type 0) (m : ℕ) (nodes : List NodeNo) → AreThose P m nodes → (j : ℕ) → j < length nodes → j ≤ listed_at nodes j
+those-above P m nodes r zero lt = omega arith
+those-above P m nodes r (suc j) lt =
+    let before : j ≤ listed_at nodes j = those-above P m nodes r j (omega arith) in
+    let up : listed_at nodes j < listed_at nodes (suc j) = r.ascending j (suc j) (omega arith) lt in
+    omega arith
+
+-- so there are no more than m
+pub those-few : (P : ℕ → Type 0) (m : ℕ) (nodes : List NodeNo) → AreThose P m nodes → length nodes ≤ m
+those-few P m nodes r =
+    ⊎_elim
+    (λ (more : m < length nodes). let above : m ≤ listed_at nodes m = those-above P m nodes r m more in let below : listed_at nodes m < m = (r.each m more).0 in absurd (omega arith))
+    (λ (few : length nodes ≤ m). few)
+    (cases_lt m (length nodes))
+
 -- the node at place j of the kept ones is one of the nodes, and passes
 abbrev Passes : (NodeNo → Bool) → List NodeNo → List NodeNo → ℕ → Type 0
 Passes test nodes kept j = (k : ℕ) × (k < length nodes) × (listed_at nodes k ≡ listed_at kept j) × (test (slice_index_or nodes k no_node) ≡ true)

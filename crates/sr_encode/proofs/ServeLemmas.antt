@@ -5,17 +5,25 @@ use Rattle.std.proofs.lemmas.Bool.{cond_both, cases_eq}
 use Rattle.std.proofs.lemmas.List.{length-replicate, length-set, get_or_default, get_or-replicate, get_or-set_same, get_or-set_other}
 use Rattle.std.proofs.lemmas.List.Elements.{All-nil, All-cons, All-weaker, All-contains, All-filter, Contains-get_or, Contains-append_right}
 use Rattle.sr_model.specs.declared.link.NodeNo.{NodeNo}
-use Rattle.sr_model.specs.Graph.{IsGraph}
+use Rattle.sr_model.specs.Graph.{IsGraph, node_count}
 use Rattle.sr_model.specs.Label.{Net}
 use Rattle.sr_model.specs.Walk.{IsRow}
 use Rattle.sr_model.specs.Repair.{Path, IsLeast}
+use Rattle.sr_walks.proofs.Distances.{distance-unique}
 use Rattle.sr_encode.specs.declared.waypoint.Waypoint.{Waypoint}
-use Rattle.sr_encode.specs.Waypoints.{AreParents, Extends}
+use Rattle.sr_encode.specs.Waypoints.{AreParents, Extends, node_at}
 use Rattle.sr_encode.specs.Search.{IsSearching}
 use Rattle.sr_encode.specs.Serve.{EndsAt, place_at, AreNodes, IsServed, AreServed, HasUnserved, not_served, AreFound}
 use Rattle.sr_encode.specs.Nodes.{listed_at}
 use Rattle.sr_encode.proofs.QueueLemmas.{path-kept}
+use Rattle.sr_encode.proofs.SearchLemmas.{row-distance}
 use Rattle.sr_encode.proofs.StopLemmas.{none-sound}
+
+-- where lists can end at w towards d, the distances by w add up
+pub ends-sum : (n : Net) (x : List Bool) (post row : List ℕ) (w d : ℕ) → IsRow n.graph [] w row → d < node_count n.graph → EndsAt n x post w d → slice_index post w + slice_index row d ≡ slice_index post d
+ends-sum n x post row w d is within ends =
+    let same : slice_index row d ≡ ends.rest = distance-unique n.graph [] w d _ ends.rest (row-distance n.graph [] w row d ends.goes_on.reached.0 is within ends.goes_on.reached.1) ends.goes_on in
+    omega (arith, ends.fits)
 
 -- what was served stays served as the queue grows
 served-kept : (n : Net) (x : List Bool) (s : ℕ) (post : List ℕ) (queue more : List Waypoint) (i d : ℕ) (place : Option ℕ) → AreParents queue → Extends queue more → i ≤ length queue → IsServed n x s post queue i d place → IsServed n x s post more i d place
@@ -86,6 +94,28 @@ module _ (n : Net) (x : List Bool) (s : ℕ) (post : List ℕ) (queue : List Way
         };
         offered = λ p before. at_set (λ k. IsServed n x s post queue (i + 1) (listed_at wanted k)) places j place (slice_index unserved p) within here
             (λ apart. r.offered p (let ne : p ≢ m = λ e. apart (ap (λ q. slice_index unserved q) e) in omega arith));
+      }
+
+  -- a destination towards which no list can end there needs no offer
+  pub offered-skip : (m : ℕ) → m < length unserved → AreOffered n x s post queue i wanted places unserved m
+      → (EndsAt n x post (node_at queue i) (listed_at wanted (slice_index unserved m)) → ⊥)
+      → AreOffered n x s post queue i wanted places unserved (m + 1)
+  offered-skip m lt r apart =
+      let before : IsServed n x s post queue i (listed_at wanted (slice_index unserved m)) (place_at places (slice_index unserved m)) = r.served.each (slice_index unserved m) (r.has.inside m 0 lt) in
+      let here : IsServed n x s post queue (i + 1) (listed_at wanted (slice_index unserved m)) (place_at places (slice_index unserved m)) = record {
+        none = λ no near k below. ⊎_elim
+            (λ (at : k ≡ i). subst (λ q. EndsAt n x post (node_at queue q) (listed_at wanted (slice_index unserved m)) → ⊥) (sym at) apart)
+            (λ (ne : k ≢ i). before.none no near k (omega arith))
+            (cases_eq k i);
+        some = before.some;
+      } in
+      record {
+        served = r.served;
+        has = r.has;
+        offered = λ p below. ⊎_elim
+            (λ (at : p ≡ m). subst (λ q. IsServed n x s post queue (i + 1) (listed_at wanted (slice_index unserved q)) (place_at places (slice_index unserved q))) (sym at) here)
+            (λ (ne : p ≢ m). r.offered p (omega arith))
+            (cases_eq p m);
       }
 
   -- the others are served, or have no walk, so that all were offered it in the end

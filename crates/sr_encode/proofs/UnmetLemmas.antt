@@ -1,5 +1,5 @@
 -- What a search that looks at nodes that aren't met alone passes over.
-use Rattle.std.proofs.Common.{◌≡◌, ℕ, zero, suc, ◌+◌, ◌-◌, ◌<◌, ◌≤◌, ⊎_elim, Bool, true, List, length, arith, ap, sym, ◌∙◌, subst}
+use Rattle.std.proofs.Common.{◌≡◌, ℕ, zero, suc, ◌+◌, ◌-◌, ◌≢◌, ◌<◌, ◌≤◌, ⊎_elim, Bool, true, List, [], length, arith, ap, sym, ◌∙◌, subst}
 use Rattle.std.specs.Prelude.{is_some, slice_index, slice_index_or}
 use Rattle.std.proofs.lemmas.Bool.{cases_eq, cases_lt, true_from_ne_false}
 use Rattle.std.proofs.lemmas.List.{get_or_default, get_or_past}
@@ -7,12 +7,15 @@ use Rattle.sr_model.specs.declared.link.NodeNo.{NodeNo}
 use Rattle.sr_model.specs.declared.repair.Segment.TheVariants.{Node}
 use Rattle.sr_model.specs.Graph.{node_count, has}
 use Rattle.sr_model.specs.Label.{Net}
+use Rattle.sr_model.specs.Walk.{IsDistance, IsRow}
+use Rattle.sr_walks.proofs.Distances.{distance-unique}
 use Rattle.sr_encode.specs.declared.waypoint.Waypoint.{Waypoint}
 use Rattle.sr_encode.specs.Waypoints.{node_at, Extends}
 use Rattle.sr_encode.specs.Nodes.{listed_at, AreUnmet, not_met}
-use Rattle.sr_encode.specs.Search.{IsSearching}
+use Rattle.sr_encode.specs.Search.{StepsTo, IsSearching}
 use Rattle.sr_encode.proofs.NodeLemmas.{no_node, unmet-filter, unmet-same}
-use Rattle.sr_encode.proofs.QueueLemmas.{list-from, step-node, segment-node, searching-known}
+use Rattle.sr_encode.proofs.QueueLemmas.{list-from, step-node, segment-node, searching-known, searching-skip}
+use Rattle.sr_encode.proofs.SearchLemmas.{row-distance}
 
 -- the node at place j, or the count of all nodes past the end of the list
 abbrev pub next_at : List NodeNo → ℕ → ℕ → ℕ
@@ -53,6 +56,20 @@ pub pass-met : (n : Net) (x : List Bool) (s : ℕ) (post : List ℕ) (queue : Li
 pass-met n x s post queue met i v r inside within was =
     searching-known n x s post queue met i v.0 r inside (Node v) v.0 (segment-node n.graph v within) was
     (λ u step. step-node n x post (node_at queue i) v u step)
+
+-- the distances by a waypoint add up where the node's segment leads on from it
+step-sum : (n : Net) (x : List Bool) (post row : List ℕ) (w u : ℕ) (v : NodeNo) → IsRow n.graph [] w row → StepsTo n x post w (Node v) u → slice_index post w + slice_index row v.0 ≡ slice_index post v.0
+step-sum n x post row w u v is step =
+    let d : IsDistance n.graph [] w v.0 step.leads.0 = step.leads.6 in
+    let same : slice_index row v.0 ≡ step.leads.0 = distance-unique n.graph [] w v.0 _ step.leads.0 (row-distance n.graph [] w row v.0 d.reached.0 is step.leads.3 d.reached.1) d in
+    let there : slice_index post v.0 ≡ slice_index post u = ap (λ k. slice_index post k) step.leads.7.0 in
+    omega (arith, step.fits, step.leads.8, step.leads.7.1)
+
+-- where they don't, the node is passed over
+pub pass-elsewhere : (n : Net) (x : List Bool) (s : ℕ) (post row : List ℕ) (queue : List Waypoint) (met : List Bool) (i : ℕ) (v : NodeNo) → IsSearching n x s post queue met i v.0 → i < length queue → v.0 < node_count n.graph → IsRow n.graph [] (node_at queue i) row → slice_index post (node_at queue i) + slice_index row v.0 ≢ slice_index post v.0 → IsSearching n x s post queue met i (v.0 + 1)
+pass-elsewhere n x s post row queue met i v r inside within is apart =
+    searching-skip n x s post queue met i v.0 r inside (Node v) (segment-node n.graph v within)
+    (λ u step. apart (step-sum n x post row (node_at queue i) u v is step))
 
 -- and so is a run of such nodes
 pass-run : (n : Net) (x : List Bool) (s : ℕ) (post : List ℕ) (queue : List Waypoint) (met : List Bool) (i from m : ℕ) → IsSearching n x s post queue met i from → i < length queue → from + m ≤ node_count n.graph → ((k : ℕ) → from ≤ k → k < from + m → has met k ≡ true) → IsSearching n x s post queue met i (from + m)

@@ -1,9 +1,11 @@
 -- The answers of a case.
-use Rattle.std.specs.Prelude.{◌≡◌, ◌≢◌, ℕ, ◌<◌, Bool, List, length, slice_index_or}
+use Rattle.std.specs.Prelude.{◌≡◌, ◌≢◌, ℕ, ◌<◌, Bool, List, length, count_by, slice_index_or}
 use Rattle.sr_model.specs.declared.case.Case.{Case}
 use Rattle.sr_model.specs.declared.link.NodeNo.{NodeNo}
 use Rattle.sr_model.specs.declared.repair.Answer.{Answer}
 use Rattle.sr_model.specs.declared.repair.Answer.TheVariants.{NoPath}
+use Rattle.sr_model.specs.declared.audit.Counts.{Counts}
+use Rattle.sr_model.specs.Audit.{is_least, is_no_path, is_no_list, is_too_deep}
 use Rattle.sr_model.specs.Label.{Net}
 use Rattle.sr_model.specs.Case.{IsAffected}
 use Rattle.sr_model.specs.Repair.{IsAnswer, IsCaseAnswer}
@@ -33,6 +35,15 @@ HasAnswer list d answer = (i : ℕ) × (i < length list) × (destination_at list
 -- the list has no answer for d
 abbrev pub NoAnswer : List NodeAnswer → ℕ → Type 0
 NoAnswer list d = (i : ℕ) → i < length list → destination_at list i ≢ d
+
+-- how many of the answers are lists, no path, no list and too deep
+abbrev pub counts_in : List NodeAnswer → Counts
+counts_in list = record {
+  covered = count_by (λ (e : NodeAnswer). is_least e.answer) list;
+  nopath = count_by (λ (e : NodeAnswer). is_no_path e.answer) list;
+  nolist = count_by (λ (e : NodeAnswer). is_no_list e.answer) list;
+  toodeep = count_by (λ (e : NodeAnswer). is_too_deep e.answer) list;
+}
 
 -- the list has the affected destinations of the case, ascending, each with its answer
 pub record AreAnswers (n : Net) (case : Case) (list : List NodeAnswer) : Type 0 where

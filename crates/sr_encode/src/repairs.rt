@@ -1,8 +1,8 @@
 //! The answers of a case, from its search.
-ghost use Rattle.std.specs.Prelude.{◌<◌, length, IfOk};
+ghost use Rattle.std.specs.Prelude.{◌≡◌, ◌<◌, length, IfOk};
 ghost use Rattle.sr_model.specs.Graph.{node_count};
 ghost use Rattle.sr_model.specs.Walk.{IsRow};
-ghost use Rattle.sr_model.specs.Case.{IsCase};
+ghost use Rattle.sr_model.specs.Case.{IsCase, IsFailedSet, source_of};
 ghost use Rattle.sr_spf.specs.Trees.{AreTrees};
 ghost use Rattle.sr_post.specs.Post.{IsPost};
 ghost use Rattle.sr_encode.specs.Serve.{AreNodes, AreFound};
@@ -18,7 +18,8 @@ use crate::waypoint::Waypoint;
 use sr_graph::LinkSet;
 use sr_labels::Net;
 use sr_model::{Case, NodeNo};
-use sr_post::{Post, affected};
+use sr_post::{Post, affected, spaces_of};
+use sr_spaces::Spaces;
 use sr_spf::Trees;
 use std::alloc::{AllocError, Global};
 
@@ -55,29 +56,27 @@ struct Found {
 fn search(
     alloc: Global,
     net: &Net,
-    trees: &Trees,
+    spaces: &Spaces,
     cells: &[u64],
-    failed: &LinkSet,
     source: NodeNo,
     wanted: &[NodeNo],
 ) -> Result<Found, AllocError>
-    requires trees { AreTrees net.now.graph trees.now }
-    requires cells { IsRow net.now.graph failed.now source.0 cells.now }
+    requires same { spaces.now.graph ≡ net.now.graph }
+    requires cells { IsRow net.now.graph spaces.now.failed source.0 cells.now }
     requires source { source.0 < node_count net.now.graph }
     requires wanted { AreNodes net.now wanted.now }
-    ensures { IfOk result (λ found. AreFound net.now failed.now source.0 cells.now found.queue.items wanted.now found.places.items) }
+    ensures { IfOk result (λ found. AreFound net.now spaces.now.failed source.0 cells.now found.queue.items wanted.now found.places.items) }
 {
     let mut met = vec![in alloc; false; net.graph().node_count() as usize]?;
     let mut places = vec![in alloc; None; wanted.len()]?;
     let mut queue = Vec::new(alloc);
-    begin_all(net, cells, failed, source, &mut met, &mut queue)?;
+    begin_all(net, spaces, cells, source, &mut met, &mut queue)?;
     let mut unmet = unmet_nodes(alloc, &met)?;
     let mut unserved = unserved_places(alloc, cells, wanted, &places)?;
     explore(
         net,
-        trees,
+        spaces,
         cells,
-        failed,
         source,
         wanted,
         &mut met,
@@ -127,6 +126,38 @@ fn answers_of(
     Ok(list)
 }
 
+/// The answers of the case, whose affected destinations these are. `spaces` has the links that fail in it, and `cells` the
+/// distances from its source without them.
+fn answers_for(
+    alloc: Global,
+    net: &Net,
+    spaces: &Spaces,
+    cells: &[u64],
+    case: Case,
+    wanted: &[NodeNo],
+) -> Result<CaseAnswers, AllocError>
+    requires same { spaces.now.graph ≡ net.now.graph }
+    requires case { IsCase net.now.graph case }
+    requires failed { IsFailedSet net.now.graph case spaces.now.failed }
+    requires cells { IsRow net.now.graph spaces.now.failed (source_of net.now.graph case) cells.now }
+    requires wanted { AreAffected net.now case (node_count net.now.graph) wanted.now }
+    ensures { IfOk result (AreAnswers net.now case) }
+{
+    let source = net.graph().link(case.link).from;
+    let found = search(alloc, net, spaces, cells, source, wanted)?;
+    let list = answers_of(
+        alloc,
+        net,
+        cells,
+        spaces.failed(),
+        source,
+        &found.queue,
+        wanted,
+        &found.places,
+    )?;
+    Ok(CaseAnswers::new(list))
+}
+
 /// The answer of the case for each affected destination, ascending: the least sound list, or why
 /// there is none. `post` is what the case leaves.
 pub fn lists(
@@ -141,26 +172,11 @@ pub fn lists(
     requires post { IsPost net.now case post.now }
     ensures { IfOk result (AreAnswers net.now case) }
 {
-    let source = net.graph().link(case.link).from;
+    let graph = net.graph();
     let wanted = affected_nodes(alloc, net, trees, case)?;
-    let found = search(
-        alloc,
-        net,
-        trees,
-        post.cells(),
-        post.failed(),
-        source,
-        &wanted,
-    )?;
-    let list = answers_of(
-        alloc,
-        net,
-        post.cells(),
-        post.failed(),
-        source,
-        &found.queue,
-        &wanted,
-        &found.places,
-    )?;
-    Ok(CaseAnswers::new(list))
+    if wanted.is_empty() {
+        return Ok(CaseAnswers::none(alloc));
+    }
+    let spaces = spaces_of(graph, trees, post.failed(), case);
+    answers_for(alloc, net, &spaces, post.cells(), case, &wanted)
 }

@@ -3,39 +3,36 @@ ghost use Rattle.std.specs.Prelude.{◌≡◌, ◌+◌, ◌<◌, ◌∷◌, ◌+
 ghost use Rattle.sr_model.specs.declared.repair.Segment.TheVariants.{Node, Adj};
 ghost use Rattle.sr_model.specs.Graph.{node_count, link_count, tail, head, is_overloaded, IsGraph};
 ghost use Rattle.sr_model.specs.Walk.{IsRow};
-ghost use Rattle.sr_spf.specs.Trees.{AreTrees};
 ghost use Rattle.sr_encode.specs.Waypoints.{waypoint_at, node_at, met_from, Extends};
 ghost use Rattle.sr_encode.specs.Nodes.{AreUnmet};
 ghost use Rattle.sr_encode.specs.Search.{StepsTo, IsSearching, IsStarting};
 
 use crate::unmet::forget_met;
 use crate::waypoint::Waypoint;
-use sr_graph::{LinkRange, LinkSet};
+use sr_graph::LinkRange;
 use sr_labels::Net;
 use sr_model::{LinkNo, NodeNo, Segment};
-use sr_spaces::in_p;
-use sr_spf::Trees;
+use sr_spaces::Spaces;
 use std::alloc::AllocError;
 
 /// Whether the node segment of v leads on from waypoint w, and keeps to the distances from the
 /// source. `row` has the distances from w.
 fn leads_to_node(
     net: &Net,
-    trees: &Trees,
+    spaces: &Spaces,
     row: &[u64],
     cells: &[u64],
-    failed: &LinkSet,
     source: NodeNo,
     w: NodeNo,
     v: NodeNo,
 ) -> bool
-    requires trees { AreTrees net.now.graph trees.now }
+    requires same { spaces.now.graph ≡ net.now.graph }
     requires row { IsRow net.now.graph [] w.0 row.now }
-    requires cells { IsRow net.now.graph failed.now source.0 cells.now }
+    requires cells { IsRow net.now.graph spaces.now.failed source.0 cells.now }
     requires w { w.0 < node_count net.now.graph }
     requires clear { is_overloaded net.now.graph w.0 ≡ false }
     requires v { v.0 < node_count net.now.graph }
-    ensures { IsTrue result ↔ StepsTo net.now failed.now cells.now w.0 (Node v) v.0 }
+    ensures { IsTrue result ↔ StepsTo net.now spaces.now.failed cells.now w.0 (Node v) v.0 }
 {
     if cells[w.0 as usize] + row[v.0 as usize] != cells[v.0 as usize] {
         return false;
@@ -46,32 +43,32 @@ fn leads_to_node(
     if net.labels(v).index().is_none() {
         return false;
     }
-    // Asked last, since the failed links have to be gone through.
-    in_p(net.graph(), trees, w, failed, v)
+    // Asked last, since failed links may have to be gone through.
+    spaces.in_p(w, v)
 }
 
 /// Whether the adjacency segment of the link leads on from waypoint w, where the link begins, and
 /// keeps to the distances from the source.
 fn leads_over(
     net: &Net,
+    spaces: &Spaces,
     cells: &[u64],
-    failed: &LinkSet,
     source: NodeNo,
     w: NodeNo,
     link: LinkNo,
 ) -> bool
-    requires cells { IsRow net.now.graph failed.now source.0 cells.now }
+    requires cells { IsRow net.now.graph spaces.now.failed source.0 cells.now }
     requires w { w.0 < node_count net.now.graph }
     requires clear { is_overloaded net.now.graph w.0 ≡ false }
     requires link { link.0 < link_count net.now.graph }
     requires begins { tail net.now.graph link.0 ≡ w.0 }
-    ensures { IsTrue result ↔ StepsTo net.now failed.now cells.now w.0 (Adj link) (head net.now.graph link.0) }
+    ensures { IsTrue result ↔ StepsTo net.now spaces.now.failed cells.now w.0 (Adj link) (head net.now.graph link.0) }
 {
     let edge = net.graph().edge(link);
     if cells[w.0 as usize] + edge.metric as u64 != cells[edge.to.0 as usize] {
         return false;
     }
-    if failed.has(link) {
+    if spaces.failed().has(link) {
         return false;
     }
     net.adj(link).is_some()
@@ -107,10 +104,9 @@ fn meet(
 /// Looks at the node segment of v, after the waypoint w at place i.
 fn look_at_node(
     net: &Net,
-    trees: &Trees,
+    spaces: &Spaces,
     row: &[u64],
     cells: &[u64],
-    failed: &LinkSet,
     source: NodeNo,
     met: &mut [bool],
     queue: &mut Vec<Waypoint>,
@@ -118,22 +114,22 @@ fn look_at_node(
     w: NodeNo,
     v: NodeNo,
 ) -> Result<(), AllocError>
-    requires trees { AreTrees net.now.graph trees.now }
+    requires same { spaces.now.graph ≡ net.now.graph }
     requires row { IsRow net.now.graph [] w.0 row.now }
-    requires cells { IsRow net.now.graph failed.now source.0 cells.now }
-    requires search { IsSearching net.now failed.now source.0 cells.now queue.old.items met.old i v.0 }
+    requires cells { IsRow net.now.graph spaces.now.failed source.0 cells.now }
+    requires search { IsSearching net.now spaces.now.failed source.0 cells.now queue.old.items met.old i v.0 }
     requires i { i < length queue.old.items }
     requires w { node_at queue.old.items i ≡ w.0 }
     requires clear { is_overloaded net.now.graph w.0 ≡ false }
     requires v { v.0 < node_count net.now.graph }
     requires graph { IsGraph net.now.graph }
-    ensures search { OnOk result (IsSearching net.now failed.now source.0 cells.now queue.new.items met.new i (v.0 + 1)) }
+    ensures search { OnOk result (IsSearching net.now spaces.now.failed source.0 cells.now queue.new.items met.new i (v.0 + 1)) }
     ensures longer { OnOk result (Extends queue.old.items queue.new.items) }
 {
     if met[v.0 as usize] {
         return Ok(());
     }
-    if !leads_to_node(net, trees, row, cells, failed, source, w, v) {
+    if !leads_to_node(net, spaces, row, cells, source, w, v) {
         return Ok(());
     }
     meet(met, queue, i, v, Segment::Node(v))?;
@@ -143,8 +139,8 @@ fn look_at_node(
 /// Looks at the adjacency segment of the link, after the waypoint w at place i.
 fn look_over(
     net: &Net,
+    spaces: &Spaces,
     cells: &[u64],
-    failed: &LinkSet,
     source: NodeNo,
     met: &mut [bool],
     queue: &mut Vec<Waypoint>,
@@ -152,21 +148,21 @@ fn look_over(
     w: NodeNo,
     link: LinkNo,
 ) -> Result<(), AllocError>
-    requires cells { IsRow net.now.graph failed.now source.0 cells.now }
-    requires search { IsSearching net.now failed.now source.0 cells.now queue.old.items met.old i (node_count net.now.graph + link.0) }
+    requires cells { IsRow net.now.graph spaces.now.failed source.0 cells.now }
+    requires search { IsSearching net.now spaces.now.failed source.0 cells.now queue.old.items met.old i (node_count net.now.graph + link.0) }
     requires i { i < length queue.old.items }
     requires w { node_at queue.old.items i ≡ w.0 }
     requires clear { is_overloaded net.now.graph w.0 ≡ false }
     requires link { link.0 < link_count net.now.graph }
     requires begins { tail net.now.graph link.0 ≡ w.0 }
-    ensures search { OnOk result (IsSearching net.now failed.now source.0 cells.now queue.new.items met.new i (node_count net.now.graph + (link.0 + 1))) }
+    ensures search { OnOk result (IsSearching net.now spaces.now.failed source.0 cells.now queue.new.items met.new i (node_count net.now.graph + (link.0 + 1))) }
     ensures longer { OnOk result (Extends queue.old.items queue.new.items) }
 {
     let to = net.graph().edge(link).to;
     if met[to.0 as usize] {
         return Ok(());
     }
-    if !leads_over(net, cells, failed, source, w, link) {
+    if !leads_over(net, spaces, cells, source, w, link) {
         return Ok(());
     }
     meet(met, queue, i, to, Segment::Adj(link))?;
@@ -177,10 +173,9 @@ fn look_over(
 /// look, since the list known to it is less.
 fn look_at_nodes(
     net: &Net,
-    trees: &Trees,
+    spaces: &Spaces,
     row: &[u64],
     cells: &[u64],
-    failed: &LinkSet,
     source: NodeNo,
     met: &mut [bool],
     unmet: &[NodeNo],
@@ -188,21 +183,26 @@ fn look_at_nodes(
     i: usize,
     w: NodeNo,
 ) -> Result<(), AllocError>
-    requires trees { AreTrees net.now.graph trees.now }
+    requires graph { IsGraph net.now.graph }
+    requires same { spaces.now.graph ≡ net.now.graph }
     requires row { IsRow net.now.graph [] w.0 row.now }
-    requires cells { IsRow net.now.graph failed.now source.0 cells.now }
-    requires search { IsSearching net.now failed.now source.0 cells.now queue.old.items met.old i 0 }
+    requires cells { IsRow net.now.graph spaces.now.failed source.0 cells.now }
+    requires search { IsSearching net.now spaces.now.failed source.0 cells.now queue.old.items met.old i 0 }
     requires unmet { AreUnmet met.old unmet.now }
     requires i { i < length queue.old.items }
     requires w { node_at queue.old.items i ≡ w.0 }
     requires clear { is_overloaded net.now.graph w.0 ≡ false }
-    ensures search { OnOk result (IsSearching net.now failed.now source.0 cells.now queue.new.items met.new i (node_count net.now.graph)) }
+    ensures search { OnOk result (IsSearching net.now spaces.now.failed source.0 cells.now queue.new.items met.new i (node_count net.now.graph)) }
     ensures longer { OnOk result (Extends queue.old.items queue.new.items) }
 {
+    let ahead = cells[w.0 as usize];
     for j in 0..unmet.len() {
-        look_at_node(
-            net, trees, row, cells, failed, source, met, queue, i, w, unmet[j],
-        )?;
+        let v = unmet[j];
+        // Most nodes lie elsewhere, which the sum alone tells.
+        if ahead + row[v.0 as usize] != cells[v.0 as usize] {
+            continue;
+        }
+        look_at_node(net, spaces, row, cells, source, met, queue, i, w, v)?;
     }
     Ok(())
 }
@@ -211,25 +211,25 @@ fn look_at_nodes(
 /// there.
 fn look_over_links(
     net: &Net,
+    spaces: &Spaces,
     cells: &[u64],
-    failed: &LinkSet,
     source: NodeNo,
     met: &mut [bool],
     queue: &mut Vec<Waypoint>,
     i: usize,
     w: NodeNo,
 ) -> Result<(), AllocError>
-    requires cells { IsRow net.now.graph failed.now source.0 cells.now }
-    requires search { IsSearching net.now failed.now source.0 cells.now queue.old.items met.old i (node_count net.now.graph) }
+    requires cells { IsRow net.now.graph spaces.now.failed source.0 cells.now }
+    requires search { IsSearching net.now spaces.now.failed source.0 cells.now queue.old.items met.old i (node_count net.now.graph) }
     requires i { i < length queue.old.items }
     requires w { node_at queue.old.items i ≡ w.0 }
     requires clear { is_overloaded net.now.graph w.0 ≡ false }
-    ensures search { OnOk result (IsSearching net.now failed.now source.0 cells.now queue.new.items met.new (i + 1) 0) }
+    ensures search { OnOk result (IsSearching net.now spaces.now.failed source.0 cells.now queue.new.items met.new (i + 1) 0) }
     ensures longer { OnOk result (Extends queue.old.items queue.new.items) }
 {
     let LinkRange { first, end } = net.graph().links_from(w);
     for link in first..end {
-        look_over(net, cells, failed, source, met, queue, i, w, LinkNo(link))?;
+        look_over(net, spaces, cells, source, met, queue, i, w, LinkNo(link))?;
     }
     Ok(())
 }
@@ -238,10 +238,9 @@ fn look_over_links(
 /// begin there. Nothing leads on from an overloaded node. `unmet` has the nodes that aren't met.
 pub(crate) fn expand(
     net: &Net,
-    trees: &Trees,
+    spaces: &Spaces,
     row: &[u64],
     cells: &[u64],
-    failed: &LinkSet,
     source: NodeNo,
     met: &mut [bool],
     unmet: &mut Vec<NodeNo>,
@@ -249,14 +248,15 @@ pub(crate) fn expand(
     i: usize,
     w: NodeNo,
 ) -> Result<(), AllocError>
-    requires trees { AreTrees net.now.graph trees.now }
+    requires graph { IsGraph net.now.graph }
+    requires same { spaces.now.graph ≡ net.now.graph }
     requires row { IsRow net.now.graph [] w.0 row.now }
-    requires cells { IsRow net.now.graph failed.now source.0 cells.now }
-    requires search { IsSearching net.now failed.now source.0 cells.now queue.old.items met.old i 0 }
+    requires cells { IsRow net.now.graph spaces.now.failed source.0 cells.now }
+    requires search { IsSearching net.now spaces.now.failed source.0 cells.now queue.old.items met.old i 0 }
     requires unmet { AreUnmet met.old unmet.old.items }
     requires i { i < length queue.old.items }
     requires w { node_at queue.old.items i ≡ w.0 }
-    ensures search { OnOk result (IsSearching net.now failed.now source.0 cells.now queue.new.items met.new (i + 1) 0) }
+    ensures search { OnOk result (IsSearching net.now spaces.now.failed source.0 cells.now queue.new.items met.new (i + 1) 0) }
     ensures unmet { OnOk result (AreUnmet met.new unmet.new.items) }
     ensures longer { OnOk result (Extends queue.old.items queue.new.items) }
 {
@@ -264,10 +264,8 @@ pub(crate) fn expand(
         return Ok(());
     }
     let count = queue.len();
-    look_at_nodes(
-        net, trees, row, cells, failed, source, met, unmet, queue, i, w,
-    )?;
-    look_over_links(net, cells, failed, source, met, queue, i, w)?;
+    look_at_nodes(net, spaces, row, cells, source, met, unmet, queue, i, w)?;
+    look_over_links(net, spaces, cells, source, met, queue, i, w)?;
     if queue.len() > count {
         forget_met(met, unmet);
     }
@@ -277,25 +275,25 @@ pub(crate) fn expand(
 /// Meets the end of a link from the source, where the link alone is a list to it.
 fn begin(
     net: &Net,
+    spaces: &Spaces,
     cells: &[u64],
-    failed: &LinkSet,
     source: NodeNo,
     met: &mut [bool],
     queue: &mut Vec<Waypoint>,
     first: LinkNo,
 ) -> Result<(), AllocError>
-    requires cells { IsRow net.now.graph failed.now source.0 cells.now }
-    requires start { IsStarting net.now failed.now source.0 queue.old.items met.old first.0 }
+    requires cells { IsRow net.now.graph spaces.now.failed source.0 cells.now }
+    requires start { IsStarting net.now spaces.now.failed source.0 queue.old.items met.old first.0 }
     requires first { first.0 < link_count net.now.graph }
     requires begins { tail net.now.graph first.0 ≡ source.0 }
-    ensures start { OnOk result (IsStarting net.now failed.now source.0 queue.new.items met.new (first.0 + 1)) }
+    ensures start { OnOk result (IsStarting net.now spaces.now.failed source.0 queue.new.items met.new (first.0 + 1)) }
 {
     let edge = net.graph().edge(first);
     let to = edge.to.0 as usize;
     if met[to] {
         return Ok(());
     }
-    if failed.has(first) {
+    if spaces.failed().has(first) {
         return Ok(());
     }
     if edge.metric as u64 != cells[to] {
@@ -315,20 +313,20 @@ fn begin(
 /// Meets the ends of the links from the source.
 pub(crate) fn begin_all(
     net: &Net,
+    spaces: &Spaces,
     cells: &[u64],
-    failed: &LinkSet,
     source: NodeNo,
     met: &mut [bool],
     queue: &mut Vec<Waypoint>,
 ) -> Result<(), AllocError>
-    requires cells { IsRow net.now.graph failed.now source.0 cells.now }
-    requires start { IsStarting net.now failed.now source.0 queue.old.items met.old 0 }
+    requires cells { IsRow net.now.graph spaces.now.failed source.0 cells.now }
+    requires start { IsStarting net.now spaces.now.failed source.0 queue.old.items met.old 0 }
     requires source { source.0 < node_count net.now.graph }
-    ensures search { OnOk result (IsSearching net.now failed.now source.0 cells.now queue.new.items met.new 0 0) }
+    ensures search { OnOk result (IsSearching net.now spaces.now.failed source.0 cells.now queue.new.items met.new 0 0) }
 {
     let LinkRange { first, end } = net.graph().links_from(source);
     for link in first..end {
-        begin(net, cells, failed, source, met, queue, LinkNo(link))?;
+        begin(net, spaces, cells, source, met, queue, LinkNo(link))?;
     }
     Ok(())
 }

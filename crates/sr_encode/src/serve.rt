@@ -1,8 +1,7 @@
 //! Which waypoint serves which destination.
 ghost use Rattle.std.specs.Prelude.{◌≡◌, ◌+◌, ◌<◌, ◌↔◌, [], length, IsTrue, OnOk};
-ghost use Rattle.sr_model.specs.Graph.{node_count};
+ghost use Rattle.sr_model.specs.Graph.{node_count, IsGraph};
 ghost use Rattle.sr_model.specs.Walk.{IsRow};
-ghost use Rattle.sr_spf.specs.Trees.{AreTrees};
 ghost use Rattle.sr_encode.specs.Waypoints.{node_at};
 ghost use Rattle.sr_encode.specs.Search.{IsSearching};
 ghost use Rattle.sr_encode.specs.Serve.{EndsAt, IsFirstLeast, IsServed, AreNodes, AreServed, HasUnserved, AreFound};
@@ -11,30 +10,27 @@ ghost use Rattle.sr_encode.specs.Nodes.{AreUnmet};
 use crate::search::expand;
 use crate::unserved::forget_served;
 use crate::waypoint::Waypoint;
-use sr_graph::LinkSet;
 use sr_labels::Net;
 use sr_model::{FAR, NodeNo};
-use sr_spaces::in_p;
-use sr_spf::Trees;
+use sr_spaces::Spaces;
 use std::alloc::AllocError;
 
 /// Whether lists to waypoint w can end there towards d. `row` has the distances from w.
 fn ends_at(
     net: &Net,
-    trees: &Trees,
+    spaces: &Spaces,
     row: &[u64],
     cells: &[u64],
-    failed: &LinkSet,
     source: NodeNo,
     w: NodeNo,
     d: NodeNo,
 ) -> bool
-    requires trees { AreTrees net.now.graph trees.now }
+    requires same { spaces.now.graph ≡ net.now.graph }
     requires row { IsRow net.now.graph [] w.0 row.now }
-    requires cells { IsRow net.now.graph failed.now source.0 cells.now }
+    requires cells { IsRow net.now.graph spaces.now.failed source.0 cells.now }
     requires w { w.0 < node_count net.now.graph }
     requires d { d.0 < node_count net.now.graph }
-    ensures { IsTrue result ↔ EndsAt net.now failed.now cells.now w.0 d.0 }
+    ensures { IsTrue result ↔ EndsAt net.now spaces.now.failed cells.now w.0 d.0 }
 {
     if !net.graph().carries(d, w) {
         return false;
@@ -42,18 +38,17 @@ fn ends_at(
     if cells[w.0 as usize] + row[d.0 as usize] != cells[d.0 as usize] {
         return false;
     }
-    // Asked last, since the failed links have to be gone through.
-    in_p(net.graph(), trees, w, failed, d)
+    // Asked last, since failed links may have to be gone through.
+    spaces.in_p(w, d)
 }
 
 /// The place of the waypoint that serves d, where it is one of those up to place i. `place` has it
 /// where it is one of the earlier ones.
 fn offer(
     net: &Net,
-    trees: &Trees,
+    spaces: &Spaces,
     row: &[u64],
     cells: &[u64],
-    failed: &LinkSet,
     source: NodeNo,
     queue: &[Waypoint],
     i: usize,
@@ -61,17 +56,17 @@ fn offer(
     d: NodeNo,
     place: Option<u16>,
 ) -> Option<u16>
-    requires trees { AreTrees net.now.graph trees.now }
+    requires same { spaces.now.graph ≡ net.now.graph }
     requires row { IsRow net.now.graph [] w.0 row.now }
-    requires cells { IsRow net.now.graph failed.now source.0 cells.now }
-    requires first { IsFirstLeast net.now failed.now source.0 cells.now queue.now i }
+    requires cells { IsRow net.now.graph spaces.now.failed source.0 cells.now }
+    requires first { IsFirstLeast net.now spaces.now.failed source.0 cells.now queue.now i }
     requires i { i < length queue.now }
     requires few { length queue.now < 65536 }
     requires w { node_at queue.now i ≡ w.0 }
     requires within { w.0 < node_count net.now.graph }
     requires d { d.0 < node_count net.now.graph }
-    requires served { IsServed net.now failed.now source.0 cells.now queue.now i d.0 place }
-    ensures { IsServed net.now failed.now source.0 cells.now queue.now (i + 1) d.0 result }
+    requires served { IsServed net.now spaces.now.failed source.0 cells.now queue.now i d.0 place }
+    ensures { IsServed net.now spaces.now.failed source.0 cells.now queue.now (i + 1) d.0 result }
 {
     if place.is_some() {
         return place;
@@ -79,7 +74,7 @@ fn offer(
     if cells[d.0 as usize] >= FAR {
         return None;
     }
-    if !ends_at(net, trees, row, cells, failed, source, w, d) {
+    if !ends_at(net, spaces, row, cells, source, w, d) {
         return None;
     }
     Some(i as u16)
@@ -88,10 +83,9 @@ fn offer(
 /// Offers the waypoint w at place i to each destination in the list. Whether it serves one.
 fn offer_all(
     net: &Net,
-    trees: &Trees,
+    spaces: &Spaces,
     row: &[u64],
     cells: &[u64],
-    failed: &LinkSet,
     source: NodeNo,
     queue: &[Waypoint],
     i: usize,
@@ -100,26 +94,30 @@ fn offer_all(
     unserved: &[usize],
     places: &mut [Option<u16>],
 ) -> bool
-    requires trees { AreTrees net.now.graph trees.now }
+    requires same { spaces.now.graph ≡ net.now.graph }
     requires row { IsRow net.now.graph [] w.0 row.now }
-    requires cells { IsRow net.now.graph failed.now source.0 cells.now }
-    requires first { IsFirstLeast net.now failed.now source.0 cells.now queue.now i }
+    requires cells { IsRow net.now.graph spaces.now.failed source.0 cells.now }
+    requires first { IsFirstLeast net.now spaces.now.failed source.0 cells.now queue.now i }
     requires i { i < length queue.now }
     requires few { length queue.now < 65536 }
     requires w { node_at queue.now i ≡ w.0 }
     requires within { w.0 < node_count net.now.graph }
     requires wanted { AreNodes net.now wanted.now }
-    requires served { AreServed net.now failed.now source.0 cells.now queue.now i wanted.now places.old }
+    requires served { AreServed net.now spaces.now.failed source.0 cells.now queue.now i wanted.now places.old }
     requires unserved { HasUnserved cells.now wanted.now places.old unserved.now }
-    ensures served { AreServed net.now failed.now source.0 cells.now queue.now (i + 1) wanted.now places.new }
+    ensures served { AreServed net.now spaces.now.failed source.0 cells.now queue.now (i + 1) wanted.now places.new }
     ensures unserved { HasUnserved cells.now wanted.now places.new unserved.now }
 {
+    let ahead = cells[w.0 as usize];
     let mut serves = false;
     for m in 0..unserved.len() {
         let j = unserved[m];
-        let place = offer(
-            net, trees, row, cells, failed, source, queue, i, w, wanted[j], places[j],
-        );
+        let d = wanted[j];
+        // Most destinations lie elsewhere, which the sum alone tells.
+        if ahead + row[d.0 as usize] != cells[d.0 as usize] {
+            continue;
+        }
+        let place = offer(net, spaces, row, cells, source, queue, i, w, d, places[j]);
         serves = serves || place.is_some();
         places[j] = place;
     }
@@ -130,10 +128,9 @@ fn offer_all(
 /// serves.
 fn serve_all(
     net: &Net,
-    trees: &Trees,
+    spaces: &Spaces,
     row: &[u64],
     cells: &[u64],
-    failed: &LinkSet,
     source: NodeNo,
     queue: &[Waypoint],
     i: usize,
@@ -142,22 +139,22 @@ fn serve_all(
     unserved: &mut Vec<usize>,
     places: &mut [Option<u16>],
 )
-    requires trees { AreTrees net.now.graph trees.now }
+    requires same { spaces.now.graph ≡ net.now.graph }
     requires row { IsRow net.now.graph [] w.0 row.now }
-    requires cells { IsRow net.now.graph failed.now source.0 cells.now }
-    requires first { IsFirstLeast net.now failed.now source.0 cells.now queue.now i }
+    requires cells { IsRow net.now.graph spaces.now.failed source.0 cells.now }
+    requires first { IsFirstLeast net.now spaces.now.failed source.0 cells.now queue.now i }
     requires i { i < length queue.now }
     requires few { length queue.now < 65536 }
     requires w { node_at queue.now i ≡ w.0 }
     requires within { w.0 < node_count net.now.graph }
     requires wanted { AreNodes net.now wanted.now }
-    requires served { AreServed net.now failed.now source.0 cells.now queue.now i wanted.now places.old }
+    requires served { AreServed net.now spaces.now.failed source.0 cells.now queue.now i wanted.now places.old }
     requires unserved { HasUnserved cells.now wanted.now places.old unserved.old.items }
-    ensures served { AreServed net.now failed.now source.0 cells.now queue.now (i + 1) wanted.now places.new }
+    ensures served { AreServed net.now spaces.now.failed source.0 cells.now queue.now (i + 1) wanted.now places.new }
     ensures unserved { HasUnserved cells.now wanted.now places.new unserved.new.items }
 {
     if offer_all(
-        net, trees, row, cells, failed, source, queue, i, w, wanted, unserved, places,
+        net, spaces, row, cells, source, queue, i, w, wanted, unserved, places,
     ) {
         forget_served(places, unserved);
     }
@@ -166,9 +163,8 @@ fn serve_all(
 /// Goes through the queue, which the looks lengthen, until each destination with a walk is served.
 pub(crate) fn explore(
     net: &Net,
-    trees: &Trees,
+    spaces: &Spaces,
     cells: &[u64],
-    failed: &LinkSet,
     source: NodeNo,
     wanted: &[NodeNo],
     met: &mut [bool],
@@ -177,28 +173,27 @@ pub(crate) fn explore(
     unserved: &mut Vec<usize>,
     places: &mut [Option<u16>],
 ) -> Result<(), AllocError>
-    requires trees { AreTrees net.now.graph trees.now }
-    requires cells { IsRow net.now.graph failed.now source.0 cells.now }
-    requires search { IsSearching net.now failed.now source.0 cells.now queue.old.items met.old 0 0 }
+    requires graph { IsGraph net.now.graph }
+    requires same { spaces.now.graph ≡ net.now.graph }
+    requires cells { IsRow net.now.graph spaces.now.failed source.0 cells.now }
+    requires search { IsSearching net.now spaces.now.failed source.0 cells.now queue.old.items met.old 0 0 }
     requires unmet { AreUnmet met.old unmet.old.items }
     requires wanted { AreNodes net.now wanted.now }
-    requires served { AreServed net.now failed.now source.0 cells.now queue.old.items 0 wanted.now places.old }
+    requires served { AreServed net.now spaces.now.failed source.0 cells.now queue.old.items 0 wanted.now places.old }
     requires unserved { HasUnserved cells.now wanted.now places.old unserved.old.items }
-    ensures { OnOk result (AreFound net.now failed.now source.0 cells.now queue.new.items wanted.now places.new) }
+    ensures { OnOk result (AreFound net.now spaces.now.failed source.0 cells.now queue.new.items wanted.now places.new) }
 {
     let mut i = 0;
     'queue: while i < queue.len() {
         let w = queue[i].node;
-        let row = trees.cells(w);
+        let row = spaces.row(w);
         serve_all(
-            net, trees, row, cells, failed, source, queue, i, w, wanted, unserved, places,
+            net, spaces, row, cells, source, queue, i, w, wanted, unserved, places,
         );
         if unserved.is_empty() {
             return Ok(());
         }
-        expand(
-            net, trees, row, cells, failed, source, met, unmet, queue, i, w,
-        )?;
+        expand(net, spaces, row, cells, source, met, unmet, queue, i, w)?;
         i += 1;
     }
     Ok(())

@@ -19,7 +19,7 @@ pub(crate) fn unmet_nodes(alloc: Global, met: &[bool]) -> Result<Vec<NodeNo>, Al
     requires few { length met.now ≤ 256 }
     ensures { IfOk result (λ unmet. AreUnmet met.now unmet.items) }
 {
-    let mut unmet = Vec::new(alloc);
+    let mut unmet = Vec::with_capacity(alloc, met.len())?;
     for v in 0..met.len() as u16 {
         if is_met(met, NodeNo(v)) {
             continue;

@@ -10,6 +10,7 @@ use Rattle.std.proofs.lemmas.List.Sorted.{IsPermutation-refl, IsPermutation-sym,
 use Rattle.sr_model.specs.declared.name.Ident.TheVariants.{None as NoIdent}
 use Rattle.sr_model.specs.declared.name.LinkKey.{LinkKey}
 use Rattle.sr_model.specs.declared.link.Link.{Link}
+use Rattle.sr_model.specs.declared.link.LinkNo.{LinkNo}
 use Rattle.sr_model.specs.Key.{KeyLt, IsSamePair}
 use Rattle.sr_model.specs.KeyOrder.{same_key}
 use Rattle.sr_model.specs.Graph.{Graph, no_link, IsLink, IsGraph, IsNamed, IsGrouped}
@@ -22,12 +23,13 @@ use Rattle.sr_graph.specs.Draft.{IsDraft, HasEnds, HasZero, IsTwice, AreLeast, N
 use Rattle.sr_graph.specs.declared.edges.Edge.{Edge}
 use Rattle.sr_graph.specs.Numbers.{IsNumbered}
 use Rattle.sr_graph.specs.Edges.{edge_of}
-use Rattle.sr_graph.specs.Ranges.{AreByTail, AreStarts}
+use Rattle.sr_graph.specs.Ranges.{end_in, AreByTail, AreStarts, AreListedByEnd}
 use Rattle.sr_graph.specs.Built.{drafted, IsBuilt, IsLaidOut}
 use Rattle.sr_graph.proofs.LinksLemmas.{ascend-from_once}
 use Rattle.sr_graph.proofs.OrderLemmas.{far-below}
 use Rattle.sr_graph.proofs.ZipLemmas.{zip-at, zip-length}
 use Rattle.sr_graph.proofs.NumbersLemmas.{ascending-far}
+use Rattle.sr_graph.proofs.IncomingLemmas.{ends_of, incoming-from_listed}
 
 abbrev pub draft_of : List ℕ → List DraftLink → Draft
 draft_of nodes links = record { nodes = nodes; links = links }
@@ -154,11 +156,26 @@ module _ (nodes : List ℕ) (ys : List DraftLink) (ks : List Link) (d : IsDraft 
       let Q : List Bool → Type 0 = λ bs. IsBuilt (draft_of nodes ys) (graph_with (map groups_in ys) bs) in
       subst P (sym is) (subst Q (sym none) is_built)
 
-  pub laid_out_from : (groups : List (List ℕ)) (overloaded : List Bool) (edges : List Edge) (starts : List ℕ) → groups ≡ map groups_in ys → overloaded ≡ [] → edges ≡ map edge_of ks → AreStarts (length nodes) ks starts
-      → IsLaidOut (record { systems = nodes; links = ks; groups = groups; overloaded = overloaded }) edges starts
-  laid_out_from groups overloaded edges starts is none at_edges at_starts =
+  pub laid_out_from : (groups : List (List ℕ)) (overloaded : List Bool) (edges : List Edge) (starts : List ℕ) (lists : List (List LinkNo)) → groups ≡ map groups_in ys → overloaded ≡ [] → edges ≡ map edge_of ks → AreStarts (length nodes) ks starts
+      → AreListedByEnd edges (length edges) (length nodes) lists → IsLaidOut (record { systems = nodes; links = ks; groups = groups; overloaded = overloaded }) edges starts lists
+  laid_out_from groups overloaded edges starts lists is none at_edges at_starts at_ends =
       let b = built_from groups overloaded is none in
-      record { graph = b.graph; named = b.named; grouped = b.grouped; edges = at_edges; starts = at_starts }
+      let P : List Edge → Type 0 = λ es. AreListedByEnd es (length es) (length nodes) lists in
+      record {
+        graph = b.graph;
+        named = b.named;
+        grouped = b.grouped;
+        edges = at_edges;
+        starts = at_starts;
+        incoming = incoming-from_listed (graph_with groups overloaded) lists (subst P at_edges at_ends);
+      }
+
+  -- the edges of the links end at nodes
+  pub ends_within : (edges : List Edge) → edges ≡ map edge_of ks → (l : ℕ) → l < length edges → end_in edges l < length nodes
+  ends_within edges is l within =
+      let inside : l < length ks = omega (arith, ap length is, length-map ks edge_of) in
+      let at : end_in edges l ≡ (get_or ks l no_link).to.0 = ap (λ es. end_in es l) is ∙ ends_of (graph_with [] []) l inside in
+      rw at (is_link l inside).1
 
 -- from the sorted links to the drafted ones
 module _ (nodes : List ℕ) (xs ys : List DraftLink) (same : IsPermutation xs ys) where

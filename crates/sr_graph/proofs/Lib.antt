@@ -3,6 +3,7 @@ pub mod LinksLemmas
 pub mod RangesLemmas
 pub mod NumbersLemmas
 pub mod EdgesLemmas
+pub mod IncomingLemmas
 pub mod FailedLemmas
 pub mod MemberLemmas
 pub mod MarkLemmas

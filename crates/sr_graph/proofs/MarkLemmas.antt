@@ -1,9 +1,13 @@
--- Overloaded nodes, tested one by one.
+-- Overloaded nodes, tested one by one, and what marking them keeps.
 use Rattle.std.proofs.Common.{◌≡◌, ◌≢◌, ◌↔◌, ℕ, ◌+◌, ◌<◌, ⊎_elim, Bool, true, List, [], ◌∷◌, ◌++◌, length, refl, arith, sym, ◌∙◌, subst}
 use Rattle.std.specs.Prelude.{slice_index, Contains}
 use Rattle.std.proofs.lemmas.Bool.{cases_eq}
 use Rattle.std.proofs.lemmas.List.{length-append, get_or_push, get_or_append_left}
+use Rattle.sr_model.specs.declared.link.Link.{Link}
+use Rattle.sr_model.specs.declared.link.LinkNo.{LinkNo}
 use Rattle.sr_model.specs.Graph.{has}
+use Rattle.sr_graph.specs.declared.edges.Edge.{Edge}
+use Rattle.sr_graph.specs.Built.{IsLaidOut}
 
 -- the first n systems are tested
 pub record AreMarksBelow (systems overloaded : List ℕ) (tests : List Bool) (n : ℕ) : Type 0 where
@@ -28,3 +32,19 @@ module _ (systems overloaded : List ℕ) where
         subst Q (sym (get_or_append_left tests (test ∷ []) _ v (omega (arith, k.long)))) (k.each v before))
         (cases_eq v n);
   }
+
+-- other tests change nothing else that is kept
+pub laid_out-marked : (systems : List ℕ) (links : List Link) (groups : List (List ℕ)) (before after : List Bool) (edges : List Edge) (places : List ℕ) (lists : List (List LinkNo))
+    → IsLaidOut (record { systems = systems; links = links; groups = groups; overloaded = before }) edges places lists
+    → IsLaidOut (record { systems = systems; links = links; groups = groups; overloaded = after }) edges places lists
+laid_out-marked systems links groups before after edges places lists k = record {
+  graph = record { few_nodes = k.graph.few_nodes; few_links = k.graph.few_links; each = k.graph.each; by_tail = k.graph.by_tail };
+  named = record { ascending = k.named.ascending; ends = k.named.ends; keys = k.named.keys };
+  grouped = record { long = k.grouped.long; ascending = k.grouped.ascending; pairs = k.grouped.pairs };
+  edges = k.edges;
+  starts = k.starts;
+  incoming = record {
+    long = k.incoming.long;
+    each = λ v within. record { each = (k.incoming.each v within).each; all = (k.incoming.each v within).all };
+  };
+}

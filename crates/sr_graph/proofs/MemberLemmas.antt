@@ -1,50 +1,51 @@
--- The links of a set, collected one by one.
-use Rattle.std.proofs.Common.{◌≡◌, ◌≢◌, ℕ, ◌+◌, ◌<◌, ◌≤◌, ⊎_elim, Bool, true, false, List, [], ◌∷◌, ◌++◌, length, refl, arith, sym, ap, ◌∙◌, subst}
-use Rattle.std.proofs.lemmas.Bool.{cases_eq, cases_lt}
-use Rattle.std.proofs.lemmas.List.{length-append, get_or_push, get_or_append_left, get_or_past}
-use Rattle.sr_model.specs.declared.link.LinkNo.{LinkNo}
+-- Sets of links, to which links are added.
+use Rattle.std.proofs.Common.{◌≡◌, ◌≢◌, ◌↔◌, ℕ, ◌<◌, ◌⊎◌, inl, inr, ⊎_elim, Bool, true, false, List, length, set, replicate, arith, sym, ap, ◌∙◌}
+use Rattle.std.proofs.lemmas.Bool.{cases_eq}
+use Rattle.std.proofs.lemmas.List.{length-set, length-replicate, get_or-set_same, get_or-set_other, get_or-replicate}
 use Rattle.sr_model.specs.Graph.{has}
-use Rattle.sr_graph.specs.Members.{number_at, AreMembers}
+use Rattle.sr_graph.specs.Members.{IsWidened}
 
--- the list has the links of the set below n, and no others
-pub record AreMembersBelow (set : List Bool) (n : ℕ) (links : List LinkNo) : Type 0 where
-  pub each : (i : ℕ) → i < length links → has set (number_at links i) ≡ true
-  pub all : (l : ℕ) → l < n → has set l ≡ true → (i : ℕ) × (i < length links) × (number_at links i ≡ l)
+-- the same links are added for another reason
+pub widened-as : (before after : List Bool) (Fact Other : ℕ → Type 0) → IsWidened before Fact after → ((l : ℕ) → l < length before → Fact l ↔ Other l) → IsWidened before Other after
+widened-as before after Fact Other k same = record {
+  long = k.long;
+  each = λ l lt. (
+    λ is. ⊎_elim (λ old. inl old) (λ fact. inr ((same l lt).0 fact)) ((k.each l lt).0 is),
+    λ either. (k.each l lt).1 (⊎_elim (λ old. inl old) (λ other. inr ((same l lt).1 other)) either),
+  );
+}
 
-pub members-none : (set : List Bool) → AreMembersBelow set 0 []
-members-none set = record { each = λ i lt. absurd (omega arith); all = λ l lt. absurd (omega arith) }
+-- links are added, and then others
+pub widened-then : (before after last : List Bool) (Fact Other : ℕ → Type 0) → IsWidened before Fact after → IsWidened after Other last → IsWidened before (λ l. Fact l ⊎ Other l) last
+widened-then before after last Fact Other j k = record {
+  long = k.long ∙ j.long;
+  each = λ l lt.
+      let inside : l < length after = omega (arith, j.long) in (
+        λ is. ⊎_elim (λ is'. ⊎_elim (λ old. inl old) (λ fact. inr (inl fact)) ((j.each l lt).0 is')) (λ other. inr (inr other)) ((k.each l inside).0 is),
+        λ either. (k.each l inside).1 (⊎_elim
+            (λ old. inl ((j.each l lt).1 (inl old)))
+            (λ new. ⊎_elim (λ fact. inl ((j.each l lt).1 (inr fact))) (λ other. inr other) new)
+            either),
+      );
+}
 
-pub members-skip : (set : List Bool) (n : ℕ) (links : List LinkNo) → AreMembersBelow set n links → has set n ≡ false → AreMembersBelow set (n + 1) links
-members-skip set n links k out = record {
-  each = k.each;
-  all = λ l lt is. ⊎_elim
-      (λ (e : l ≡ n). absurd (let bad : false ≡ true = sym out ∙ ap (λ j. has set j) (sym e) ∙ is in cc))
-      (λ (ne : l ≢ n). k.all l (omega arith) is)
+-- one link is added
+pub widened-one : (before : List Bool) (n : ℕ) → n < length before → IsWidened before (λ l. l ≡ n) (set before n true)
+widened-one before n within = record {
+  long = length-set before n true;
+  each = λ l lt. ⊎_elim
+      (λ (e : l ≡ n). (λ is. inr e, λ either. ap (has (set before n true)) e ∙ get_or-set_same before n true false within))
+      (λ (ne : l ≢ n).
+      let same : has (set before n true) l ≡ has before l = get_or-set_other before n l true false ne in
+      (λ is. inl (sym same ∙ is), λ either. ⊎_elim (λ old. same ∙ old) (λ (e : l ≡ n). absurd (ne e)) either))
       (cases_eq l n);
 }
 
-pub members-push : (set : List Bool) (link : LinkNo) (links : List LinkNo) → AreMembersBelow set link.0 links → has set link.0 ≡ true → AreMembersBelow set (link.0 + 1) (links ++ link ∷ [])
-members-push set link links k is = record {
-  each = λ i lt. ⊎_elim
-      (λ (e : i ≡ length links). subst (λ j. has set j ≡ true) (sym (ap (λ (m : LinkNo). m.0) (get_or_push links link _ i (sym e)))) is)
-      (λ (ne : i ≢ length links).
-      let before : i < length links = omega (arith, length-append links (link ∷ [])) in
-      subst (λ j. has set j ≡ true) (sym (ap (λ (m : LinkNo). m.0) (get_or_append_left links (link ∷ []) _ i before))) (k.each i before))
-      (cases_eq i (length links));
-  all = λ l lt is'. ⊎_elim
-      (λ (e : l ≡ link.0). (length links, omega (arith, length-append links (link ∷ [])), ap (λ (m : LinkNo). m.0) (get_or_push links link _ (length links) refl) ∙ sym e))
-      (λ (ne : l ≢ link.0).
-      let found : (i : ℕ) × (i < length links) × (number_at links i ≡ l) = k.all l (omega arith) is' in
-      (found.0, omega (arith, found.1, length-append links (link ∷ [])), ap (λ (m : LinkNo). m.0) (get_or_append_left links (link ∷ []) _ found.0 found.1) ∙ found.2))
-      (cases_eq l link.0);
-}
-
--- past the end of the list of tests no link is in the set
-pub members-all : (set : List Bool) (n : ℕ) (links : List LinkNo) → length set ≤ n → AreMembersBelow set n links → AreMembers set links
-members-all set n links over k = record {
-  each = k.each;
-  all = λ l is. ⊎_elim
-      (λ lt. k.all l (omega arith) is)
-      (λ past. absurd (let bad : false ≡ true = sym (get_or_past set l false past) ∙ is in cc))
-      (cases_lt l (length set));
-}
+-- what is in a set to which links were added, where it was empty
+pub widened-empty : (n : ℕ) (Fact : ℕ → Type 0) (after : List Bool) → IsWidened (replicate n false) Fact after → (l : ℕ) → l < n → (has after l ≡ true) ↔ Fact l
+widened-empty n Fact after k l lt =
+    let inside : l < length (replicate n false) = omega (arith, length-replicate n false) in
+    let out : has (replicate n false) l ≡ false = get_or-replicate n l false false lt in (
+      λ is. ⊎_elim (λ old. absurd (let bad : false ≡ true = sym out ∙ old in cc)) (λ fact. fact) ((k.each l inside).0 is),
+      λ fact. (k.each l inside).1 (inr fact),
+    )

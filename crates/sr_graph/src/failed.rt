@@ -1,23 +1,18 @@
 //! The links that fail in a case.
-ghost use Rattle.std.specs.Prelude.{◌≡◌, ◌↔◌, ◌<◌, ◌⊎◌, true, IfOk, Contains};
+ghost use Rattle.std.specs.Prelude.{◌≡◌, ◌↔◌, ℕ, ◌<◌, ◌≤◌, true, length, IsTrue, IfOk, OnOk, Contains};
 ghost use Rattle.std.specs.List.Sorted.{IsStrictlyIncreasing};
 ghost use Rattle.sr_model.specs.declared.case.Kind.TheVariants.{Link as LinkKind, Node as NodeKind, Risk as RiskKind};
 ghost use Rattle.sr_model.specs.Key.{IsSamePair};
-ghost use Rattle.sr_model.specs.Graph.{link_count};
-ghost use Rattle.sr_model.specs.Case.{IsCase, IsFailedSet, FailsWith};
-ghost use Rattle.sr_graph.specs.Failed.{HaveCommon};
+ghost use Rattle.sr_model.specs.Graph.{link_count, groups_at};
+ghost use Rattle.sr_model.specs.Case.{IsCase, IsFailedSet};
+ghost use Rattle.sr_graph.specs.Failed.{HaveCommon, AddsNothing, FailsAsLink};
+ghost use Rattle.sr_graph.specs.Members.{number_at, IsListed, IsInRange, IsWidened};
 
 use crate::graph::Graph;
 use crate::link_set::LinkSet;
-use sr_model::{Case, Kind, Link, LinkKey, LinkNo, NodeNo};
+use crate::ranges::LinkRange;
+use sr_model::{Case, Kind, LinkKey, LinkNo};
 use std::alloc::{AllocError, Global};
-
-/// Whether the link begins or ends at the node.
-fn touches(link: &Link, node: NodeNo) -> bool
-    ensures { (result ≡ true) ↔ ((link.now.from.0 ≡ node.0) ⊎ (link.now.to.0 ≡ node.0)) }
-{
-    link.from.0 == node.0 || link.to.0 == node.0
-}
 
 /// Whether the names are those of one link or of two opposite links.
 fn is_pair(one: &LinkKey, other: &LinkKey) -> bool
@@ -51,65 +46,158 @@ fn share(one: &[u32], other: &[u32]) -> bool
 }
 
 impl Graph {
-    /// Whether the link is of the protected pair.
-    fn fails_with_link(&self, protected: LinkNo, link: LinkNo) -> bool
-        requires protected { protected.0 < link_count self.now }
-        requires link { link.0 < link_count self.now }
-        ensures { (result ≡ true) ↔ FailsWith self.now LinkKind protected.0 link.0 }
+    /// Adds the links of the range that share one of the groups.
+    fn add_sharing_in_range(
+        &self,
+        set: &mut LinkSet,
+        groups: &[u32],
+        range: LinkRange,
+    ) -> Result<(), AllocError>
+        requires long { length set.old ≡ link_count self.now }
+        requires within { range.end ≤ link_count self.now }
+        requires groups { IsStrictlyIncreasing groups.now }
+        ensures { OnOk result (IsWidened set.old (λ l. IsInRange range.first range.end l × HaveCommon (groups_at self.now l) groups.now) set.new) }
     {
-        let at = self.link(protected);
-        let link = self.link(link);
-        // All links but a few are told by their ends.
-        touches(&link, at.from) && is_pair(&link.key, &at.key)
-    }
-
-    /// Whether the link begins or ends where the protected link ends.
-    fn fails_with_node(&self, protected: LinkNo, link: LinkNo) -> bool
-        requires protected { protected.0 < link_count self.now }
-        requires link { link.0 < link_count self.now }
-        ensures { (result ≡ true) ↔ FailsWith self.now NodeKind protected.0 link.0 }
-    {
-        touches(&self.link(link), self.edge(protected).to)
-    }
-
-    /// Whether the link is of the protected pair, or has an end where the protected link begins and shares a group with it.
-    fn fails_with_risk(&self, protected: LinkNo, link: LinkNo) -> bool
-        requires protected { protected.0 < link_count self.now }
-        requires link { link.0 < link_count self.now }
-        ensures { (result ≡ true) ↔ FailsWith self.now RiskKind protected.0 link.0 }
-    {
-        if self.fails_with_link(protected, link) {
-            return true;
+        for link in range.first..range.end {
+            if share(self.groups(LinkNo(link)), groups) {
+                set.add(LinkNo(link))?;
+            }
         }
-        touches(&self.link(link), self.link(protected).from)
-            && share(self.groups(link), self.groups(protected))
+        Ok(())
     }
 
-    /// Whether the link fails in the case.
-    fn fails(&self, case: Case, link: LinkNo) -> bool
-        requires case { IsCase self.now case }
-        requires link { link.0 < link_count self.now }
-        ensures { (result ≡ true) ↔ FailsWith self.now case.kind case.link.0 link.0 }
+    /// Adds those of the listed links that share one of the groups.
+    fn add_sharing_listed(
+        &self,
+        set: &mut LinkSet,
+        groups: &[u32],
+        links: &[LinkNo],
+    ) -> Result<(), AllocError>
+        requires long { length set.old ≡ link_count self.now }
+        requires within { (i : ℕ) → i < length links.now → number_at links.now i < link_count self.now }
+        requires groups { IsStrictlyIncreasing groups.now }
+        ensures { OnOk result (IsWidened set.old (λ l. IsListed links.now l × HaveCommon (groups_at self.now l) groups.now) set.new) }
     {
-        match case.kind {
-            Kind::Link => self.fails_with_link(case.link, link),
-            Kind::Node => self.fails_with_node(case.link, link),
-            Kind::Risk => self.fails_with_risk(case.link, link),
+        for link in links {
+            if share(self.groups(*link), groups) {
+                set.add(*link)?;
+            }
         }
+        Ok(())
     }
 
-    /// The links that fail in the case (this project's rule): of kind link, the links of the protected pair; of kind node,
-    /// the links that begin or end at its end; of kind risk, the links of the protected pair and of each pair with an end at
-    /// its beginning that shares a group with it.
+    /// The links of the protected pair.
+    fn failed_with_link(&self, alloc: Global, protected: LinkNo) -> Result<LinkSet, AllocError>
+        requires { protected.0 < link_count self.now }
+        ensures { IfOk result (IsFailedSet self.now (record { kind = LinkKind; link = protected })) }
+    {
+        let opposite = self.find(&self.link(protected).key.mirrored());
+        let mut set = LinkSet::with_room(alloc, self.link_count() as usize, 2)?;
+        set.add(protected)?;
+        if let Some(link) = opposite {
+            set.add(link)?;
+        }
+        Ok(set)
+    }
+
+    /// The links that begin or end where the protected link ends.
+    fn failed_with_node(&self, alloc: Global, protected: LinkNo) -> Result<LinkSet, AllocError>
+        requires { protected.0 < link_count self.now }
+        ensures { IfOk result (IsFailedSet self.now (record { kind = NodeKind; link = protected })) }
+    {
+        let node = self.edge(protected).to;
+        let beginning = self.links_from(node);
+        let ending = self.links_to(node);
+        let room = ending.len() + (beginning.end - beginning.first) as usize;
+        let mut set = LinkSet::with_room(alloc, self.link_count() as usize, room)?;
+        set.add_range(beginning)?;
+        set.add_listed(ending)?;
+        Ok(set)
+    }
+
+    /// The links of the protected pair, and those with an end where the protected link begins that share a group with it.
+    fn failed_with_risk(&self, alloc: Global, protected: LinkNo) -> Result<LinkSet, AllocError>
+        requires { protected.0 < link_count self.now }
+        ensures { IfOk result (IsFailedSet self.now (record { kind = RiskKind; link = protected })) }
+    {
+        let mut set = self.failed_with_link(alloc, protected)?;
+        let groups = self.groups(protected);
+        // Most links have no group.
+        if !groups.is_empty() {
+            let node = self.edge(protected).from;
+            self.add_sharing_in_range(&mut set, groups, self.links_from(node))?;
+            self.add_sharing_listed(&mut set, groups, self.links_to(node))?;
+        }
+        Ok(set)
+    }
+
+    /// The links that fail in the case (this project's rule): of kind link, the links of the protected pair; of kind
+    /// node, the links that begin or end at its end; of kind risk, the links of the protected pair and of each pair with
+    /// an end at its beginning that shares a group with it. Its memory is a test for each link of the graph, and a
+    /// number for each link that fails.
     pub fn failed(&self, alloc: Global, case: Case) -> Result<LinkSet, AllocError>
         requires { IsCase self.now case }
         ensures { IfOk result (IsFailedSet self.now case) }
     {
-        let count = self.link_count();
-        let mut tests = Vec::with_capacity(alloc, count as usize)?;
-        for link in 0..count {
-            tests.push(self.fails(case, LinkNo(link as u16)))?;
+        match case.kind {
+            Kind::Link => self.failed_with_link(alloc, case.link),
+            Kind::Node => self.failed_with_node(alloc, case.link),
+            Kind::Risk => self.failed_with_risk(alloc, case.link),
         }
-        LinkSet::of(alloc, tests)
+    }
+
+    /// Whether the risk adds nothing at the link: it shares no group with the protected link, or is of its pair.
+    fn adds_nothing(&self, protected: LinkNo, link: LinkNo) -> bool
+        requires protected { protected.0 < link_count self.now }
+        requires link { link.0 < link_count self.now }
+        ensures { (result ≡ true) ↔ AddsNothing self.now protected.0 link.0 }
+    {
+        !share(self.groups(link), self.groups(protected))
+            || is_pair(&self.link(link).key, &self.link(protected).key)
+    }
+
+    /// Whether the risk adds nothing at the links of the range.
+    fn adds_nothing_in_range(&self, protected: LinkNo, range: LinkRange) -> bool
+        requires protected { protected.0 < link_count self.now }
+        requires within { range.end ≤ link_count self.now }
+        ensures { (result ≡ true) ↔ ((l : ℕ) → IsInRange range.first range.end l → AddsNothing self.now protected.0 l) }
+    {
+        for link in range.first..range.end {
+            if !self.adds_nothing(protected, LinkNo(link)) {
+                return false;
+            }
+        }
+        true
+    }
+
+    /// Whether the risk adds nothing at the listed links.
+    fn adds_nothing_listed(&self, protected: LinkNo, links: &[LinkNo]) -> bool
+        requires protected { protected.0 < link_count self.now }
+        requires within { (i : ℕ) → i < length links.now → number_at links.now i < link_count self.now }
+        ensures { (result ≡ true) ↔ ((l : ℕ) → IsListed links.now l → AddsNothing self.now protected.0 l) }
+    {
+        for link in links {
+            if !self.adds_nothing(protected, *link) {
+                return false;
+            }
+        }
+        true
+    }
+
+    /// Whether the case is of kind risk and fails with just the links of the case of kind link that protects the same
+    /// link.
+    pub fn fails_as_link(&self, case: Case) -> bool
+        requires { IsCase self.now case }
+        ensures { IsTrue result ↔ FailsAsLink self.now case }
+    {
+        if case.kind != Kind::Risk {
+            return false;
+        }
+        if self.groups(case.link).is_empty() {
+            return true;
+        }
+        let node = self.edge(case.link).from;
+        self.adds_nothing_in_range(case.link, self.links_from(node))
+            && self.adds_nothing_listed(case.link, self.links_to(node))
     }
 }

@@ -2,15 +2,16 @@
 ghost use Rattle.std.specs.Prelude.{◌≡◌, ◌≢◌, [], ℕ, ◌<◌, ◌≤◌, length, map, IfSome, IfNone, IfOk, IfErr};
 ghost use Rattle.sr_model.specs.declared.link.NodeNo.{NodeNo as Node};
 ghost use Rattle.sr_model.specs.declared.link.LinkNo.{LinkNo as Number};
-ghost use Rattle.sr_model.specs.Graph.{node_count, link_count, link_at, head, metric, system_at, groups_at, is_overloaded, carries, IsGraph, IsNamed, IsGrouped};
+ghost use Rattle.sr_model.specs.Graph.{node_count, link_count, link_at, tail, head, metric, system_at, groups_at, is_overloaded, carries, IsGraph, IsNamed, IsGrouped};
 ghost use Rattle.sr_graph.specs.Draft.{IsDraft, AreSorted, IsAccepted, IsRefusal};
 ghost use Rattle.sr_graph.specs.Built.{IsBuilt};
 ghost use Rattle.sr_graph.specs.Edges.{edge_of};
-ghost use Rattle.sr_graph.specs.Ranges.{HoldsLinks};
+ghost use Rattle.sr_graph.specs.Ranges.{HoldsLinks, EndAt};
 
 use crate::draft::{Draft, DraftLink, Groups};
 use crate::edges::{Edge, edges_of};
 use crate::fault::GraphFault;
+use crate::incoming::{Incoming, lists_by_end};
 use crate::link_set::LinkSet;
 use crate::numbers::{find, number_all, place};
 use crate::order::{refusal, sort};
@@ -28,6 +29,7 @@ pub struct Graph {
     groups: Vec<Groups>,
     pub(crate) overloaded: Vec<bool>,
     starts: Vec<u16>,
+    incoming: Vec<Incoming>,
 }
 
 impl Model for Graph {
@@ -38,7 +40,7 @@ impl Model for Graph {
 
     ghost view = { λ a. record { systems = a.systems.items; links = a.links.items; groups = a.groups.items; overloaded = a.overloaded.items } };
 
-    ghost invariant = { λ a. IsLaidOut (record { systems = a.systems.items; links = a.links.items; groups = a.groups.items; overloaded = a.overloaded.items }) a.edges.items a.starts.items };
+    ghost invariant = { λ a. IsLaidOut (record { systems = a.systems.items; links = a.links.items; groups = a.groups.items; overloaded = a.overloaded.items }) a.edges.items a.starts.items a.incoming.items };
 }
 
 impl Graph {
@@ -79,6 +81,7 @@ impl Graph {
         let numbered = number_all(alloc, &systems, links)?;
         let starts = starts(alloc, &numbered.links, systems.len())?;
         let edges = edges_of(alloc, &numbered.links)?;
+        let incoming = lists_by_end(alloc, &edges, systems.len())?;
         Ok(Graph {
             systems,
             links: numbered.links,
@@ -86,6 +89,7 @@ impl Graph {
             groups: numbered.groups,
             overloaded: Vec::new(alloc),
             starts,
+            incoming,
         })
     }
 
@@ -128,9 +132,10 @@ impl Graph {
         self.links[link.0 as usize]
     }
 
-    /// The node at the link's end, and its metric.
+    /// The nodes at the link's ends, and its metric.
     pub fn edge(&self, link: LinkNo) -> Edge
         requires { link.0 < link_count self.now }
+        ensures from { result.from.0 ≡ tail self.now link.0 }
         ensures to { result.to.0 ≡ head self.now link.0 }
         ensures metric { result.metric ≡ metric self.now link.0 }
         ensures graph { IsGraph self.now }
@@ -184,6 +189,15 @@ impl Graph {
             first: self.starts[place],
             end: self.starts[place + 1],
         }
+    }
+
+    /// The links that end at the node, ascending.
+    pub fn links_to(&self, node: NodeNo) -> &[LinkNo]
+        requires { node.0 < node_count self.now }
+        ensures links { EndAt self.now node.0 result.now }
+        ensures graph { IsGraph self.now }
+    {
+        self.incoming[node.0 as usize].links()
     }
 
     /// Whether the node is overloaded, so that no walk passes through it (ISO 10589, 7.2.8.1).

@@ -6,6 +6,7 @@ mod edges;
 mod failed;
 mod fault;
 mod graph;
+mod incoming;
 mod link_set;
 mod mark;
 mod numbers;

@@ -1,8 +1,9 @@
 //! Sets of links.
-ghost use Rattle.std.specs.Prelude.{◌≡◌, ◌≤◌, [], length, IfOk};
+ghost use Rattle.std.specs.Prelude.{◌≡◌, ℕ, ◌<◌, ◌≤◌, true, false, [], length, replicate, slice_set, IfOk, OnOk};
 ghost use Rattle.sr_model.specs.Graph.{has};
-ghost use Rattle.sr_graph.specs.Members.{AreMembers};
+ghost use Rattle.sr_graph.specs.Members.{number_at, IsListed, IsInRange, AreMembers, IsWidened};
 
+use crate::ranges::LinkRange;
 use sr_model::LinkNo;
 use std::alloc::{AllocError, Global};
 use std::marker::Model;
@@ -26,20 +27,6 @@ impl Model for LinkSet {
     ghost invariant = { λ a. AreMembers a.tests.items a.links.items };
 }
 
-/// The numbers of the links whose test is true, ascending.
-fn members(alloc: Global, tests: &[bool]) -> Result<Vec<LinkNo>, AllocError>
-    requires { length tests.now ≤ 65536 }
-    ensures { IfOk result (λ links. AreMembers tests.now links.items) }
-{
-    let mut links = Vec::new(alloc);
-    for link in 0..tests.len() {
-        if tests[link] {
-            links.push(LinkNo(link as u16))?;
-        }
-    }
-    Ok(links)
-}
-
 impl LinkSet {
     /// The empty set.
     pub(crate) fn empty(alloc: Global) -> LinkSet
@@ -51,16 +38,55 @@ impl LinkSet {
         }
     }
 
-    /// The set of the links whose test is true.
-    pub(crate) fn of(alloc: Global, tests: Vec<bool>) -> Result<LinkSet, AllocError>
-        requires { length tests.items ≤ 65536 }
-        ensures { IfOk result (λ set. set ≡ tests.items) }
+    /// The empty set of links of a graph that has so many, with room for some of them.
+    pub(crate) fn with_room(
+        alloc: Global,
+        link_count: usize,
+        room: usize,
+    ) -> Result<LinkSet, AllocError>
+        ensures { IfOk result (λ set. set ≡ replicate link_count false) }
     {
-        let links = members(alloc, &tests)?;
+        let tests = vec![in alloc; false; link_count]?;
+        let links = Vec::with_capacity(alloc, room)?;
         Ok(LinkSet { tests, links })
     }
 
-    /// The links in the set, ascending.
+    /// Adds the link. A link is listed once, however often it is added.
+    pub(crate) fn add(&mut self, link: LinkNo) -> Result<(), AllocError>
+        requires { link.0 < length self.old }
+        ensures { OnOk result (self.new ≡ slice_set self.old link.0 true) }
+    {
+        if self.has(link) {
+            return Ok(());
+        }
+        self.links.push(link)?;
+        self.tests[link.0 as usize] = true;
+        Ok(())
+    }
+
+    /// Adds the links of the range.
+    pub(crate) fn add_range(&mut self, range: LinkRange) -> Result<(), AllocError>
+        requires { range.end ≤ length self.old }
+        ensures { OnOk result (IsWidened self.old (IsInRange range.first range.end) self.new) }
+    {
+        for link in range.first..range.end {
+            self.add(LinkNo(link))?;
+        }
+        Ok(())
+    }
+
+    /// Adds the listed links.
+    pub(crate) fn add_listed(&mut self, links: &[LinkNo]) -> Result<(), AllocError>
+        requires { (i : ℕ) → i < length links.now → number_at links.now i < length self.old }
+        ensures { OnOk result (IsWidened self.old (IsListed links.now) self.new) }
+    {
+        for link in links {
+            self.add(*link)?;
+        }
+        Ok(())
+    }
+
+    /// The links in the set, each once, in no order.
     pub fn links(&self) -> &[LinkNo]
         ensures { AreMembers self.now result.now }
     {

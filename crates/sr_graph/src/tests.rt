@@ -1,10 +1,10 @@
-//! A small graph with two parallel pairs, and what fails in it.
+//! A small graph with two parallel pairs: what fails in it, and where its links end.
 ghost use Rattle.std.specs.Prelude.{◌≡◌, ◌<◌, [], ◌∷◌, IfOk};
 ghost use Rattle.sr_model.specs.declared.name.Ident.TheVariants.{None as NoIdent, Link as LinkIdent};
 ghost use Rattle.sr_graph.specs.Draft.{IsDraft};
 
 use crate::{Draft, DraftLink, DraftLinks, Graph, Groups, LinkSet, SystemIds};
-use sr_model::{Case, Ident, Kind, LinkKey, LinkNo, SystemId};
+use sr_model::{Case, Ident, Kind, LinkKey, LinkNo, NodeNo, SystemId};
 use std::alloc::{AllocError, Global};
 use std::test::Fail;
 
@@ -126,5 +126,46 @@ fn links_fail_together(rt: HostRuntime) -> Result<(), Fail> {
         members(&risk),
         [true, true, false, true, true, false, false, false]
     );
+    Ok(())
+}
+
+/// The parallel pairs share a risk; the pair between 1 and 3 shares none.
+#[test]
+fn risks_fail_as_links_or_not(rt: HostRuntime) -> Result<(), Fail> {
+    let alloc = rt.alloc();
+    let graph = Graph::build(alloc, parallels(alloc)?)?;
+    assert!(rt; graph.link_count() == 8);
+    assert!(rt;
+        !graph.fails_as_link(Case {
+            kind: Kind::Risk,
+            link: LinkNo(0)
+        })
+    );
+    assert!(rt;
+        graph.fails_as_link(Case {
+            kind: Kind::Risk,
+            link: LinkNo(2)
+        })
+    );
+    assert!(rt;
+        !graph.fails_as_link(Case {
+            kind: Kind::Link,
+            link: LinkNo(2)
+        })
+    );
+    Ok(())
+}
+
+/// Node 1 is the end of the links from 2, and of that from 3.
+#[test]
+fn links_are_listed_by_their_end(rt: HostRuntime) -> Result<(), Fail> {
+    let alloc = rt.alloc();
+    let graph = Graph::build(alloc, parallels(alloc)?)?;
+    assert!(rt; graph.node_count() == 3);
+    let links = graph.links_to(NodeNo(0));
+    assert!(rt; links.len() == 3);
+    assert_eq!(rt; links[0], LinkNo(3));
+    assert_eq!(rt; links[1], LinkNo(4));
+    assert_eq!(rt; links[2], LinkNo(6));
     Ok(())
 }

@@ -1,15 +1,12 @@
 -- What sums of cells say of next hops.
-use Rattle.std.proofs.Common.{◌≡◌, ℕ, ◌+◌, ◌<◌, ⊎_elim, true, List, [], ◌∷◌, refl, arith, eq-eqb}
-use Rattle.std.specs.Prelude.{IsTrue, ◌↔◌, ◌==◌}
-use Rattle.std.proofs.lemmas.Bool.{cases_lt, eqb-true}
+use Rattle.std.proofs.Common.{◌≡◌, ℕ, ◌+◌, ◌<◌, ⊎_elim, true, List, [], ◌∷◌, refl, arith}
+use Rattle.std.proofs.lemmas.Bool.{cases_lt}
 use Rattle.sr_model.specs.Graph.{Graph, node_count, link_count, tail, head, metric, carries, link_at, IsLink}
-use Rattle.sr_model.specs.Walk.{IsWalk, IsNextHop, IsCell}
+use Rattle.sr_model.specs.Walk.{IsWalk, IsNextHop}
 use Rattle.sr_model.specs.declared.link.TheConstants.{FAR}
 use Rattle.sr_walks.proofs.Distances.{cell-distance, IsNextHop-from_sum, sum-from_IsNextHop}
 use Rattle.sr_spf.specs.Trees.{Forest, AreTrees, cell_at}
-
-pub tree_cell : (g : Graph) (t : Forest) (u v : ℕ) → AreTrees g t → u < node_count g → v < node_count g → IsCell g [] u v (cell_at t u v)
-tree_cell g t u v a b c = (a.rows u b).each v c
+use Rattle.sr_spaces.proofs.SpaceLemmas.{tree_cell}
 
 -- where there is a walk the cell is below FAR
 walk-near : (g : Graph) (t : Forest) (u v : ℕ) (p : List ℕ) → AreTrees g t → u < node_count g → v < node_count g → IsWalk g [] u p v → cell_at t u v < FAR
@@ -28,19 +25,15 @@ module _ (g : Graph) (t : Forest) (l d : ℕ) (a : AreTrees g t) (within : l < l
       let near : cell_at t (tail g l) d < FAR = hop-near h in
       (sum-from_IsNextHop g [] (tail g l) d l (cell_at t (tail g l) d) ((tree_cell g t (tail g l) d a ends.0 b).near near) h).3
 
-  hop-sum : IsNextHop g [] (tail g l) d l → metric g l + cell_at t (head g l) d ≡ cell_at t (tail g l) d
+  pub hop-sum : IsNextHop g [] (tail g l) d l → metric g l + cell_at t (head g l) d ≡ cell_at t (tail g l) d
   hop-sum h =
       let near : cell_at t (tail g l) d < FAR = hop-near h in
       let r = sum-from_IsNextHop g [] (tail g l) d l (cell_at t (tail g l) d) ((tree_cell g t (tail g l) d a ends.0 b).near near) h in
       let same : cell_at t (head g l) d ≡ r.2.0 = cell-distance g [] (head g l) d _ r.2.0 (tree_cell g t (head g l) d a ends.1 b) r.2.1 (omega (arith, r.2.2)) in
       omega (arith, r.2.2)
 
-  hop-from_sum : cell_at t (tail g l) d < FAR → carries g d (head g l) ≡ true → metric g l + cell_at t (head g l) d ≡ cell_at t (tail g l) d → IsNextHop g [] (tail g l) d l
+  pub hop-from_sum : cell_at t (tail g l) d < FAR → carries g d (head g l) ≡ true → metric g l + cell_at t (head g l) d ≡ cell_at t (tail g l) d → IsNextHop g [] (tail g l) d l
   hop-from_sum near to sum =
       IsNextHop-from_sum g [] (tail g l) d l (cell_at t (head g l) d) within refl refl to
       ((tree_cell g t (head g l) d a ends.1 b).near (omega arith))
       (rw sum ((tree_cell g t (tail g l) d a ends.0 b).near near))
-
-  -- the test by the sum
-  pub hop_tells : cell_at t (tail g l) d < FAR → carries g d (head g l) ≡ true → IsTrue (metric g l + cell_at t (head g l) d == cell_at t (tail g l) d) ↔ IsNextHop g [] (tail g l) d l
-  hop_tells near to = (λ yes. hop-from_sum near to (eqb-true _ _ yes), λ hop. eq-eqb _ _ (hop-sum hop))

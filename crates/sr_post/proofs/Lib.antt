@@ -3,3 +3,4 @@ pub mod WayLemmas
 pub mod OrderLemmas
 pub mod MarkLemmas
 pub mod FailedLemmas
+pub mod KeptLemmas

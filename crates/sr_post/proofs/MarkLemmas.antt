@@ -7,11 +7,11 @@ use Rattle.sr_model.specs.declared.case.Case.{Case}
 use Rattle.sr_model.specs.Graph.{IsGraph, IsLink, node_count, tail, head, metric, has, link_at}
 use Rattle.sr_model.specs.Label.{Net}
 use Rattle.sr_model.specs.Walk.{IsRow}
-use Rattle.sr_model.specs.Case.{IsAffected, IsOnRepairWay, IsCase, source_of}
+use Rattle.sr_model.specs.Case.{IsAffected, IsOnRepairWay, IsFailedSet, IsCase, source_of}
 use Rattle.sr_post.specs.declared.order.Placed.{Placed}
 use Rattle.sr_post.specs.Order.{entry_at, AreByDistance}
-use Rattle.sr_post.specs.Post.{AreMarks}
-use Rattle.sr_post.specs.Marks.{IsMarked}
+use Rattle.sr_post.specs.Marks.{IsMarked, AreMarks, AreWalks}
+use Rattle.sr_post.proofs.FailedLemmas.{failed-one}
 use Rattle.sr_post.proofs.WayLemmas.{IsAlong, along-from_way, way-from_along, along-here, along-on, along-cut}
 
 -- the marks are right at the places from k on
@@ -97,3 +97,7 @@ module _ (n : Net) (case : Case) (x : List Bool) (cells : List ℕ) (graph : IsG
         let at = order.all v (omega (arith, row.long)) in
         subst (λ u. IsTrue (has marks u) ↔ IsOnRepairWay n case x u) at.2 (r.each at.0 (omega arith) at.1);
   }
+
+-- the failed links of a case are one set
+pub marks-walks : (n : Net) (case : Case) (x marks : List Bool) → IsFailedSet n.graph case x → AreMarks n case x marks → AreWalks n case marks
+marks-walks n case x marks failed are = record { marks = λ y other. subst (λ z. AreMarks n case z marks) (failed-one n.graph case x y failed other) are }

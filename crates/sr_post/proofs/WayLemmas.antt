@@ -1,5 +1,5 @@
 -- Ways along a row of distances.
-use Rattle.std.proofs.Common.{◌≡◌, ℕ, ◌+◌, ◌<◌, ◌≤◌, ◌⊎◌, ⊎_elim, inl, inr, Bool, true, false, List, [], ◌∷◌, ◌++◌, refl, arith, ap, sym, ◌∙◌, subst}
+use Rattle.std.proofs.Common.{◌≡◌, ℕ, ◌+◌, ◌<◌, ◌≤◌, ◌⊎◌, ⊎_elim, inl, inr, Bool, true, false, List, [], ◌∷◌, ◌++◌, refl, arith, ap, subst}
 use Rattle.std.specs.Prelude.{slice_index}
 use Rattle.std.proofs.lemmas.Bool.{cases_lt}
 use Rattle.sr_model.specs.Graph.{Graph, IsGraph, IsLink, carries, has, head, link_at, link_count, metric, node_count, tail}
@@ -8,12 +8,9 @@ use Rattle.sr_model.specs.declared.link.TheConstants.{FAR}
 use Rattle.sr_walks.proofs.Walks.{IsWalk-append, IsWalk-cut, cost-append, carries-cases, Begins, begins-self, begins-passes, stable-cost}
 use Rattle.sr_walks.proofs.Distances.{distance-unique, distance-self, cell-distance, walk-into, IsShortest-from_cost, distance-from_shortest}
 use Rattle.sr_walks.proofs.Rows.{row-near, row-stable}
+use Rattle.sr_spaces.proofs.AroundLemmas.{walk-end}
 
--- a walk ends at one node, and from a node it ends at a node
-walk-end : (g : Graph) (x : List Bool) (u : ℕ) (p : List ℕ) (v w : ℕ) → IsWalk g x u p v → IsWalk g x u p w → v ≡ w
-walk-end g x u [] v w a b = sym a ∙ b
-walk-end g x u (l ∷ p) v w a b = walk-end g x (head g l) p v w a.3 b.3
-
+-- from a node a walk ends at a node
 walk-inside : (g : Graph) (x : List Bool) (u : ℕ) (p : List ℕ) (v : ℕ) → IsGraph g → u < node_count g → IsWalk g x u p v → v < node_count g
 walk-inside g x u [] v graph within a = subst (λ k. k < node_count g) a within
 walk-inside g x u (l ∷ p) v graph within a = let k : IsLink g (link_at g l) = graph.each l a.0 in walk-inside g x (head g l) p v graph k.1 a.3

@@ -1,10 +1,10 @@
--- How the nodes on the shortest walks are told from the farther ones.
-use Rattle.std.specs.Prelude.{◌≡◌, ℕ, ◌+◌, ◌<◌, ◌⊎◌, Bool, true, false, List, slice_index}
+-- The nodes on the shortest walks, and how they are told from the farther ones.
+use Rattle.std.specs.Prelude.{◌≡◌, ◌↔◌, ℕ, ◌+◌, ◌<◌, ◌⊎◌, IsTrue, Bool, true, false, List, length, slice_index}
 use Rattle.sr_model.specs.declared.case.Case.{Case}
 use Rattle.sr_model.specs.declared.link.TheConstants.{FAR}
-use Rattle.sr_model.specs.Graph.{Graph, link_count, tail, head, metric, has, carries}
+use Rattle.sr_model.specs.Graph.{Graph, node_count, link_count, tail, head, metric, has, carries}
 use Rattle.sr_model.specs.Label.{Net}
-use Rattle.sr_model.specs.Case.{IsAffected, source_of}
+use Rattle.sr_model.specs.Case.{IsAffected, IsFailedSet, IsOnRepairWay, source_of}
 
 -- a link from v outside x leads along the row to a marked node
 abbrev pub LeadsOn : Graph → List Bool → List ℕ → List Bool → ℕ → Type 0
@@ -15,3 +15,12 @@ LeadsOn g x cells marks v =
 pub record IsMarked (n : Net) (case : Case) (x : List Bool) (cells : List ℕ) (marks : List Bool) (v : ℕ) : Type 0 where
   pub near : slice_index cells v < FAR
   pub why : IsAffected n case v ⊎ ((carries n.graph (source_of n.graph case) v ≡ true) × LeadsOn n.graph x cells marks v)
+
+-- the tests tell the nodes on the shortest walks without x from the source to the affected destinations
+pub record AreMarks (n : Net) (case : Case) (x : List Bool) (marks : List Bool) : Type 0 where
+  pub long : length marks ≡ node_count n.graph
+  pub each : (v : ℕ) → v < node_count n.graph → IsTrue (has marks v) ↔ IsOnRepairWay n case x v
+
+-- the tests tell the nodes on the shortest walks without the failed links of the case from the source to the affected destinations
+pub record AreWalks (n : Net) (case : Case) (tests : List Bool) : Type 0 where
+  pub marks : (x : List Bool) → IsFailedSet n.graph case x → AreMarks n case x tests

@@ -16,7 +16,7 @@ fn is_outside(graph: &Graph, case: Case, d: NodeNo) -> bool
     requires { IsCase graph.now case }
     ensures { IsTrue result ↔ IsOutside graph.now case d.0 }
 {
-    let protected = graph.link(case.link);
+    let protected = graph.edge(case.link);
     if d.0 == protected.from.0 {
         return false;
     }
@@ -33,15 +33,16 @@ fn is_next_hop(graph: &Graph, trees: &Trees, link: LinkNo, d: NodeNo) -> bool
     requires d { d.0 < node_count graph.now }
     ensures { IsTrue result ↔ IsNextHop graph.now [] (tail graph.now link.0) d.0 link.0 }
 {
-    let ends = graph.link(link);
-    let whole = trees.cells(ends.from)[d.0 as usize];
+    let edge = graph.edge(link);
+    let whole = trees.cells(edge.from)[d.0 as usize];
+    // Most links lead elsewhere.
+    if edge.metric as u64 + trees.cells(edge.to)[d.0 as usize] != whole {
+        return false;
+    }
     if whole >= FAR {
         return false;
     }
-    if !graph.carries(d, ends.to) {
-        return false;
-    }
-    ends.metric as u64 + trees.cells(ends.to)[d.0 as usize] == whole
+    graph.carries(d, edge.to)
 }
 
 /// Whether the destination is affected in the case: it has a node index, isn't the source nor a node that fails, and the
@@ -53,7 +54,7 @@ pub fn affected(net: &Net, trees: &Trees, case: Case, d: NodeNo) -> bool
     ensures { IsTrue result ↔ IsAffected net.now case d.0 }
 {
     let graph = net.graph();
-    net.labels(d).index().is_some()
+    is_next_hop(graph, trees, case.link, d)
+        && net.labels(d).index().is_some()
         && is_outside(graph, case, d)
-        && is_next_hop(graph, trees, case.link, d)
 }

@@ -1,16 +1,84 @@
-//! What a case leaves.
+//! What a case leaves, in two steps: what is known before its search, and the search.
 ghost use Rattle.std.specs.Prelude.{◌≡◌, ◌+◌, ◌≤◌, IfOk, OnOk};
 ghost use Rattle.sr_model.specs.Case.{IsCase};
 ghost use Rattle.sr_spf.specs.Trees.{AreTrees};
-ghost use Rattle.sr_post.specs.Post.{IsPost};
+ghost use Rattle.sr_post.specs.Post.{IsPost, IsBeginning};
 
+use crate::kept::{Known, known_distances};
 use crate::left::Post;
-use crate::marks::marks_of;
+use crate::spaces::spaces_of;
+use sr_graph::LinkSet;
 use sr_labels::Net;
-use sr_model::Case;
-use sr_spf::{Steps, Trees, row};
+use sr_model::{Case, NodeNo};
+use sr_spf::{Steps, Trees, row_after};
 use std::alloc::{AllocError, Global};
+use std::marker::Model;
 use std::sync::ledger::Ledger;
+
+/// What is known of a case before its search: the failed links, the distances from the source that stay (`FAR` for the
+/// others), and the nodes whose distance doesn't.
+#[derive(Debug, Drop)]
+struct Begun {
+    failed: LinkSet,
+    cells: Vec<u64>,
+    lost: Vec<NodeNo>,
+}
+
+impl Model for Begun {
+    ghost use Rattle.sr_post.specs.Post.{Beginning};
+
+    ghost Value = { Beginning };
+
+    ghost view = { λ a. record { failed = a.failed; cells = a.cells.items; lost = a.lost.items } };
+}
+
+impl Begun {
+    /// What the failure of the case leaves. One search is counted.
+    fn finish<L: Ledger>(
+        self,
+        alloc: Global,
+        net: &Net,
+        case: Case,
+        steps: &mut Steps<L>,
+    ) -> Result<Post, AllocError>
+        requires case { IsCase net.now.graph case }
+        requires begun { IsBeginning net.now case self }
+        ensures post { IfOk result (IsPost net.now case) }
+        ensures steps { OnOk result (steps.new ≡ steps.old + 1) }
+        ensures most { steps.new ≤ steps.old + 1 }
+    {
+        let graph = net.graph();
+        let source = graph.edge(case.link).from;
+        let Begun {
+            failed,
+            cells,
+            lost,
+        } = self;
+        let row = row_after(alloc, graph, &failed, source, cells, &lost, steps)?;
+        Ok(Post::new(failed, row))
+    }
+}
+
+/// What is known of the case before its search.
+fn begin(alloc: Global, net: &Net, trees: &Trees, case: Case) -> Result<Begun, AllocError>
+    requires trees { AreTrees net.now.graph trees.now }
+    requires case { IsCase net.now.graph case }
+    ensures { IfOk result (IsBeginning net.now case) }
+{
+    let graph = net.graph();
+    let failed = graph.failed(alloc, case)?;
+    let Known { cells, lost } = known_distances(
+        alloc,
+        &spaces_of(graph, trees, &failed, case),
+        trees,
+        graph.edge(case.link).from,
+    )?;
+    Ok(Begun {
+        failed,
+        cells,
+        lost,
+    })
+}
 
 /// What the failure of the case leaves. One search is counted.
 pub fn post<L: Ledger>(
@@ -26,10 +94,5 @@ pub fn post<L: Ledger>(
     ensures steps { OnOk result (steps.new ≡ steps.old + 1) }
     ensures most { steps.new ≤ steps.old + 1 }
 {
-    let graph = net.graph();
-    let failed = graph.failed(alloc, case)?;
-    let source = graph.link(case.link).from;
-    let row = row(alloc, graph, &failed, source, steps)?;
-    let marks = marks_of(alloc, net, trees, case, &failed, row.cells())?;
-    Ok(Post::new(failed, row, marks))
+    begin(alloc, net, trees, case)?.finish(alloc, net, case, steps)
 }

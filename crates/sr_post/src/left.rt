@@ -1,9 +1,9 @@
 //! What is left after a failure, as it is read.
-ghost use Rattle.std.specs.Prelude.{◌≡◌, ◌<◌, ◌↔◌, List, Bool, length, IsTrue};
+ghost use Rattle.std.specs.Prelude.{◌≡◌, ◌<◌, List, Bool, length};
 ghost use Rattle.sr_model.specs.declared.case.Case.{Case as Failure};
 ghost use Rattle.sr_model.specs.Label.{Net as Labelled};
 ghost use Rattle.sr_model.specs.Walk.{Distance};
-ghost use Rattle.sr_model.specs.Case.{IsFailedSet, IsOnRepairWay, source_of};
+ghost use Rattle.sr_model.specs.Case.{IsFailedSet, source_of};
 ghost use Rattle.sr_post.specs.Post.{IsPost};
 
 use sr_graph::LinkSet;
@@ -11,33 +11,27 @@ use sr_model::{FAR, NodeNo};
 use sr_spf::Row;
 use std::marker::Model;
 
-/// What is left after the failure of a case: the failed links, the distances from the source without them, and the nodes
-/// on the shortest walks to the affected destinations.
+/// What is left after the failure of a case: the failed links, and the distances from the source without them.
 #[derive(Debug, Drop)]
 pub struct Post {
     failed: LinkSet,
     row: Row,
-    marks: Vec<bool>,
 }
 
 impl Model for Post {
-    ghost use Rattle.std.specs.Prelude.{◌≡◌, length};
     ghost use Rattle.sr_post.specs.Post.{Remains};
 
     ghost Value = { Remains };
 
-    ghost view = { λ a. record { failed = a.failed; cells = a.row; marks = a.marks.items } };
-
-    ghost invariant = { λ a. length a.marks.items ≡ length a.row };
+    ghost view = { λ a. record { failed = a.failed; cells = a.row } };
 }
 
 impl Post {
     /// What is left, of these parts.
-    pub(crate) fn new(failed: LinkSet, row: Row, marks: Vec<bool>) -> Post
-        requires { length marks.items ≡ length row }
-        ensures { result ≡ record { failed = failed; cells = row; marks = marks.items } }
+    pub(crate) fn new(failed: LinkSet, row: Row) -> Post
+        ensures { result ≡ record { failed = failed; cells = row } }
     {
-        Post { failed, row, marks }
+        Post { failed, row }
     }
 
     /// The failed links.
@@ -61,13 +55,5 @@ impl Post {
     {
         let cell = self.row.cells()[v.0 as usize];
         if cell < FAR { Some(cell) } else { None }
-    }
-
-    /// Whether the node stands on a shortest walk without the failed links from the source to an affected destination.
-    pub fn on_walks(&self, v: NodeNo) -> bool
-        requires { v.0 < length self.now.cells }
-        ensures { (n : Labelled) (case : Failure) → IsPost n case self.now → (x : List Bool) → IsFailedSet n.graph case x → IsTrue result ↔ IsOnRepairWay n case x v.0 }
-    {
-        self.marks[v.0 as usize]
     }
 }

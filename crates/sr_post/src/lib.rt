@@ -1,13 +1,19 @@
-//! What a failure leaves: which destinations it affects, the distances from the source without the failed links, and the
-//! nodes on the shortest walks to the affected destinations.
+//! What a failure leaves: which destinations it affects, the distances from the source without the failed links, and,
+//! where they are asked for, the nodes on the shortest walks to the affected destinations.
 #![tactic(auto)]
 
 mod destinations;
 mod failure;
+mod kept;
 mod left;
 mod marks;
+mod on_walks;
 mod order;
+mod spaces;
 
 pub use destinations::affected;
 pub use failure::post;
 pub use left::Post;
+pub use marks::walks;
+pub use on_walks::Walks;
+pub use spaces::spaces_of;

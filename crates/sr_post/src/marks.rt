@@ -5,10 +5,12 @@ ghost use Rattle.sr_model.specs.Graph.{node_count};
 ghost use Rattle.sr_model.specs.Walk.{IsRow};
 ghost use Rattle.sr_model.specs.Case.{IsCase, source_of};
 ghost use Rattle.sr_spf.specs.Trees.{AreTrees};
-ghost use Rattle.sr_post.specs.Post.{AreMarks};
-ghost use Rattle.sr_post.specs.Marks.{LeadsOn, IsMarked};
+ghost use Rattle.sr_post.specs.Marks.{AreMarks, AreWalks, LeadsOn, IsMarked};
+ghost use Rattle.sr_post.specs.Post.{IsPost};
 
 use crate::destinations::affected;
+use crate::left::Post;
+use crate::on_walks::Walks;
 use crate::order::by_distance;
 use sr_graph::{Graph, LinkRange, LinkSet};
 use sr_labels::Net;
@@ -60,11 +62,11 @@ fn is_marked(
         return true;
     }
     let graph = net.graph();
-    graph.carries(graph.link(case.link).from, v) && leads_on(graph, x, cells, marks, v)
+    graph.carries(graph.edge(case.link).from, v) && leads_on(graph, x, cells, marks, v)
 }
 
 /// The nodes on the shortest walks without the failed links from the source to the affected destinations.
-pub(crate) fn marks_of(
+fn marks_of(
     alloc: Global,
     net: &Net,
     trees: &Trees,
@@ -85,4 +87,21 @@ pub(crate) fn marks_of(
         marks[v.0 as usize] = is_marked(net, trees, case, x, cells, &marks, v);
     }
     Ok(marks)
+}
+
+/// The nodes on the shortest walks of the case, from what it leaves.
+pub fn walks(
+    alloc: Global,
+    net: &Net,
+    trees: &Trees,
+    post: &Post,
+    case: Case,
+) -> Result<Walks, AllocError>
+    requires trees { AreTrees net.now.graph trees.now }
+    requires case { IsCase net.now.graph case }
+    requires post { IsPost net.now case post.now }
+    ensures { IfOk result (AreWalks net.now case) }
+{
+    let marks = marks_of(alloc, net, trees, case, post.failed(), post.cells())?;
+    Ok(Walks::new(marks))
 }

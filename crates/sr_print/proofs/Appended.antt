@@ -1,6 +1,6 @@
 -- Texts that are appended piece by piece.
 use Rattle.std.proofs.Common.{◌≡◌, ℕ, List, ◌++◌, ap, ◌∙◌, append_assoc, Result, Ok, Err}
-use Rattle.std.specs.Prelude.{OnErr}
+use Rattle.std.specs.Prelude.{OnOk, OnErr, is_ok, if◌then◌else◌}
 use Rattle.sr_print.specs.Printed.{BeginsWith}
 
 pub two_pieces : (old one two a b : List ℕ) → one ≡ old ++ a → two ≡ one ++ b → two ≡ old ++ (a ++ b)
@@ -16,3 +16,8 @@ begins-longer old one two a p b = (a ++ b.0, b.1 ∙ ap (λ xs. xs ++ b.0) p ∙
 pub on_err : {T E P : Type 0} (r : Result T E) → P → OnErr r P
 on_err (Ok t) p = tt
 on_err (Err e) p = p
+
+-- what `extend_from_slice` appends on success
+pub on_ok : {T E : Type 0} (r : Result T E) (old new more : List ℕ) → new ≡ (if is_ok r then old ++ more else old) → OnOk r (new ≡ old ++ more)
+on_ok (Ok t) old new more e = e
+on_ok (Err e) old new more p = tt

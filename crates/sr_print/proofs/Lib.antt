@@ -1,5 +1,9 @@
 pub mod Appended
+pub mod Items
+pub mod Labelled
 pub mod Members
 pub mod Places
+pub mod Routes
+pub mod Texts
 pub mod Walked
 pub mod Within

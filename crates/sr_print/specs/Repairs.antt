@@ -11,12 +11,11 @@ use Rattle.sr_model.specs.declared.audit.Item.{Item}
 use Rattle.sr_model.specs.declared.repair.RepairList.{RepairList}
 use Rattle.sr_model.specs.declared.repair.Answer.{Answer}
 use Rattle.sr_model.specs.declared.repair.Answer.TheVariants.{Least, NoPath, NoList, TooDeep}
-use Rattle.sr_model.specs.Graph.{Graph, node_count, link_count, system_at}
-use Rattle.sr_model.specs.Case.{IsCase}
+use Rattle.sr_model.specs.Graph.{Graph, node_count, link_count}
 use Rattle.sr_model.specs.Label.{Net}
-use Rattle.sr_model.specs.SystemText.{system_text}
 use Rattle.sr_print.specs.Links.{link_text, link_word}
-use Rattle.sr_print.specs.Printed.{ended, word, node_word, numbered}
+use Rattle.sr_print.specs.Names.{node_text}
+use Rattle.sr_print.specs.Printed.{ended, word, numbered}
 
 -- the name of a kind of failure
 abbrev pub kind_name : Kind → List ℕ
@@ -24,14 +23,17 @@ kind_name LinkKind = codes "link"
 kind_name NodeKind = codes "node"
 kind_name RiskKind = codes "risk"
 
--- a case by its kind and its protected link, and the destination
+-- a case by its kind and its protected link, before the destination
+unfoldable pub case_head : Net → Case → List ℕ
+case_head n case = codes "repair " ++ kind_name case.kind ++ link_word n case.link.0 ++ codes " to "
+
+-- a case, and the destination
 abbrev pub case_text : Net → Case → ℕ → List ℕ
-case_text n case d =
-    codes "repair " ++ kind_name case.kind ++ link_word n case.link.0 ++ codes " to" ++ node_word (system_at n.graph d)
+case_text n case d = case_head n case ++ node_text n d
 
 -- a segment: a node by its system id, or a link
 abbrev pub segment_text : Net → Segment → List ℕ
-segment_text n (Node v) = codes "node:" ++ system_text (system_at n.graph v.0)
+segment_text n (Node v) = codes "node:" ++ node_text n v.0
 segment_text n (Adj l) = codes "adj:" ++ link_text n l.0
 
 -- a segment as one more word
@@ -111,13 +113,3 @@ IsAnswerWithin g (Least list) = (list.first.0 < link_count g) × AreSegments g l
 IsAnswerWithin g NoPath = Unit {0}
 IsAnswerWithin g NoList = Unit {0}
 IsAnswerWithin g (TooDeep needed) = Unit {0}
-
--- the case, the destination and the answer of the item are those of the net
-pub record IsItemWithin (n : Net) (item : Item) : Type 0 where
-  pub case : IsCase n.graph item.case
-  pub dest : item.dest.0 < node_count n.graph
-  pub answer : IsAnswerWithin n.graph item.answer
-
--- each of these is an item of the net
-abbrev pub AreItemsWithin : Net → List Item → Type 0
-AreItemsWithin n items = All (IsItemWithin n) items

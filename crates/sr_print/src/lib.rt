@@ -2,10 +2,12 @@
 //! part of its line may stand there, and what stood before stays.
 #![tactic(auto)]
 
+mod answers;
 mod audit;
 mod forwarding;
 mod line;
 mod link;
+mod names;
 mod number;
 mod refusal;
 mod refused;
@@ -15,9 +17,11 @@ mod spaces;
 mod tests;
 mod walk;
 
-pub use audit::{put_items, put_summary};
+pub use answers::put_answers;
+pub use audit::put_summary;
 pub use forwarding::{put_label, put_next};
 pub use line::{put_dist, put_dropped, put_show, put_staged, put_version};
+pub use names::Names;
 pub use refusal::Refusal;
 pub use refused::put_refused;
 pub use repair::{put_repair, put_walk_uncovered};

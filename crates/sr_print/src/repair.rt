@@ -4,14 +4,16 @@ ghost use Rattle.std.specs.List.{flat_map};
 ghost use Rattle.sr_model.specs.Audit.{is_least};
 ghost use Rattle.sr_model.specs.Case.{IsCase};
 ghost use Rattle.sr_model.specs.Graph.{node_count, link_count};
+ghost use Rattle.sr_print.specs.Names.{node_text};
 ghost use Rattle.sr_print.specs.Printed.{BeginsWith};
-ghost use Rattle.sr_print.specs.Repairs.{kind_name, case_text, segment_word, segments_text, label_word, labels_text};
+ghost use Rattle.sr_print.specs.Repairs.{kind_name, case_head, case_text, segment_word, segments_text};
+ghost use Rattle.sr_print.specs.Repairs.{label_word, labels_text};
 ghost use Rattle.sr_print.specs.Repairs.{list_text, uncovered_text, answer_text, repair_line, uncovered_walk_line};
 ghost use Rattle.sr_print.specs.Repairs.{IsSegment, AreSegments, IsAnswerWithin};
 
 use crate::line::{end, put_numbered};
 use crate::link::{put_link, put_link_text};
-use crate::number::{put_node, put_value};
+use crate::number::put_value;
 use sr_labels::Net;
 use sr_model::{Answer, Case, Kind, NodeNo, RepairList, Segment};
 use std::alloc::AllocError;
@@ -27,6 +29,30 @@ fn name_of(kind: Kind) -> &'static [u8]
     }
 }
 
+/// Appends `repair KIND LINK to ` with its blank. After an error a part of it may stand there;
+/// what stood before stays.
+#[tactic(auto, unfolding(crate::specs::Repairs::case_head))]
+pub(crate) fn put_head(net: &Net, case: Case, out: &mut Vec<u8>) -> Result<(), AllocError>
+    requires { IsCase net.now.graph case }
+    ensures line { OnOk result (out.new.items ≡ out.old.items ++ case_head net.now case) }
+    ensures err { OnErr result (BeginsWith out.old.items out.new.items) }
+{
+    out.extend_from_slice(b"repair ")?;
+    out.extend_from_slice(name_of(case.kind))?;
+    put_link(net, case.link, out)?;
+    out.extend_from_slice(b" to ")
+}
+
+/// Appends a node's name. After an error what stood before stays.
+#[tactic(auto, unfolding(crate::specs::Names::node_text))]
+pub(crate) fn put_node_text(net: &Net, node: NodeNo, out: &mut Vec<u8>) -> Result<(), AllocError>
+    requires { node.0 < node_count net.now.graph }
+    ensures line { OnOk result (out.new.items ≡ out.old.items ++ node_text net.now node.0) }
+    ensures err { OnErr result (BeginsWith out.old.items out.new.items) }
+{
+    net.graph().system(node).put(out)
+}
+
 /// Appends `repair KIND LINK to NODE`. After an error a part of it may stand there;
 /// what stood before stays.
 fn put_case(net: &Net, case: Case, destination: NodeNo, out: &mut Vec<u8>) -> Result<(), AllocError>
@@ -35,11 +61,8 @@ fn put_case(net: &Net, case: Case, destination: NodeNo, out: &mut Vec<u8>) -> Re
     ensures line { OnOk result (out.new.items ≡ out.old.items ++ case_text net.now case destination.0) }
     ensures err { OnErr result (BeginsWith out.old.items out.new.items) }
 {
-    out.extend_from_slice(b"repair ")?;
-    out.extend_from_slice(name_of(case.kind))?;
-    put_link(net, case.link, out)?;
-    out.extend_from_slice(b" to")?;
-    put_node(net.graph().system(destination), out)
+    put_head(net, case, out)?;
+    put_node_text(net, destination, out)
 }
 
 /// Appends `node:NODE` or `adj:LINK` as one more word. After an error a part of it may stand there;
@@ -53,7 +76,7 @@ fn put_segment(net: &Net, segment: Segment, out: &mut Vec<u8>) -> Result<(), All
     match segment {
         Segment::Node(node) => {
             out.extend_from_slice(b" node:")?;
-            net.graph().system(node).put(out)
+            put_node_text(net, node, out)
         }
         Segment::Adj(link) => {
             out.extend_from_slice(b" adj:")?;
@@ -138,7 +161,7 @@ fn put_list(
 /// Appends ` uncovered nopath`, ` uncovered nolist` or ` uncovered toodeep K`: why there is no
 /// repair. Of a repair nothing is appended.
 /// After an error a part of it may stand there; what stood before stays.
-fn put_uncovered(answer: &Answer, out: &mut Vec<u8>) -> Result<(), AllocError>
+pub(crate) fn put_uncovered(answer: &Answer, out: &mut Vec<u8>) -> Result<(), AllocError>
     ensures line { OnOk result (out.new.items ≡ out.old.items ++ uncovered_text answer.now) }
     ensures err { OnErr result (BeginsWith out.old.items out.new.items) }
 {

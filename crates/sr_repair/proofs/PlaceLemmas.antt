@@ -1,8 +1,6 @@
--- The places of cases, and what stands at them.
-use Rattle.std.proofs.Common.{◌≡◌, ℕ, ◌+◌, ◌*◌, ◌<◌, ◌≤◌, ⊎_elim, List, [], ◌∷◌, ◌++◌, length, get_or, refl, arith, sym, ◌∙◌, subst}
+-- The places and slots of cases, and what stands in these.
+use Rattle.std.proofs.Common.{◌≡◌, ℕ, ◌+◌, ◌*◌, ◌<◌, List, length, get_or, refl, arith, sym, ◌∙◌, subst}
 use Rattle.std.specs.List.{AllZip, range_with_len}
-use Rattle.std.proofs.lemmas.Bool.{cases_lt}
-use Rattle.std.proofs.lemmas.List.{length-append, get_or_push, get_or_append_left}
 use Rattle.std.proofs.lemmas.List.FromFn.{get_or-range_with_len, length-range_with_len}
 use Rattle.sr_model.specs.declared.case.Case.{Case}
 use Rattle.sr_model.specs.declared.case.Kind.{Kind}
@@ -11,7 +9,7 @@ use Rattle.sr_model.specs.Audit.{rank_of}
 use Rattle.sr_model.specs.Graph.{Graph, link_count}
 use Rattle.sr_model.specs.Case.{IsCase}
 use Rattle.sr_graph.proofs.ZipLemmas.{zip-length, zip-at}
-use Rattle.sr_repair.specs.Answers.{place_of, BelongsAt, StandInPlace}
+use Rattle.sr_repair.specs.Answers.{place_of, slot_of, BelongsIn, StandInSlots}
 
 -- a rank and a number below k are told from the place of both
 rank-one : (k : ℕ) (a b : Kind) (i j : ℕ) → i < k → j < k → rank_of a * k + i ≡ rank_of b * k + j → (a ≡ b) × (i ≡ j)
@@ -32,30 +30,33 @@ case_is a b k l = let q : record { kind = a.kind; link = record { 0 = a.link.0 }
 pub place-one : (g : Graph) (a b : Case) → IsCase g a → IsCase g b → place_of g a ≡ place_of g b → a ≡ b
 place-one g a b p q e = let same = rank-one (link_count g) a.kind b.kind a.link.0 b.link.0 p q e in case_is a b same.0 same.1
 
--- what belongs to a case belongs at its place
-pub belongs-at : {X : Type 0} (g : Graph) (Belongs : Case → X → Type 0) (case : Case) (i : ℕ) (x : X) → IsCase g case → place_of g case ≡ i → Belongs case x → BelongsAt g Belongs i x
-belongs-at g Belongs case i x is at here other within there = subst (λ k. Belongs k x) (place-one g case other is within (at ∙ sym there)) here
+-- a number and a rank are told from the slot of both
+slot-rank : (a b : Kind) (i j : ℕ) → 3 * i + rank_of a ≡ 3 * j + rank_of b → (a ≡ b) × (i ≡ j)
+slot-rank LinkKind LinkKind i j e = (refl, omega arith)
+slot-rank LinkKind NodeKind i j e = absurd (omega arith)
+slot-rank LinkKind RiskKind i j e = absurd (omega arith)
+slot-rank NodeKind LinkKind i j e = absurd (omega arith)
+slot-rank NodeKind NodeKind i j e = (refl, omega arith)
+slot-rank NodeKind RiskKind i j e = absurd (omega arith)
+slot-rank RiskKind LinkKind i j e = absurd (omega arith)
+slot-rank RiskKind NodeKind i j e = absurd (omega arith)
+slot-rank RiskKind RiskKind i j e = (refl, omega arith)
 
--- one more in its place
-pub stand-push : {X : Type 0} (default : X) (g : Graph) (Belongs : Case → X → Type 0) (m : ℕ) (all : List X) (x : X) → StandInPlace default g Belongs m all → BelongsAt g Belongs m x → StandInPlace default g Belongs (m + 1) (all ++ x ∷ [])
-stand-push {X} default g Belongs m all x r here = record {
-  long = omega (arith, length-append all (x ∷ []), r.long);
-  each = λ case within lt. ⊎_elim
-      (λ (early : place_of g case < m).
-      subst (λ p. Belongs case p) (sym (get_or_append_left all (x ∷ []) default (place_of g case) (omega (arith, r.long)))) (r.each case within early))
-      (λ (late : m ≤ place_of g case).
-      let at : place_of g case ≡ m = omega arith in
-      subst (λ p. Belongs case p) (sym (get_or_push all x default (place_of g case) (r.long ∙ sym at))) (here case within at))
-      (cases_lt (place_of g case) m);
-}
+-- two cases have two slots
+slot-one : (a b : Case) → slot_of a ≡ slot_of b → a ≡ b
+slot-one a b e = let same = slot-rank a.kind b.kind a.link.0 b.link.0 e in case_is a b same.0 same.1
 
--- what comes from the places below m one by one stands in its place
-pub all-zipped : {X : Type 0} (default : X) (g : Graph) (Belongs : Case → X → Type 0) (m : ℕ) (all : List X) → AllZip (BelongsAt g Belongs) (range_with_len 0 m) all → StandInPlace default g Belongs m all
+-- what belongs to a case belongs in its slot
+pub belongs-in : {X : Type 0} (g : Graph) (Belongs : Case → X → Type 0) (case : Case) (i : ℕ) (x : X) → slot_of case ≡ i → Belongs case x → BelongsIn g Belongs i x
+belongs-in g Belongs case i x at here other within there = subst (λ k. Belongs k x) (slot-one case other (at ∙ sym there)) here
+
+-- what comes from the slots below m one by one stands there
+pub all-zipped : {X : Type 0} (default : X) (g : Graph) (Belongs : Case → X → Type 0) (m : ℕ) (all : List X) → AllZip (BelongsIn g Belongs) (range_with_len 0 m) all → StandInSlots default g Belongs m all
 all-zipped {X} default g Belongs m all zip = record {
-  long = zip-length (BelongsAt g Belongs) (range_with_len 0 m) all zip ∙ length-range_with_len 0 m;
+  long = zip-length (BelongsIn g Belongs) (range_with_len 0 m) all zip ∙ length-range_with_len 0 m;
   each = λ case within lt.
-      let some : place_of g case < length (range_with_len 0 m) = omega (arith, length-range_with_len 0 m) in
-      let here = zip-at (BelongsAt g Belongs) (range_with_len 0 m) all (place_of g case) 0 default zip some in
-      let from : get_or (range_with_len 0 m) (place_of g case) 0 ≡ place_of g case = omega (arith, get_or-range_with_len 0 m (place_of g case) 0 lt) in
+      let some : slot_of case < length (range_with_len 0 m) = omega (arith, length-range_with_len 0 m) in
+      let here = zip-at (BelongsIn g Belongs) (range_with_len 0 m) all (slot_of case) 0 default zip some in
+      let from : get_or (range_with_len 0 m) (slot_of case) 0 ≡ slot_of case = omega (arith, get_or-range_with_len 0 m (slot_of case) 0 lt) in
       here case within (sym from);
 }

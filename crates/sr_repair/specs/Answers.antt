@@ -1,16 +1,17 @@
 -- The answers of all cases.
-use Rattle.std.specs.Prelude.{◌≡◌, ◌↔◌, ℕ, ◌+◌, ◌*◌, ◌<◌, List, [], Option, None, Some, length, slice_index_or}
+use Rattle.std.specs.Prelude.{◌≡◌, ℕ, ◌+◌, ◌*◌, ◌<◌, List, [], ◌∷◌, length, slice_index_or}
 use Rattle.sr_model.specs.declared.case.Case.{Case}
-use Rattle.sr_model.specs.declared.case.Kind.TheVariants.{Link as LinkKind, Risk as RiskKind}
+use Rattle.sr_model.specs.declared.case.Kind.TheVariants.{Link as LinkKind}
 use Rattle.sr_model.specs.Audit.{rank_of}
-use Rattle.sr_model.specs.Case.{IsCase, IsAffected, FailsWith}
+use Rattle.sr_model.specs.Case.{IsCase, IsAffected}
 use Rattle.sr_model.specs.Graph.{Graph, link_count}
 use Rattle.sr_model.specs.Label.{Net}
-use Rattle.sr_post.specs.Post.{IsPost}
-use Rattle.sr_encode.specs.declared.answers.NodeAnswer.{NodeAnswer}
+use Rattle.sr_graph.specs.Failed.{FailsAsLink}
 use Rattle.sr_encode.specs.Answered.{AreAnswers}
-use Rattle.sr_repair.specs.declared.answers.Plan.{Plan}
-use Rattle.sr_repair.specs.declared.answers.Plan.TheVariants.{Nothing, AsLink, Search}
+use Rattle.sr_repair.specs.declared.passes.Passed.{Passed}
+use Rattle.sr_repair.specs.declared.passes.Passed.TheVariants.{Nothing, AsLink, Listed}
+use Rattle.sr_repair.specs.declared.answers.Found.{Found}
+use Rattle.sr_repair.specs.declared.answers.Found.TheVariants.{Own, AsLink as AsLinkFound}
 
 -- a case of each kind protects each link
 abbrev pub case_count : Graph → ℕ
@@ -20,14 +21,18 @@ case_count g = 3 * link_count g
 abbrev pub place_of : Graph → Case → ℕ
 place_of g case = rank_of case.kind * link_count g + case.link.0
 
--- x belongs to the case at place i
-abbrev pub BelongsAt : {X : Type 0} → Graph → (Case → X → Type 0) → ℕ → X → Type 0
-BelongsAt g Belongs i x = (case : Case) → IsCase g case → place_of g case ≡ i → Belongs case x
+-- the slot of a case: by protected link, then by kind
+abbrev pub slot_of : Case → ℕ
+slot_of case = 3 * case.link.0 + rank_of case.kind
 
--- what belongs to the first m cases stands at the places of these
-pub record StandInPlace {X : Type 0} (default : X) (g : Graph) (Belongs : Case → X → Type 0) (m : ℕ) (all : List X) : Type 0 where
+-- x belongs to the case in slot i
+abbrev pub BelongsIn : {X : Type 0} → Graph → (Case → X → Type 0) → ℕ → X → Type 0
+BelongsIn g Belongs i x = (case : Case) → IsCase g case → slot_of case ≡ i → Belongs case x
+
+-- what belongs to the cases in the first m slots stands there
+pub record StandInSlots {X : Type 0} (default : X) (g : Graph) (Belongs : Case → X → Type 0) (m : ℕ) (all : List X) : Type 0 where
   pub long : length all ≡ m
-  pub each : (case : Case) → IsCase g case → place_of g case < m → Belongs case (slice_index_or all (place_of g case) default)
+  pub each : (case : Case) → IsCase g case → slot_of case < m → Belongs case (slice_index_or all (slot_of case) default)
 
 -- some destination is affected in the case
 abbrev pub AffectsSome : Net → Case → Type 0
@@ -37,38 +42,42 @@ AffectsSome n case = (d : ℕ) × IsAffected n case d
 abbrev pub link_case : Case → Case
 link_case case = record { kind = LinkKind; link = case.link }
 
--- the case is of kind risk, and fails with the links of the case of kind link
-pub record FailsAsLink (g : Graph) (case : Case) : Type 0 where
-  pub risk : case.kind ≡ RiskKind
-  pub same : (l : ℕ) → l < link_count g → FailsWith g case.kind case.link.0 l ↔ FailsWith g LinkKind case.link.0 l
+-- what the pass over the case gives: nothing where it affects no destination, that its answers are those of the case of kind link where it fails as that does, or its answers
+abbrev pub IsPassed : Net → Case → Passed → Type 0
+IsPassed n case Nothing = AffectsSome n case → ⊥
+IsPassed n case AsLink = FailsAsLink n.graph case
+IsPassed n case (Listed list search) = AreAnswers n case list
 
--- how the answers of the case are found: there are none where it affects no destination, they are those of the case of kind link where it fails with the same links, and else a search finds them in what the case leaves
-abbrev pub IsPlan : Net → Case → Plan → Type 0
-IsPlan n case Nothing = AffectsSome n case → ⊥
-IsPlan n case AsLink = FailsAsLink n.graph case
-IsPlan n case (Search post) = IsPost n case post
+-- what the pass over the case in slot i gives
+abbrev pub IsPassedIn : Net → ℕ → Passed → Type 0
+IsPassedIn n = BelongsIn n.graph (IsPassed n)
 
--- how the answers of the first m cases are found
-abbrev pub AreAllPlans : Net → ℕ → List Plan → Type 0
-AreAllPlans n = StandInPlace Nothing n.graph (IsPlan n)
+-- what the passes over the cases in the first m slots give
+abbrev pub AreAllPassed : Net → ℕ → List Passed → Type 0
+AreAllPassed n = StandInSlots Nothing n.graph (IsPassed n)
 
--- the answers of the case, or nothing where it fails as the case of kind link does
-abbrev pub IsFound : Net → Case → Option (List NodeAnswer) → Type 0
-IsFound n case None = FailsAsLink n.graph case
-IsFound n case (Some list) = AreAnswers n case list
+-- how many searches were counted in the pass: one where there are answers
+abbrev pub searches_of : Passed → ℕ
+searches_of Nothing = 0
+searches_of AsLink = 0
+searches_of (Listed list search) = 1
 
--- what is found for the case at place i
-abbrev pub IsFoundAt : Net → ℕ → Option (List NodeAnswer) → Type 0
-IsFoundAt n = BelongsAt n.graph (IsFound n)
+-- how many searches were counted in the passes
+abbrev pub searches : List Passed → ℕ
+searches [] = 0
+searches (one ∷ rest) = searches_of one + searches rest
 
--- what is found for the first m cases
-abbrev pub AreAllFound : Net → ℕ → List (Option (List NodeAnswer)) → Type 0
-AreAllFound n = StandInPlace None n.graph (IsFound n)
+-- what is kept after the pass: the answers, or that they are those of the case of kind link
+abbrev pub kept_of : Passed → Found
+kept_of Nothing = Own []
+kept_of AsLink = AsLinkFound
+kept_of (Listed list search) = Own list
 
--- the answers of the case at place i
-abbrev pub AreAnswersAt : Net → ℕ → List NodeAnswer → Type 0
-AreAnswersAt n = BelongsAt n.graph (AreAnswers n)
+-- the answers of the case, or that it fails as the case of kind link does
+abbrev pub IsFound : Net → Case → Found → Type 0
+IsFound n case (Own list) = AreAnswers n case list
+IsFound n case AsLinkFound = FailsAsLink n.graph case
 
--- the answers of the first m cases stand at the places of these
-abbrev pub AreAllAnswers : Net → ℕ → List (List NodeAnswer) → Type 0
-AreAllAnswers n = StandInPlace [] n.graph (AreAnswers n)
+-- what is found for the cases in the first m slots
+abbrev pub AreAllFound : Net → ℕ → List Found → Type 0
+AreAllFound n = StandInSlots AsLinkFound n.graph (IsFound n)

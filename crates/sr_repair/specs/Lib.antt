@@ -2,3 +2,4 @@ pub mod Version
 pub mod Answers
 pub mod Delivery
 pub mod Stack
+pub mod Items

@@ -2,11 +2,14 @@
 #![tactic(auto)]
 
 mod answers;
+mod cases;
 mod laws;
+mod made;
+mod passes;
 mod stack;
 mod version;
 
-pub use answers::{case_at, case_count};
+pub use cases::{case_at, case_count};
 pub use laws::repairs_deliver;
-pub use stack::{labels_of, node_label};
+pub use stack::{label_left, labels_of, node_label, segment_end, segment_label};
 pub use version::Version;

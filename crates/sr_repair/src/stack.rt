@@ -30,7 +30,7 @@ pub fn node_label(net: &Net, at: NodeNo, end: NodeNo) -> u32
 }
 
 /// The label of a segment that becomes active at node `at`.
-fn segment_label(net: &Net, at: NodeNo, segment: Segment) -> u32
+pub fn segment_label(net: &Net, at: NodeNo, segment: Segment) -> u32
     requires at { at.0 < node_count net.now.graph }
     requires label { CanLabel net.now segment }
     ensures { IsSegmentLabel net.now at.0 segment result }
@@ -45,7 +45,7 @@ fn segment_label(net: &Net, at: NodeNo, segment: Segment) -> u32
 }
 
 /// The node that a segment leads to.
-fn segment_end(net: &Net, segment: Segment) -> NodeNo
+pub fn segment_end(net: &Net, segment: Segment) -> NodeNo
     requires { CanLabel net.now segment }
     ensures end { result.0 ≡ goes_to net.now segment }
     ensures within { result.0 < node_count net.now.graph }
@@ -58,7 +58,7 @@ fn segment_end(net: &Net, segment: Segment) -> NodeNo
 
 /// The label that is left when a link into node `at` is crossed under d's node segment, if one is (RFC 8660, 2.10;
 /// RFC 8667, 2.1.1).
-fn label_left(net: &Net, at: NodeNo, d: NodeNo) -> Option<u32>
+pub fn label_left(net: &Net, at: NodeNo, d: NodeNo) -> Option<u32>
     requires at { at.0 < node_count net.now.graph }
     requires d { d.0 < node_count net.now.graph }
     requires index { is_some (labels_at net.now d.0).index ≡ true }

@@ -10,7 +10,8 @@ ghost use Rattle.sr_encode.specs.Answered.{AreAnswers};
 ghost use Rattle.sr_repair.specs.Version.{version_of};
 ghost use Rattle.sr_repair.specs.Stack.{HasNoList, IsStackOf};
 
-use crate::answers::{all_answers, place_of};
+use crate::answers::{Found, answers_of};
+use crate::made::{Made, made_of};
 use crate::stack::list_labels;
 use sr_encode::CaseAnswers;
 use sr_fib::Fib;
@@ -30,13 +31,13 @@ pub struct Version {
     net: Net,
     trees: Trees,
     fib: Fib,
-    answers: Vec<CaseAnswers>,
+    found: Vec<Found>,
 }
 
 impl Model for Version {
     ghost use Rattle.sr_spf.specs.Trees.{AreTrees};
     ghost use Rattle.sr_fib.specs.Tables.{IsFib};
-    ghost use Rattle.sr_repair.specs.Answers.{AreAllAnswers, case_count};
+    ghost use Rattle.sr_repair.specs.Answers.{AreAllFound, case_count};
     ghost use Rattle.sr_repair.specs.Version.{Numbered, version_of};
 
     ghost Value = { Numbered };
@@ -45,7 +46,7 @@ impl Model for Version {
 
     ghost invariant = { λ v. AreTrees v.net.graph v.trees
         × IsFib v.net v.fib
-        × AreAllAnswers v.net (case_count v.net.graph) v.answers.items };
+        × AreAllFound v.net (case_count v.net.graph) v.found.items };
 }
 
 impl Version {
@@ -89,7 +90,7 @@ impl Version {
             net: self.net,
             trees: self.trees,
             fib: self.fib,
-            answers: self.answers,
+            found: self.found,
         }
     }
 
@@ -105,14 +106,13 @@ impl Version {
         ensures most { steps.new ≤ steps.old + node_count net.graph + 3 * link_count net.graph }
     {
         let trees = Trees::build(alloc, net.graph(), steps)?;
-        let fib = Fib::build(alloc, &net, &trees)?;
-        let answers = all_answers(rt, alloc, &net, &trees, steps)?;
+        let Made { fib, found } = made_of(rt, alloc, &net, &trees, steps)?;
         Ok(Version {
             number,
             net,
             trees,
             fib,
-            answers,
+            found,
         })
     }
 
@@ -151,8 +151,7 @@ impl Version {
         requires case { IsCase self.now.net.graph case }
         ensures { AreAnswers self.now.net case result.now }
     {
-        let place = place_of(self.net.graph(), case);
-        &self.answers[place as usize]
+        answers_of(&self.net, &self.found, case)
     }
 
     /// The answer of the case for the destination (this project's rule). None exactly where the destination isn't

@@ -1,33 +1,31 @@
--- What the answers on audits owe.
-use Rattle.std.proofs.Common.{◌≡◌, ℕ, false, List, ◌++◌, get_or, Option, Some, refl, sym, subst, ◌∙◌, ap, append_assoc}
-use Rattle.std.proofs.lemmas.Option.{slice_get-get_or}
-use Rattle.sr_model.specs.declared.audit.Item.{Item}
-use Rattle.sr_model.specs.Audit.{IsItem, IsAudit, counts_of}
-use Rattle.sr_model.specs.Label.{Net}
-use Rattle.sr_model.specs.Rule.{IsNet}
-use Rattle.sr_encode.proofs.AnswerLemmas.{affected-within}
-use Rattle.sr_print.specs.Repairs.{AreItemsWithin, item_lines, summary_line}
-use Rattle.sr_print.proofs.Within.{answer-within}
+-- What the answer on a whole audit owes.
+use Rattle.std.proofs.Common.{◌≡◌, ℕ, false, List, ◌++◌, Option, Some, refl, sym, subst, ◌∙◌, ap, append_assoc}
+use Rattle.sr_model.specs.declared.audit.Counts.{Counts}
+use Rattle.sr_model.specs.Audit.{counts_of}
+use Rattle.sr_laws.proofs.Audits.{audit-one}
 use Rattle.sr_repair.specs.Version.{Numbered}
+use Rattle.sr_audit.specs.Counted.{AreAuditCounts}
+use Rattle.sr_print.specs.Repairs.{item_lines, summary_line}
+use Rattle.sr_listing.specs.Listed.{PutsAudit}
 use Rattle.sr_script.specs.declared.command.Command.TheVariants.{AuditFull}
 use Rattle.sr_run.specs.State.{State}
 use Rattle.sr_run.specs.Session.{AuditsWhole, IsCarriedOut}
 
--- the items of an audit are items of the net
-pub audit_within : (n : Net) (items : List Item) → IsNet n → IsAudit n items → AreItemsWithin n items
-audit_within n items net audit = λ k d lt.
-    let is : IsItem n (get_or items k d) = audit.each k (get_or items k d) (slice_get-get_or items k d lt) in record {
-      case = is.within;
-      dest = affected-within n (get_or items k d).case (get_or items k d).dest.0 net.nodes is.affected;
-      answer = answer-within n (get_or items k d).case (get_or items k d).dest.0 (get_or items k d).answer is.answer;
-    }
-
--- the items of the audit of the last version, and then their counts, were told
-pub audit_told : (version : Numbered) (number : ℕ) (old : State) (items : List Item) (before between after : List ℕ)
-    → old.current ≡ Some version → IsAudit version.net items → between ≡ before ++ item_lines version.net items → after ≡ between ++ summary_line version.number (counts_of items)
+-- the lines of the audit of the last version, and then its counts, were told: a net has one audit, so the counts are those of the lines
+pub audit_told : (version : Numbered) (number : ℕ) (old : State) (counts : Counts) (before between after : List ℕ)
+    → old.current ≡ Some version → PutsAudit version.net before between → AreAuditCounts version.net counts → after ≡ between ++ summary_line version.number counts
     → IsCarriedOut AuditFull number old before after false old
-audit_told version number old items before between after is audit listed summed = record {
-  said = item_lines version.net items ++ summary_line version.number (counts_of items);
-  appended = summed ∙ ap (λ (l : List ℕ). l ++ summary_line version.number (counts_of items)) listed ∙ append_assoc before (item_lines version.net items) (summary_line version.number (counts_of items));
-  carries = subst (λ (o : Option Numbered). AuditsWhole o number old (item_lines version.net items ++ summary_line version.number (counts_of items)) false old) (sym is) (items, audit, (refl, refl, refl));
-}
+audit_told version number old counts before between after is listed counted summed =
+    let items = listed.items in
+    let lines = item_lines version.net items in
+    let same : counts ≡ counts_of items = counted.counted ∙ ap counts_of (audit-one version.net counted.items items counted.audit listed.audit) in
+    let summary = summary_line version.number (counts_of items) in
+    record {
+      said = lines ++ summary;
+      appended =
+          summed
+          ∙ ap (λ (c : Counts). between ++ summary_line version.number c) same
+          ∙ ap (λ (l : List ℕ). l ++ summary) listed.lines
+          ∙ append_assoc before lines summary;
+      carries = subst (λ (o : Option Numbered). AuditsWhole o number old (lines ++ summary) false old) (sym is) (items, listed.audit, (refl, refl, refl));
+    }

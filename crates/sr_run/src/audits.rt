@@ -4,19 +4,15 @@ ghost use Rattle.sr_script.specs.declared.command.Command.TheVariants.{Audit, Au
 ghost use Rattle.sr_run.specs.Session.{IsCarriedOut};
 
 use crate::session::DomainSession;
-use sr_audit::audit;
-use sr_print::{Refusal, put_items, put_summary};
+use sr_audit::counts;
+use sr_listing::put_audit;
+use sr_print::{Refusal, put_summary};
 use std::alloc::AllocError;
 use std::thread::Threads;
 
 impl DomainSession {
     /// Carries out `audit`.
-    pub(crate) fn sum_up(
-        &self,
-        rt: &(impl Threads + Sync),
-        number: u32,
-        out: &mut Vec<u8>,
-    ) -> Result<bool, AllocError>
+    pub(crate) fn sum_up(&self, number: u32, out: &mut Vec<u8>) -> Result<bool, AllocError>
         ensures { IfOk result (λ refused.
             IsCarriedOut Audit number self.now out.old.items out.new.items refused self.now) }
     {
@@ -24,8 +20,7 @@ impl DomainSession {
             Some(version) => version,
             None => return DomainSession::refuse(number, &Refusal::NoVersion, out),
         };
-        let report = audit(rt, self.alloc, version)?;
-        put_summary(report.version(), report.counts(), out)?;
+        put_summary(version.number(), counts(version), out)?;
         Ok(false)
     }
 
@@ -43,9 +38,8 @@ impl DomainSession {
             Some(version) => version,
             None => return DomainSession::refuse(number, &Refusal::NoVersion, out),
         };
-        let report = audit(rt, self.alloc, version)?;
-        put_items(version.net(), report.items(), out)?;
-        put_summary(report.version(), report.counts(), out)?;
+        put_audit(rt, self.alloc, version, out)?;
+        put_summary(version.number(), counts(version), out)?;
         Ok(false)
     }
 }

@@ -1,1 +1,2 @@
 pub mod SpaceLemmas
+pub mod AroundLemmas

@@ -3,41 +3,41 @@ use Rattle.std.proofs.Common.{◌≡◌, ◌≢◌, ℕ, ◌+◌, ◌<◌, ⊎_e
 use Rattle.std.specs.Prelude.{IsTrue, ◌↔◌, slice_index}
 use Rattle.std.proofs.lemmas.List.{length-append, get_or_push, get_or_append_left}
 use Rattle.std.proofs.lemmas.Bool.{cases_eq}
-use Rattle.sr_model.specs.Graph.{Graph, node_count, link_count, tail, head, has, carries, link_at, IsLink}
+use Rattle.sr_model.specs.Graph.{Graph, node_count, link_count, tail, head, metric, has, carries, link_at, IsLink}
 use Rattle.sr_model.specs.Walk.{OnShortest, IsCell}
 use Rattle.sr_model.specs.Space.{InP}
-use Rattle.sr_model.specs.declared.link.Link.{Link}
 use Rattle.sr_model.specs.declared.link.LinkNo.{LinkNo}
 use Rattle.sr_model.specs.declared.link.TheConstants.{FAR}
 use Rattle.sr_walks.proofs.Walks.{IsWalk-cut}
 use Rattle.sr_walks.proofs.Distances.{tight-OnShortest, OnShortest-tight, OnShortest-carries, InP-from_none, none-from_InP}
+use Rattle.sr_graph.specs.declared.edges.Edge.{Edge}
 use Rattle.sr_graph.specs.Members.{number_at, AreMembers}
 use Rattle.sr_spf.specs.Trees.{Forest, AreTrees, cell_at, row_at}
 
-tree_cell : (g : Graph) (t : Forest) (u v : ℕ) → AreTrees g t → u < node_count g → v < node_count g → IsCell g [] u v (cell_at t u v)
+pub tree_cell : (g : Graph) (t : Forest) (u v : ℕ) → AreTrees g t → u < node_count g → v < node_count g → IsCell g [] u v (cell_at t u v)
 tree_cell g t u v a b c = (a.rows u b).each v c
 
 -- the links of walks are the graph's
 pub OnShortest-within : (g : Graph) (x : List Bool) (u v l : ℕ) → OnShortest g x u v l → l < link_count g
 OnShortest-within g x u v l on = (IsWalk-cut g x u on.before (l ∷ on.after) v on.shortest.0).2.0
 
--- a link k, the row of node u, and that of the node at which the link ends
-module _ (g : Graph) (t : Forest) (u v l : ℕ) (k : Link) (row beyond : List ℕ) (a : AreTrees g t) (b : u < node_count g) (c : v < node_count g) (near : cell_at t u v < FAR) (link : k ≡ link_at g l) (first : row ≡ row_at t.rows u) (second : beyond ≡ row_at t.rows k.to.0) where
+-- the edge of link l, the row of node u, and that of the node at which the link ends
+module _ (g : Graph) (t : Forest) (u v l : ℕ) (e : Edge) (row beyond : List ℕ) (a : AreTrees g t) (b : u < node_count g) (c : v < node_count g) (near : cell_at t u v < FAR) (from : e.from.0 ≡ tail g l) (to : e.to.0 ≡ head g l) (long : e.metric ≡ metric g l) (first : row ≡ row_at t.rows u) (second : beyond ≡ row_at t.rows e.to.0) where
   -- round a link on a shortest walk the cells add up to the whole
-  pub OnShortest-sum : OnShortest g [] u v l → slice_index row k.from.0 + k.metric + slice_index beyond v ≡ slice_index row v
+  pub OnShortest-sum : OnShortest g [] u v l → slice_index row e.from.0 + e.metric + slice_index beyond v ≡ slice_index row v
   OnShortest-sum on =
       let ends : IsLink g (link_at g l) = a.graph.each l (OnShortest-within g [] u v l on) in
-      rw (second, link, first) (OnShortest-tight g [] u v l _ _ _ (tree_cell g t u (tail g l) a b ends.0) (tree_cell g t (head g l) v a ends.1 c) (tree_cell g t u v a b c) near on)
+      rw (second, from, to, long, first) (OnShortest-tight g [] u v l _ _ _ (tree_cell g t u (tail g l) a b ends.0) (tree_cell g t (head g l) v a ends.1 c) (tree_cell g t u v a b c) near on)
 
   -- and where they do, and the nodes beside its ends carry, the link stands on one
-  pub sum-OnShortest : l < link_count g → carries g u k.from.0 ≡ true → carries g v k.to.0 ≡ true → slice_index row k.from.0 + k.metric + slice_index beyond v ≡ slice_index row v → OnShortest g [] u v l
-  sum-OnShortest within from to sum =
+  pub sum-OnShortest : l < link_count g → carries g u e.from.0 ≡ true → carries g v e.to.0 ≡ true → slice_index row e.from.0 + e.metric + slice_index beyond v ≡ slice_index row v → OnShortest g [] u v l
+  sum-OnShortest within begins arrives sum =
       let ends : IsLink g (link_at g l) = a.graph.each l within in
-      tight-OnShortest g [] u v l _ _ _ within refl (rw link at from) (rw link at to) (tree_cell g t u (tail g l) a b ends.0) (tree_cell g t (head g l) v a ends.1 c) (tree_cell g t u v a b c) near (rw (second, link, first) at sum)
+      tight-OnShortest g [] u v l _ _ _ within refl (rw from at begins) (rw to at arrives) (tree_cell g t u (tail g l) a b ends.0) (tree_cell g t (head g l) v a ends.1 c) (tree_cell g t u v a b c) near (rw (second, from, to, long, first) at sum)
 
   -- they do beside each link on one
-  pub OnShortest-ends : OnShortest g [] u v l → (carries g u k.from.0 ≡ true) × (carries g v k.to.0 ≡ true)
-  OnShortest-ends on = rw link (OnShortest-carries g [] u v l on)
+  pub OnShortest-ends : OnShortest g [] u v l → (carries g u e.from.0 ≡ true) × (carries g v e.to.0 ≡ true)
+  OnShortest-ends on = rw (from, to) (OnShortest-carries g [] u v l on)
 
 -- a member on a shortest walk keeps the node out
 pub member-InP : (g : Graph) (x : List Bool) (links : List LinkNo) (u v i : ℕ) → AreMembers x links → i < length links → OnShortest g [] u v (number_at links i) → InP g x u v → ⊥

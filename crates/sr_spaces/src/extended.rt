@@ -6,7 +6,7 @@ ghost use Rattle.sr_spf.specs.Trees.{AreTrees};
 ghost use Rattle.sr_spaces.specs.Sets.{IsExtendedP};
 
 use crate::node_set::NodeSet;
-use crate::space::in_p;
+use crate::spaces::Spaces;
 use sr_graph::{Graph, LinkRange, LinkSet};
 use sr_model::{LinkNo, NodeNo};
 use sr_spf::Trees;
@@ -14,33 +14,33 @@ use std::alloc::{AllocError, Global};
 
 /// Whether a link outside the failed ones adds v to the extended P of its beginning: v is in P of its end, or is that
 /// end where it is overloaded.
-fn adds(graph: &Graph, trees: &Trees, x: &LinkSet, link: LinkNo, v: NodeNo) -> bool
-    requires trees { AreTrees graph.now trees.now }
-    requires link { link.0 < link_count graph.now }
-    requires v { v.0 < node_count graph.now }
-    ensures { IsTrue result ↔ Adds graph.now x.now link.0 v.0 }
+fn adds(spaces: &Spaces, link: LinkNo, v: NodeNo) -> bool
+    requires link { link.0 < link_count spaces.now.graph }
+    requires v { v.0 < node_count spaces.now.graph }
+    ensures { IsTrue result ↔ Adds spaces.now.graph spaces.now.failed link.0 v.0 }
 {
+    let graph = spaces.graph();
     let to = graph.edge(link).to;
     if graph.is_overloaded(to) {
         v.0 == to.0
     } else {
-        in_p(graph, trees, to, x, v)
+        spaces.in_p(to, v)
     }
 }
 
 /// Whether v is in extended P of s.
-fn in_extended_p(graph: &Graph, trees: &Trees, s: NodeNo, x: &LinkSet, v: NodeNo) -> bool
-    requires trees { AreTrees graph.now trees.now }
-    requires s { s.0 < node_count graph.now }
-    requires v { v.0 < node_count graph.now }
-    ensures { IsTrue result ↔ InExtendedP graph.now x.now s.0 v.0 }
+fn in_extended_p(spaces: &Spaces, s: NodeNo, v: NodeNo) -> bool
+    requires s { s.0 < node_count spaces.now.graph }
+    requires v { v.0 < node_count spaces.now.graph }
+    ensures { IsTrue result ↔ InExtendedP spaces.now.graph spaces.now.failed s.0 v.0 }
 {
-    if in_p(graph, trees, s, x, v) {
+    if spaces.in_p(s, v) {
         return true;
     }
-    let LinkRange { first, end } = graph.links_from(s);
+    let failed = spaces.failed();
+    let LinkRange { first, end } = spaces.graph().links_from(s);
     for link in first..end {
-        if !x.has(LinkNo(link)) && adds(graph, trees, x, LinkNo(link), v) {
+        if !failed.has(LinkNo(link)) && adds(spaces, LinkNo(link), v) {
             return true;
         }
     }
@@ -61,10 +61,11 @@ pub fn extended_p(
     ensures long { IfOk result (λ t. length t ≡ node_count graph.now) }
     ensures space { IfOk result (IsExtendedP graph.now x.now s.0) }
 {
+    let spaces = Spaces::over(graph, trees, x);
     let count = graph.node_count();
     let mut tests = Vec::with_capacity(alloc, count as usize)?;
     for v in 0..count {
-        tests.push(in_extended_p(graph, trees, s, x, NodeNo(v as u16)))?;
+        tests.push(in_extended_p(&spaces, s, NodeNo(v as u16)))?;
     }
     Ok(NodeSet::of(tests))
 }

@@ -7,12 +7,13 @@ mod node_set;
 mod p_space;
 mod q_space;
 mod space;
+mod spaces;
 
 pub use extended::extended_p;
 pub use node_set::NodeSet;
 pub use p_space::p_row;
 pub use q_space::q_set;
-pub use space::in_p;
+pub use spaces::Spaces;
 
 #[cfg(test)]
 mod tests;

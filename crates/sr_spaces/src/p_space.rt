@@ -5,7 +5,7 @@ ghost use Rattle.sr_spf.specs.Trees.{AreTrees};
 ghost use Rattle.sr_spaces.specs.Sets.{IsP};
 
 use crate::node_set::NodeSet;
-use crate::space::in_p;
+use crate::spaces::Spaces;
 use sr_graph::{Graph, LinkSet};
 use sr_model::NodeNo;
 use sr_spf::Trees;
@@ -25,10 +25,11 @@ pub fn p_row(
     ensures long { IfOk result (λ s. length s ≡ node_count graph.now) }
     ensures space { IfOk result (IsP graph.now x.now u.0) }
 {
+    let spaces = Spaces::over(graph, trees, x);
     let count = graph.node_count();
     let mut tests = Vec::with_capacity(alloc, count as usize)?;
     for v in 0..count {
-        tests.push(in_p(graph, trees, u, x, NodeNo(v as u16)))?;
+        tests.push(spaces.in_p(u, NodeNo(v as u16)))?;
     }
     Ok(NodeSet::of(tests))
 }

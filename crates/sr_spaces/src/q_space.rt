@@ -5,7 +5,7 @@ ghost use Rattle.sr_spf.specs.Trees.{AreTrees};
 ghost use Rattle.sr_spaces.specs.Sets.{IsQ};
 
 use crate::node_set::NodeSet;
-use crate::space::in_p;
+use crate::spaces::Spaces;
 use sr_graph::{Graph, LinkSet};
 use sr_model::NodeNo;
 use sr_spf::Trees;
@@ -24,10 +24,11 @@ pub fn q_set(
     ensures long { IfOk result (λ s. length s ≡ node_count graph.now) }
     ensures space { IfOk result (IsQ graph.now x.now d.0) }
 {
+    let spaces = Spaces::over(graph, trees, x);
     let count = graph.node_count();
     let mut tests = Vec::with_capacity(alloc, count as usize)?;
     for u in 0..count {
-        tests.push(in_p(graph, trees, NodeNo(u as u16), x, d))?;
+        tests.push(spaces.in_p(NodeNo(u as u16), d))?;
     }
     Ok(NodeSet::of(tests))
 }

@@ -1,18 +1,19 @@
-//! Whether a node is in P of another.
-ghost use Rattle.std.specs.Prelude.{◌<◌, ◌↔◌, [], IsTrue};
+//! Whether a node is in P of another: by the failed links one by one, or by the one node at which they lie.
+ghost use Rattle.std.specs.Prelude.{◌≡◌, ◌<◌, ◌↔◌, [], IsTrue};
 ghost use Rattle.sr_model.specs.declared.link.TheConstants.{FAR as Far};
 ghost use Rattle.sr_model.specs.Graph.{node_count};
-ghost use Rattle.sr_model.specs.Walk.{OnShortest};
+ghost use Rattle.sr_model.specs.Walk.{OnShortest, IsOnWay};
 ghost use Rattle.sr_model.specs.Space.{InP};
-ghost use Rattle.sr_spf.specs.Trees.{AreTrees, cell_at};
+ghost use Rattle.sr_spf.specs.Trees.{AreTrees, cell_at, row_at};
 
 use sr_graph::{Graph, LinkSet};
-use sr_model::{FAR, LinkNo, NodeNo};
+use sr_model::{LinkNo, NodeNo};
 use sr_spf::Trees;
 
-/// Whether the link stands on a shortest walk from u to v, where u reaches v.
-fn holds(graph: &Graph, trees: &Trees, u: NodeNo, v: NodeNo, link: LinkNo) -> bool
+/// Whether the link stands on a shortest walk from u to v, where u reaches v. `row` has the distances from u.
+fn holds(graph: &Graph, trees: &Trees, row: &[u64], u: NodeNo, v: NodeNo, link: LinkNo) -> bool
     requires trees { AreTrees graph.now trees.now }
+    requires row { row.now ≡ row_at trees.now.rows u.0 }
     requires u { u.0 < node_count graph.now }
     requires v { v.0 < node_count graph.now }
     requires near { cell_at trees.now u.0 v.0 < Far }
@@ -21,35 +22,72 @@ fn holds(graph: &Graph, trees: &Trees, u: NodeNo, v: NodeNo, link: LinkNo) -> bo
     if link.0 as u32 >= graph.link_count() {
         return false;
     }
-    let ends = graph.link(link);
-    let row = trees.cells(u);
+    let edge = graph.edge(link);
     let whole = row[v.0 as usize];
-    let over = row[ends.from.0 as usize] + ends.metric as u64;
+    let over = row[edge.from.0 as usize] + edge.metric as u64;
     // Most links lead away, and the row of their end needn't be read.
     if over > whole {
         return false;
     }
-    if over + trees.cells(ends.to)[v.0 as usize] != whole {
+    if over + trees.cells(edge.to)[v.0 as usize] != whole {
         return false;
     }
-    graph.carries(u, ends.from) && graph.carries(v, ends.to)
+    graph.carries(u, edge.from) && graph.carries(v, edge.to)
 }
 
-/// Whether v is in P of u: u reaches v, and no shortest walk from u to v holds a failed link, where every equal-cost
-/// shortest walk counts (this project's rule). `x` has the failed links.
-pub fn in_p(graph: &Graph, trees: &Trees, u: NodeNo, x: &LinkSet, v: NodeNo) -> bool
+/// Whether v is in P of u, where u reaches v: each failed link is tested. `row` has the distances from u, and `x` the
+/// failed links.
+pub(crate) fn avoids_links(
+    graph: &Graph,
+    trees: &Trees,
+    row: &[u64],
+    u: NodeNo,
+    v: NodeNo,
+    x: &LinkSet,
+) -> bool
     requires trees { AreTrees graph.now trees.now }
+    requires row { row.now ≡ row_at trees.now.rows u.0 }
     requires u { u.0 < node_count graph.now }
     requires v { v.0 < node_count graph.now }
+    requires near { cell_at trees.now u.0 v.0 < Far }
     ensures { IsTrue result ↔ InP graph.now x.now u.0 v.0 }
 {
-    if trees.cells(u)[v.0 as usize] >= FAR {
-        return false;
-    }
     for link in x.links() {
-        if holds(graph, trees, u, v, *link) {
+        if holds(graph, trees, row, u, v, *link) {
             return false;
         }
     }
     true
+}
+
+/// Whether a shortest walk from u to v comes to the node, where u reaches v. `row` has the distances from u.
+pub(crate) fn comes_to(
+    graph: &Graph,
+    trees: &Trees,
+    row: &[u64],
+    u: NodeNo,
+    v: NodeNo,
+    node: NodeNo,
+) -> bool
+    requires trees { AreTrees graph.now trees.now }
+    requires row { row.now ≡ row_at trees.now.rows u.0 }
+    requires u { u.0 < node_count graph.now }
+    requires v { v.0 < node_count graph.now }
+    requires node { node.0 < node_count graph.now }
+    requires near { cell_at trees.now u.0 v.0 < Far }
+    ensures { IsTrue result ↔ IsOnWay graph.now [] u.0 v.0 node.0 }
+{
+    if node.0 == v.0 {
+        return true;
+    }
+    let whole = row[v.0 as usize];
+    let first = row[node.0 as usize];
+    // Most nodes lie farther away, and their row needn't be read.
+    if first > whole {
+        return false;
+    }
+    if first + trees.cells(node)[v.0 as usize] != whole {
+        return false;
+    }
+    graph.carries(u, node)
 }

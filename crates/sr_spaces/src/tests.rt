@@ -1,10 +1,11 @@
 //! The spaces of small rings.
 ghost use Rattle.std.specs.Prelude.{◌≡◌, ◌<◌, ◌≤◌, [], length, IfOk};
 ghost use Rattle.sr_model.specs.declared.name.Ident.TheVariants.{None as NoIdent};
+ghost use Rattle.sr_model.specs.Graph.{node_count};
 ghost use Rattle.sr_graph.specs.Draft.{IsDraft};
 ghost use Rattle.sr_spf.specs.Trees.{AreTrees};
 
-use crate::{NodeSet, extended_p, p_row, q_set};
+use crate::{NodeSet, Spaces, extended_p, p_row, q_set};
 use sr_graph::{Draft, DraftLink, DraftLinks, Graph, Groups, SystemIds};
 use sr_model::{Case, Ident, Kind, LinkKey, LinkNo, NodeNo, SystemId};
 use sr_spf::{Steps, Trees};
@@ -101,14 +102,14 @@ fn trees_of(alloc: Global, graph: &Graph) -> Result<Trees, AllocError>
 
 /// The spaces where the pair of nodes 1 and 2 fails: P and extended P of node 1, and Q of node 2.
 #[derive(Drop)]
-struct Spaces {
+struct PairSpaces {
     p: NodeSet,
     extended: NodeSet,
     q: NodeSet,
 }
 
 /// The spaces of the ring that is drafted. In order of key the link from node 1 to node 2 is the first.
-fn found_in(alloc: Global, draft: Draft) -> Result<Spaces, Fail>
+fn found_in(alloc: Global, draft: Draft) -> Result<PairSpaces, Fail>
     requires { IsDraft draft }
 {
     let graph = Graph::build(alloc, draft)?;
@@ -121,7 +122,7 @@ fn found_in(alloc: Global, draft: Draft) -> Result<Spaces, Fail>
     };
     let failed = graph.failed(alloc, case)?;
     let trees = trees_of(alloc, &graph)?;
-    Ok(Spaces {
+    Ok(PairSpaces {
         p: p_row(alloc, &graph, &trees, NodeNo(0), &failed)?,
         extended: extended_p(alloc, &graph, &trees, NodeNo(0), &failed)?,
         q: q_set(alloc, &graph, &trees, NodeNo(1), &failed)?,
@@ -158,5 +159,39 @@ fn in_a_ring_of_five(rt: HostRuntime) -> Result<(), Fail> {
     assert!(rt; tells(&spaces.p, [true, false, false, true, true].as_slice()));
     assert!(rt; tells(&spaces.extended, [true, false, true, true, true].as_slice()));
     assert!(rt; tells(&spaces.q, [false, true, true, true, false].as_slice()));
+    Ok(())
+}
+
+/// Whether just the nodes whose test is true are in P of u.
+fn are_in_p(spaces: &Spaces, u: NodeNo, tests: &[bool]) -> bool
+    requires u { u.0 < node_count spaces.now.graph }
+    requires tests { length tests.now ≤ node_count spaces.now.graph }
+    requires few { length tests.now ≤ 256 }
+{
+    for node in 0..tests.len() {
+        if spaces.in_p(u, NodeNo(node as u16)) != tests[node] {
+            return false;
+        }
+    }
+    true
+}
+
+#[test]
+fn where_a_node_of_four_fails(rt: HostRuntime) -> Result<(), Fail> {
+    let alloc = rt.alloc();
+    let graph = Graph::build(alloc, ring_of_four(alloc)?)?;
+    if graph.node_count() < 4 || graph.link_count() < 1 {
+        return Err(Fail::new("no ring"));
+    }
+    let case = Case {
+        kind: Kind::Node,
+        link: LinkNo(0),
+    };
+    let failed = graph.failed(alloc, case)?;
+    let trees = trees_of(alloc, &graph)?;
+    let spaces = Spaces::around(&graph, &trees, &failed, graph.edge(case.link).to);
+    // Of two equal ways from 1 to 3 one comes to node 2.
+    assert!(rt; are_in_p(&spaces, NodeNo(0), [true, false, false, true].as_slice()));
+    assert!(rt; are_in_p(&spaces, NodeNo(1), [false, true, false, false].as_slice()));
     Ok(())
 }

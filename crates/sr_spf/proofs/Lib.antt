@@ -1,5 +1,7 @@
 pub mod RelaxLemmas
 pub mod QueueLemmas
+pub mod BegunLemmas
 pub mod TreesLemmas
 pub mod HopsLemmas
 pub mod FixtureLemmas
+pub mod DrawnLemmas

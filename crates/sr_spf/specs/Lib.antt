@@ -1,4 +1,6 @@
 pub mod Relax
 pub mod Queue
+pub mod Begun
 pub mod Hops
 pub mod Trees
+pub mod Drawn

@@ -68,7 +68,7 @@ fn visit(
 }
 
 /// Visits the queued nodes, and those that the visits queue.
-fn settle(
+pub(crate) fn settle(
     graph: &Graph,
     without: &LinkSet,
     source: NodeNo,

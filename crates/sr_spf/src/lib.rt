@@ -2,6 +2,7 @@
 //! hops.
 #![tactic(auto)]
 
+mod begun;
 mod cells;
 mod dijkstra;
 mod hops;
@@ -10,7 +11,8 @@ mod steps;
 mod tests;
 mod trees;
 
+pub use begun::row_after;
 pub use cells::Row;
 pub use dijkstra::row;
-pub use steps::Steps;
+pub use steps::{Searched, Steps};
 pub use trees::Trees;

@@ -4,6 +4,12 @@ ghost use Rattle.std.specs.Prelude.{◌≡◌, ◌+◌, ◌<◌};
 use std::marker::Model;
 use std::sync::ledger::{Blank, Book, Ledger, Share};
 
+/// That one search was counted by a counter of its own: it was given up for this. It takes no bytes, and isn't copied.
+#[derive(Drop)]
+pub struct Searched {
+    counted: (),
+}
+
 /// How many searches for distances were made. It takes no bytes, and only `row` counts. Contracts see it as the number.
 #[derive(Drop)]
 pub struct Steps<L: Ledger> {
@@ -37,5 +43,21 @@ impl<L: Ledger> Steps<L> {
         ensures { self.new ≡ self.old + 1 }
     {
         self.book.add(&mut self.share, 1);
+    }
+
+    /// Gives up a counter that has counted one search, so that another can take it in.
+    pub fn give_up(self) -> Searched
+        requires { self ≡ 1 }
+    {
+        let Steps { book: _, share: _ } = self;
+        Searched { counted: () }
+    }
+
+    /// Takes in a search that was counted by a counter of its own, as one made in another thread is.
+    pub fn take_in(&mut self, searched: Searched)
+        ensures { self.new ≡ self.old + 1 }
+    {
+        let Searched { counted: _ } = searched;
+        self.tick();
     }
 }

@@ -1,9 +1,11 @@
 //! Small graphs, built and measured.
-ghost use Rattle.std.specs.Prelude.{◌≡◌, ◌<◌, [], length, IfOk};
+ghost use Rattle.std.specs.Prelude.{◌≡◌, ◌<◌, [], length, replicate, slice_set, IfOk};
 ghost use Rattle.sr_model.specs.declared.name.Ident.TheVariants.{None as NoIdent};
 ghost use Rattle.sr_model.specs.Graph.{node_count};
 ghost use Rattle.sr_graph.specs.Draft.{IsDraft};
 ghost use Rattle.sr_spf.specs.Trees.{tree_count};
+
+mod drawn;
 
 use crate::{Row, Steps, Trees, row};
 use sr_graph::{Draft, DraftLink, DraftLinks, Graph, Groups, LinkSet, SystemIds};
@@ -137,6 +139,30 @@ fn lower_by_rounds(graph: &Graph, without: &LinkSet, source: NodeNo, cells: &mut
     }
 }
 
+/// Cells of `FAR`, but 0 at the source.
+fn beginning(alloc: Global, graph: &Graph, source: NodeNo) -> Result<Vec<u64>, AllocError>
+    requires { source.0 < node_count graph.now }
+    ensures { IfOk result (λ cells. cells.items ≡ slice_set (replicate (node_count graph.now) FAR) source.0 0) }
+{
+    let mut cells = vec![in alloc; FAR; graph.node_count() as usize]?;
+    cells[source.0 as usize] = 0;
+    Ok(cells)
+}
+
+/// The cells that rounds over all links give.
+fn lowest_by_rounds(
+    alloc: Global,
+    graph: &Graph,
+    without: &LinkSet,
+    source: NodeNo,
+) -> Result<Vec<u64>, AllocError>
+    requires { source.0 < node_count graph.now }
+{
+    let mut cells = beginning(alloc, graph, source)?;
+    lower_by_rounds(graph, without, source, &mut cells);
+    Ok(cells)
+}
+
 /// Whether the row of the source has the cells that rounds over all links give.
 fn is_as_by_rounds(
     alloc: Global,
@@ -146,11 +172,9 @@ fn is_as_by_rounds(
 ) -> Result<bool, AllocError>
     requires { source.0 < node_count graph.now }
 {
-    let mut cells = vec![in alloc; FAR; graph.node_count() as usize]?;
-    cells[source.0 as usize] = 0;
-    lower_by_rounds(graph, without, source, &mut cells);
+    let lowest = lowest_by_rounds(alloc, graph, without, source)?;
     let row = row_of(alloc, graph, without, source)?;
-    Ok(row.cells() == cells.as_slice())
+    Ok(row.cells() == lowest.as_slice())
 }
 
 /// In order of key the links are 1 to 2, 1 to 4, 2 to 1, 2 to 3, 3 to 2, 3 to 4, 4 to 1 and 4 to 3.

@@ -1,7 +1,8 @@
-use Rattle.std.proofs.Common.{◌≡◌, length}
-use Rattle.sr_audit.proofs.CaseLemmas.{AreItems}
+use Rattle.std.proofs.Common.{take}
+use Rattle.std.specs.List.{AllZip}
+use Rattle.sr_repair.specs.Items.{IsItemFor}
 use Rattle.sr_audit.proofs.audits.items_of.Given as goal
 
 -- the items of the answers so far
 abbrev pub invariant-loop-entry : goal.invariant-loop-entry
-invariant-loop-entry l = (length l.items.items ≡ l.entry-index) × AreItems l.fn.net l.fn.case l.fn.answers l.items.items
+invariant-loop-entry l = AllZip (IsItemFor l.fn.net l.fn.case) (take l.entry-index l.fn.answers) l.items.items

@@ -7,4 +7,4 @@ pub begin_all-requires-clause-start : goal.begin_all-requires-clause-start
 begin_all-requires-clause-start c =
     let nodes : c.node_count.result ≡ node_count c.args.net.now.graph = c.node_count.ensures.count ∙ ap (λ g. node_count g) c.graph.ensures.value in
     let made : c.in_ok-met.met.items ≡ replicate c.node_count.result false = search rules in
-    rw (c.new-queue.ensures.items, c.deref_mut.ensures.value, made, nodes) (starting-empty c.args.net.now c.args.failed.now c.args.source.0)
+    rw (c.new-queue.ensures.items, c.deref_mut.ensures.value, made, nodes) (starting-empty c.args.net.now c.args.spaces.now.failed c.args.source.0)

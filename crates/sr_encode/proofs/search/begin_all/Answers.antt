@@ -10,7 +10,7 @@ returns c =
     let end : c.links_from-first.result.end ≤ c.loop-link.link = omega (arith, c.loop-link-test.false) in
     let inside : c.loop-link.link ≤ link_count c.args.net.now.graph = omega (arith, holds.inside, c.loop-link.invariant.1) in
     record {
-      search = searching-from_start c.args.net.now c.args.failed.now c.args.source.0 c.args.cells.now c.loop-link.queue.items c.loop-link.met
-          (starting-jump c.args.net.now c.args.failed.now c.args.source.0 c.loop-link.queue.items c.loop-link.met c.loop-link.link (link_count c.args.net.now.graph) c.loop-link.invariant.0 inside
+      search = searching-from_start c.args.net.now c.args.spaces.now.failed c.args.source.0 c.args.cells.now c.loop-link.queue.items c.loop-link.met
+          (starting-jump c.args.net.now c.args.spaces.now.failed c.args.source.0 c.loop-link.queue.items c.loop-link.met c.loop-link.link (link_count c.args.net.now.graph) c.loop-link.invariant.0 inside
           (λ k at below within begins. let lt : k < c.links_from-first.result.end = (holds.to k within begins).1 in omega arith));
     }

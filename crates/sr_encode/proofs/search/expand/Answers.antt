@@ -8,7 +8,7 @@ use Rattle.sr_encode.proofs.search.expand.Goals as goal
 pub returns-then-is_overloaded-clause-search : goal.returns-then-is_overloaded-clause-search
 returns-then-is_overloaded-clause-search c =
     let over : is_overloaded c.args.net.now.graph c.args.w.0 ≡ true = ap (λ g. is_overloaded g c.args.w.0) (sym c.graph.ensures.value) ∙ sym c.is_overloaded.ensures ∙ c.if-is_overloaded.true in
-    searching-pass c.args.net.now c.args.failed.now c.args.source.0 c.args.cells.now c.args.queue.now.items c.args.met.now c.args.i c.args.w.0 c.requires.search c.requires.i c.requires.w over
+    searching-pass c.args.net.now c.args.spaces.now.failed c.args.source.0 c.args.cells.now c.args.queue.now.items c.args.met.now c.args.i c.args.w.0 c.requires.search c.requires.i c.requires.w over
 
 pub returns-then-len-count-clause-unmet : goal.returns-then-len-count-clause-unmet
 returns-then-len-count-clause-unmet c =

@@ -9,16 +9,16 @@ use Rattle.sr_encode.proofs.search.look_at_node.Goals as goal
 
 pub returns-then-met-v-clause-search : goal.returns-then-met-v-clause-search
 returns-then-met-v-clause-search c =
-    pass-met c.args.net.now c.args.failed.now c.args.source.0 c.args.cells.now c.args.queue.now.items c.args.met.now c.args.i c.args.v c.requires.search c.requires.i c.requires.v c.if-met-v.true
+    pass-met c.args.net.now c.args.spaces.now.failed c.args.source.0 c.args.cells.now c.args.queue.now.items c.args.met.now c.args.i c.args.v c.requires.search c.requires.i c.requires.v c.if-met-v.true
 
 pub returns-then-not-leads_to_node-clause-search : goal.returns-then-not-leads_to_node-clause-search
 returns-then-not-leads_to_node-clause-search c =
-    searching-skip c.args.net.now c.args.failed.now c.args.source.0 c.args.cells.now c.args.queue.now.items c.args.met.now c.args.i c.args.v.0 c.requires.search c.requires.i
+    searching-skip c.args.net.now c.args.spaces.now.failed c.args.source.0 c.args.cells.now c.args.queue.now.items c.args.met.now c.args.i c.args.v.0 c.requires.search c.requires.i
     (Node c.args.v) (segment-node c.args.net.now.graph c.args.v c.requires.v)
     (λ u step.
-    let there : u ≡ c.args.v.0 = step-node c.args.net.now c.args.failed.now c.args.cells.now (node_at c.args.queue.now.items c.args.i) c.args.v u step in
-    let from : StepsTo c.args.net.now c.args.failed.now c.args.cells.now c.args.w.0 (Node c.args.v) u = subst (λ k. StepsTo c.args.net.now c.args.failed.now c.args.cells.now k (Node c.args.v) u) c.requires.w step in
-    let leads : c.leads_to_node.result ≡ true = c.leads_to_node.ensures.1 (subst (λ k. StepsTo c.args.net.now c.args.failed.now c.args.cells.now c.args.w.0 (Node c.args.v) k) there from) in
+    let there : u ≡ c.args.v.0 = step-node c.args.net.now c.args.spaces.now.failed c.args.cells.now (node_at c.args.queue.now.items c.args.i) c.args.v u step in
+    let from : StepsTo c.args.net.now c.args.spaces.now.failed c.args.cells.now c.args.w.0 (Node c.args.v) u = subst (λ k. StepsTo c.args.net.now c.args.spaces.now.failed c.args.cells.now k (Node c.args.v) u) c.requires.w step in
+    let leads : c.leads_to_node.result ≡ true = c.leads_to_node.ensures.1 (subst (λ k. StepsTo c.args.net.now c.args.spaces.now.failed c.args.cells.now c.args.w.0 (Node c.args.v) k) there from) in
     let no_way : false ≡ true = sym c.if-not-leads_to_node.true ∙ leads in
     absurd (cc))
 
@@ -35,9 +35,9 @@ meet-requires-clause-depth c =
 
 pub returns-clause-search : goal.returns-clause-search
 returns-clause-search c =
-    let leads : StepsTo c.args.net.now c.args.failed.now c.args.cells.now c.args.w.0 (Node c.args.v) c.args.v.0 = c.leads_to_node.ensures.0 c.if-not-leads_to_node.false in
+    let leads : StepsTo c.args.net.now c.args.spaces.now.failed c.args.cells.now c.args.w.0 (Node c.args.v) c.args.v.0 = c.leads_to_node.ensures.0 c.if-not-leads_to_node.false in
     rw (c.in_ok-meet.ensures.queue, c.in_ok-meet.ensures.met)
-    (searching-push c.args.net.now c.args.failed.now c.args.source.0 c.args.cells.now c.args.queue.now.items c.args.met.now c.args.i c.args.v.0 c.requires.search c.requires.i
+    (searching-push c.args.net.now c.args.spaces.now.failed c.args.source.0 c.args.cells.now c.args.queue.now.items c.args.met.now c.args.i c.args.v.0 c.requires.search c.requires.i
     (Node c.args.v) c.args.v c.requires.cells (segment-node c.args.net.now.graph c.args.v c.requires.v) c.requires.v c.if-met-v.false
-    (subst (λ k. StepsTo c.args.net.now c.args.failed.now c.args.cells.now k (Node c.args.v) c.args.v.0) (sym c.requires.w) leads)
-    (λ u step. step-node c.args.net.now c.args.failed.now c.args.cells.now (node_at c.args.queue.now.items c.args.i) c.args.v u step))
+    (subst (λ k. StepsTo c.args.net.now c.args.spaces.now.failed c.args.cells.now k (Node c.args.v) c.args.v.0) (sym c.requires.w) leads)
+    (λ u step. step-node c.args.net.now c.args.spaces.now.failed c.args.cells.now (node_at c.args.queue.now.items c.args.i) c.args.v u step))

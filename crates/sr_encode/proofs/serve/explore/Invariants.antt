@@ -7,8 +7,8 @@ use Rattle.sr_encode.proofs.serve.explore.Given as goal
 
 abbrev pub invariant-queue : goal.invariant-queue
 invariant-queue l =
-    IsSearching l.net l.failed l.source.0 l.cells l.queue.items l.met l.i 0
-    × AreServed l.net l.failed l.source.0 l.cells l.queue.items l.i l.wanted l.places
+    IsSearching l.net l.spaces.failed l.source.0 l.cells l.queue.items l.met l.i 0
+    × AreServed l.net l.spaces.failed l.source.0 l.cells l.queue.items l.i l.wanted l.places
     × (l.i ≤ length l.queue.items)
     × AreUnmet l.met l.unmet.items
     × HasUnserved l.cells l.wanted l.places l.unserved.items

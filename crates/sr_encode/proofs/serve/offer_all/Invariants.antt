@@ -2,4 +2,4 @@ use Rattle.sr_encode.proofs.ServeLemmas.{AreOffered}
 use Rattle.sr_encode.proofs.serve.offer_all.Given as goal
 
 abbrev pub invariant-loop-m : goal.invariant-loop-m
-invariant-loop-m l = AreOffered l.net l.failed l.source.0 l.cells l.queue l.i l.wanted l.places l.unserved l.m
+invariant-loop-m l = AreOffered l.net l.spaces.failed l.source.0 l.cells l.queue l.i l.wanted l.places l.unserved l.m

@@ -4,7 +4,7 @@ use Rattle.sr_encode.proofs.NodeLemmas.{those-none, those-push}
 use Rattle.sr_encode.proofs.unmet.unmet_nodes.Goals as goal
 
 pub loop-v-init : goal.loop-v-init
-loop-v-init c = rw c.new-unmet.ensures.items (those-none (λ v. has c.args.met.now v ≡ false))
+loop-v-init c = rw c.in_ok-unmet.ensures.items (those-none (λ v. has c.args.met.now v ≡ false))
 
 pub loop-v-preserved : goal.loop-v-preserved
 loop-v-preserved c =

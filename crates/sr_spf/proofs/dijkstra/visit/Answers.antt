@@ -1,5 +1,5 @@
 use Rattle.std.proofs.Common.{◌≡◌, ◌<◌, ◌≤◌, arith, sym, ◌∙◌, false, true, sum}
-use Rattle.sr_model.specs.Graph.{link_at, link_count, tail, head, metric, carries}
+use Rattle.sr_model.specs.Graph.{link_count, tail, head, metric, carries}
 use Rattle.sr_spf.specs.Relax.{relaxed, falls}
 use Rattle.sr_spf.proofs.RelaxLemmas.{relaxed-falls, relaxed-stays}
 use Rattle.sr_spf.proofs.QueueLemmas.{queued-skip, queued-stays, queued-push}

@@ -14,7 +14,7 @@ key entry = entry.destination.0
 pub returns-in-Ok : goal.returns-in-Ok
 returns-in-Ok c =
     let view : c.deref.result.now ≡ c.args.self.now = c.deref.ensures.value ∙ c.self.view_is in
-    let up : AscendByNode c.args.self.now = subst (λ l. AscendByNode l) c.self.view_is c.self.invariant in
+    let up : AscendByNode c.args.self.now = subst (λ l. AscendByNode l) c.self.view_is c.self.invariant.0 in
     let at : IsBinarySearchResult (λ (y : NodeAnswer). nat_cmp (key y) c.args.destination.0) c.args.self.now (Ok c.in-Ok.place) =
     subst (λ l. IsBinarySearchResult (λ (y : NodeAnswer). nat_cmp (key y) c.args.destination.0) l (Ok c.in-Ok.place)) view (c.in-Ok.ensures.position key (answers_always _ _ _ (λ f a r f' k. search rules))) in
     let bound : c.in-Ok.place < length c.args.self.now = omega (arith, c.in-Ok.ensures.bound, ap length view) in
@@ -25,6 +25,6 @@ returns-in-Ok c =
 pub returns-in-Err : goal.returns-in-Err
 returns-in-Err c =
     let view : c.deref.result.now ≡ c.args.self.now = c.deref.ensures.value ∙ c.self.view_is in
-    let up : AscendByNode c.args.self.now = subst (λ l. AscendByNode l) c.self.view_is c.self.invariant in
+    let up : AscendByNode c.args.self.now = subst (λ l. AscendByNode l) c.self.view_is c.self.invariant.0 in
     missed-at c.args.self.now up c.args.destination.0 c.in-Err.field-0
     (subst (λ l. IsBinarySearchResult (λ (y : NodeAnswer). nat_cmp (key y) c.args.destination.0) l (Err c.in-Err.field-0)) view (c.in-Err.ensures.position key (answers_always _ _ _ (λ f a r f' k. search rules))))

@@ -1,0 +1,205 @@
+-- The nodes that keep their distance in a failure: a way leads to each along them.
+use Rattle.std.proofs.Common.{◌≡◌, ℕ, ◌+◌, ◌<◌, ◌≤◌, ◌⊎◌, ⊎_elim, inl, inr, Bool, true, false, List, [], ◌∷◌, ◌++◌, length, refl, arith, ap, sym, ◌∙◌, subst, append-nil, get_or}
+use Rattle.std.specs.Prelude.{All, Contains, slice_index}
+use Rattle.std.proofs.lemmas.Bool.{cases_lt}
+use Rattle.std.proofs.lemmas.List.Elements.{All-append, Contains-append_left, Contains-push}
+use Rattle.std.proofs.lemmas.List.{length-append, get_or_append_left, get_or_push, get_or_past}
+use Rattle.sr_model.specs.Graph.{Graph, IsGraph, IsLink, carries, has, head, is_overloaded, link_at, link_count, metric, node_count, tail}
+use Rattle.sr_model.specs.Walk.{IsDistance, IsRow, IsShortest, IsWalk, Passes, cost}
+use Rattle.sr_model.specs.Space.{InP, Avoids}
+use Rattle.sr_model.specs.declared.link.NodeNo.{NodeNo}
+use Rattle.sr_model.specs.declared.link.TheConstants.{FAR}
+use Rattle.sr_walks.proofs.Walks.{IsWalk-append, cost-append, carries-same, carries-clear}
+use Rattle.sr_walks.proofs.Distances.{cell-distance, distance-from_shortest, distance-self, distance-unique, shortest-cut}
+use Rattle.sr_walks.proofs.Rows.{row-stable}
+use Rattle.sr_spf.specs.Begun.{HasWay, IsBegun}
+use Rattle.sr_post.specs.Kept.{LeadsTo, IsKept, AreKeptBelow}
+
+-- a list is empty, or has a last element
+last-cut : (p : List ℕ) → (p ≡ []) ⊎ ((q : List ℕ) × (k : ℕ) × (p ≡ q ++ k ∷ []))
+last-cut [] = inl refl
+last-cut (l ∷ p) =
+    ⊎_elim
+    (λ (e : p ≡ []). inr ([], l, ap (λ r. l ∷ r) e))
+    (λ (c : (q : List ℕ) × (k : ℕ) × (p ≡ q ++ k ∷ [])). inr (l ∷ c.0, c.1, ap (λ r. l ∷ r) c.2))
+    (last-cut p)
+
+-- what avoids x in parts
+avoids-front : (x : List Bool) (p q : List ℕ) → Avoids x (p ++ q) → Avoids x p
+avoids-front x p q a = λ k d lt. subst (λ l. has x l ≡ false) (get_or_append_left p q d k lt) (a k d (omega (arith, length-append p q)))
+
+avoids-last : (x : List Bool) (p : List ℕ) (l : ℕ) → Avoids x (p ++ l ∷ []) → has x l ≡ false
+avoids-last x p l a = subst (λ k. has x k ≡ false) (get_or_push p l 0 (length p) refl) (a (length p) 0 (omega (arith, length-append p (l ∷ []))))
+
+-- before v on a way from s along nodes that are kept: link k outside x ends at v, and its beginning is kept
+pub record IsKeptBefore (g : Graph) (x : List Bool) (s v k : ℕ) : Type 0 where
+  pub within : k < link_count g
+  pub outside : has x k ≡ false
+  pub carry : carries g s (tail g k) ≡ true
+  pub ends : head g k ≡ v
+  pub from : IsKept g x s (tail g k)
+  pub cost : ℕ
+  pub to : IsDistance g [] s (tail g k) cost
+  pub whole : IsDistance g [] s v (cost + metric g k)
+
+module _ (g : Graph) (x : List Bool) (s : ℕ) where
+  -- the link leads to v itself
+  before_one : (l v : ℕ) → has x l ≡ false → IsShortest g [] s (l ∷ []) v → IsKeptBefore g x s v l
+  before_one l v outside short = record {
+    within = short.0.0;
+    outside = outside;
+    carry = carries-same g s (tail g l) short.0.2;
+    ends = short.0.3;
+    from = inl short.0.2;
+    cost = 0;
+    to = subst (λ u. IsDistance g [] s u 0) (sym short.0.2) (distance-self g [] s);
+    whole = subst (λ c. IsDistance g [] s v c) (omega arith) (distance-from_shortest g [] s v (l ∷ []) short);
+  }
+
+  -- P of a node holds the beginnings of the walks to its nodes
+  space_before : (u w : ℕ) (init : List ℕ) (k v : ℕ) → InP g x u v → IsShortest g [] u (init ++ k ∷ []) v → IsWalk g [] u init w → IsWalk g [] w (k ∷ []) v → is_overloaded g w ≡ false → InP g x u w
+  space_before u w init k v space short first last clear = record {
+    reached = (init, first);
+    avoids = λ p is.
+        let le : cost g p ≤ cost g init = is.1 init first in
+        let longer : IsWalk g [] u (p ++ k ∷ []) v = IsWalk-append g [] u p w (k ∷ []) v is.0 last clear in
+        avoids-front x p (k ∷ []) (space.avoids (p ++ k ∷ []) (longer, λ q b. let most : cost g (init ++ k ∷ []) ≤ cost g q = short.1 q b in omega (arith, cost-append g init (k ∷ []), cost-append g p (k ∷ []))));
+  }
+
+  -- the link leads on, and link k is the last
+  before_more : (l v : ℕ) (init : List ℕ) (k : ℕ) → has x l ≡ false → IsShortest g [] s (l ∷ (init ++ k ∷ [])) v → InP g x (head g l) v → IsKeptBefore g x s v k
+  before_more l v init k outside short space =
+      let end = shortest-cut g [] s (l ∷ init) (k ∷ []) v short in
+      let begin = shortest-cut g [] s (l ∷ []) (init ++ k ∷ []) v short in
+      let w : ℕ = end.0 in
+      let clear : is_overloaded g w ≡ false = ⊎_elim (λ (e : l ∷ init ≡ []). absurd (cc)) (λ (pass : Passes g w (k ∷ [])). pass) end.3 in
+      let at : tail g k ≡ w = end.2.0.2 in
+      let rest : IsShortest g [] (head g l) (init ++ k ∷ []) v = subst (λ u. IsShortest g [] u (init ++ k ∷ []) v) (sym begin.1.0.3) begin.2 in
+      let before : InP g x (head g l) w = space_before (head g l) w init k v space rest end.1.0.3 end.2.0 clear in
+      let leads : LeadsTo g x s w l = record { outside = outside; hop = record { more = init; shortest = end.1 }; space = before } in
+      let kept : IsKept g x s w = inr (l, leads) in
+      record {
+        within = end.2.0.0;
+        outside = avoids-last x init k (space.avoids (init ++ k ∷ []) rest);
+        carry = carries-clear g s (tail g k) (rw at clear);
+        ends = end.2.0.3;
+        from = subst (λ u. IsKept g x s u) (sym at) kept;
+        cost = cost g (l ∷ init);
+        to = subst (λ u. IsDistance g [] s u (cost g (l ∷ init))) (sym at) (distance-from_shortest g [] s w (l ∷ init) end.1);
+        whole = subst (λ c. IsDistance g [] s v c) (omega (arith, cost-append g init (k ∷ []))) (distance-from_shortest g [] s v (l ∷ (init ++ k ∷ [])) short);
+      }
+
+  -- a node that is kept is s, or a link from a node that is kept leads there
+  pub kept-before : (v : ℕ) → IsKept g x s v → (v ≡ s) ⊎ ((k : ℕ) × IsKeptBefore g x s v k)
+  kept-before v kept =
+      ⊎_elim
+      (λ (e : v ≡ s). inl e)
+      (λ (c : (l : ℕ) × LeadsTo g x s v l).
+      let l : ℕ = c.0 in
+      let leads : LeadsTo g x s v l = c.1 in
+      ⊎_elim
+      (λ (e : leads.hop.more ≡ []). inr (l, before_one l v leads.outside (subst (λ p. IsShortest g [] s (l ∷ p) v) e leads.hop.shortest)))
+      (λ (r : (q : List ℕ) × (k : ℕ) × (leads.hop.more ≡ q ++ k ∷ [])). inr (r.1, before_more l v r.0 r.1 leads.outside (subst (λ p. IsShortest g [] s (l ∷ p) v) r.2 leads.hop.shortest) leads.space))
+      (last-cut leads.hop.more))
+      kept
+
+-- s reaches a node that is kept
+kept_walk : (g : Graph) (x : List Bool) (s v : ℕ) → IsKept g x s v → (p : List ℕ) × IsWalk g [] s p v
+kept_walk g x s v kept =
+    ⊎_elim
+    (λ (e : v ≡ s). ([], sym e))
+    (λ (c : (l : ℕ) × LeadsTo g x s v l). let leads : LeadsTo g x s v c.0 = c.1 in (c.0 ∷ leads.hop.more, leads.hop.shortest.0))
+    kept
+
+module _ (g : Graph) (x : List Bool) (s : ℕ) (row : List ℕ) where
+  pub kept-none : AreKeptBelow g x s row [] [] 0
+  kept-none = record { long = refl; each = λ v lt. absurd (omega arith); nodes = λ k d lt. absurd (omega arith) }
+
+  -- what is told of node v, of its cell
+  Told : List NodeNo → ℕ → ℕ → Type 0
+  Told lost v c = (IsKept g x s v × (c ≡ slice_index row v)) ⊎ ((IsKept g x s v → ⊥) × (c ≡ FAR) × Contains lost (record { 0 = v }))
+
+  -- one cell more, and perhaps one lost node more
+  told-more : (cells : List ℕ) (lost more : List NodeNo) (n c : ℕ) → AreKeptBelow g x s row cells lost n → Told (lost ++ more) n c → All (λ (k : NodeNo). k.0 < n + 1) more → AreKeptBelow g x s row (cells ++ c ∷ []) (lost ++ more) (n + 1)
+  unfolding Told
+  told-more cells lost more n c h told nodes = record {
+    long = omega (arith, length-append cells (c ∷ []), h.long);
+    each = λ v lt. ⊎_elim
+        (λ (early : v < n).
+        subst (λ k. Told (lost ++ more) v k) (sym (get_or_append_left cells (c ∷ []) 0 v (omega (arith, h.long))))
+        (⊎_elim (λ a. inl a) (λ b. inr (b.0, b.1, Contains-append_left lost more (record { 0 = v }) b.2)) (h.each v early)))
+        (λ (late : n ≤ v).
+        let same : n ≡ v = omega arith in
+        subst (λ k. Told (lost ++ more) v k) (sym (get_or_push cells c 0 v (h.long ∙ same))) (subst (λ u. Told (lost ++ more) u c) same told))
+        (cases_lt v n);
+    nodes = All-append (λ (k : NodeNo). k.0 < n + 1) lost more (λ k d lt. let within : (get_or lost k d).0 < n = h.nodes k d lt in omega arith) nodes;
+  }
+
+  -- a node that is kept has its cell of the row
+  pub kept-more : (cells : List ℕ) (lost : List NodeNo) (n c : ℕ) → AreKeptBelow g x s row cells lost n → IsKept g x s n → c ≡ slice_index row n → AreKeptBelow g x s row (cells ++ c ∷ []) lost (n + 1)
+  unfolding Told
+  kept-more cells lost n c h kept is =
+      subst (λ list. AreKeptBelow g x s row (cells ++ c ∷ []) list (n + 1)) (append-nil lost)
+      (told-more cells lost [] n c h (inl (kept, is)) (λ k d lt. absurd (omega arith)))
+
+  -- another has FAR, and is listed
+  pub lost-more : (cells : List ℕ) (lost : List NodeNo) (n : ℕ) → AreKeptBelow g x s row cells lost n → (IsKept g x s n → ⊥) → AreKeptBelow g x s row (cells ++ FAR ∷ []) (lost ++ record { 0 = n } ∷ []) (n + 1)
+  unfolding Told
+  lost-more cells lost n h other =
+      let node : NodeNo = record { 0 = n } in
+      told-more cells lost (node ∷ []) n FAR h (inr (other, refl, Contains-push lost node)) (λ k d lt.
+      let first : k ≡ 0 = omega arith in
+      rw first (omega arith))
+
+module _ (g : Graph) (x : List Bool) (s : ℕ) (row cells : List ℕ) (lost : List NodeNo) (graph : IsGraph g) (within : s < node_count g) (is : IsRow g [] s row) (h : AreKeptBelow g x s row cells lost (node_count g)) where
+  -- where there is a cell it is that of the row
+  near_kept : (v : ℕ) → v < node_count g → slice_index cells v < FAR → IsKept g x s v × (slice_index cells v ≡ slice_index row v)
+  near_kept v v_in near = ⊎_elim (λ a. a) (λ b. absurd (omega (arith, b.1))) (h.each v v_in)
+
+  kept_cell : (v : ℕ) → v < node_count g → IsKept g x s v → slice_index cells v ≡ slice_index row v
+  kept_cell v v_in kept = ⊎_elim (λ a. a.1) (λ b. absurd (b.0 kept)) (h.each v v_in)
+
+  own : slice_index row s ≡ 0
+  own = cell-distance g [] s s (slice_index row s) 0 (is.each s within) (distance-self g [] s) (omega arith)
+
+  way_to : (v : ℕ) → v < node_count g → slice_index cells v < FAR → HasWay g x s cells v
+  way_to v v_in near =
+      let kept : IsKept g x s v × (slice_index cells v ≡ slice_index row v) = near_kept v v_in near in
+      ⊎_elim
+      (λ (e : v ≡ s). inl e)
+      (λ (b : (k : ℕ) × IsKeptBefore g x s v k).
+      let k : ℕ = b.0 in
+      let before : IsKeptBefore g x s v k = b.1 in
+      let ends : IsLink g (link_at g k) = graph.each k before.within in
+      let whole : slice_index row v ≡ before.cost + metric g k = distance-unique g [] s v _ _ ((is.each v v_in).near (omega (arith, kept.1))) before.whole in
+      let front : slice_index row (tail g k) ≡ before.cost = cell-distance g [] s (tail g k) (slice_index row (tail g k)) before.cost (is.each (tail g k) ends.0) before.to (omega (arith, kept.1)) in
+      let cell : slice_index cells (tail g k) ≡ slice_index row (tail g k) = kept_cell (tail g k) ends.0 before.from in
+      inr (k, before.within, before.outside, before.carry, omega (arith, kept.1), before.ends, omega (arith, kept.1)))
+      (kept-before g x s v kept.0)
+
+  pub kept-begun : IsBegun g x s cells lost
+  kept-begun = record {
+    graph = graph;
+    long = h.long;
+    within = within;
+    source = let e : slice_index cells s ≡ slice_index row s = kept_cell s within (inl refl) in e ∙ own;
+    top = λ v. ⊎_elim
+        (λ (inside : v < node_count g). ⊎_elim
+        (λ a. let most : slice_index row v ≤ FAR = (is.each v inside).top in omega (arith, a.1))
+        (λ b. omega (arith, b.1))
+        (h.each v inside))
+        (λ (past : node_count g ≤ v). let none : slice_index cells v ≡ 0 = get_or_past cells v 0 (omega (arith, h.long)) in omega arith)
+        (cases_lt v (node_count g));
+    ways = way_to;
+    listed = λ v inside far. ⊎_elim
+        (λ a. let p = kept_walk g x s v a.0 in absurd ((is.each v inside).far (omega (arith, a.1)) p.0 p.1))
+        (λ b. b.2)
+        (h.each v inside);
+    nodes = h.nodes;
+    stable = λ l l_in outside carry near ahead.
+        let ends : IsLink g (link_at g l) = graph.each l l_in in
+        let from : slice_index cells (tail g l) ≡ slice_index row (tail g l) = (near_kept (tail g l) ends.0 near).1 in
+        let to : slice_index cells (head g l) ≡ slice_index row (head g l) = (near_kept (head g l) ends.1 ahead).1 in
+        let most : slice_index row (head g l) ≤ slice_index row (tail g l) + metric g l = row-stable g [] s row graph is l l_in refl carry in
+        omega arith;
+  }

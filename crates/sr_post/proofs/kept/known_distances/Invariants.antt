@@ -1,0 +1,5 @@
+use Rattle.sr_post.specs.Kept.{AreKeptBelow}
+use Rattle.sr_post.proofs.kept.known_distances.Given as goal
+
+abbrev pub invariant-loop-v : goal.invariant-loop-v
+invariant-loop-v l = AreKeptBelow l.spaces.graph l.spaces.failed l.source.0 l.row l.cells.items l.lost.items l.v

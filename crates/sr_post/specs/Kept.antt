@@ -1,0 +1,23 @@
+-- The nodes that keep their distance in a failure, and how they are told.
+use Rattle.std.specs.Prelude.{◌≡◌, ℕ, ◌<◌, ◌⊎◌, Bool, false, List, [], length, All, Contains, slice_index}
+use Rattle.sr_model.specs.declared.link.NodeNo.{NodeNo}
+use Rattle.sr_model.specs.declared.link.TheConstants.{FAR}
+use Rattle.sr_model.specs.Graph.{Graph, head, has}
+use Rattle.sr_model.specs.Walk.{IsNextHop}
+use Rattle.sr_model.specs.Space.{InP}
+
+-- link l leads from s towards v in spite of x: it is outside x, begins a shortest walk to v, and v is in P of its end
+pub record LeadsTo (g : Graph) (x : List Bool) (s v l : ℕ) : Type 0 where
+  pub outside : has x l ≡ false
+  pub hop : IsNextHop g [] s v l
+  pub space : InP g x (head g l) v
+
+-- v is s, or some link leads from s towards v in spite of x: its distance from s is kept
+abbrev pub IsKept : Graph → List Bool → ℕ → ℕ → Type 0
+IsKept g x s v = (v ≡ s) ⊎ ((l : ℕ) × LeadsTo g x s v l)
+
+-- the nodes below n that are kept have their cells of the row, and the others FAR, and are listed
+pub record AreKeptBelow (g : Graph) (x : List Bool) (s : ℕ) (row cells : List ℕ) (lost : List NodeNo) (n : ℕ) : Type 0 where
+  pub long : length cells ≡ n
+  pub each : (v : ℕ) → v < n → (IsKept g x s v × (slice_index cells v ≡ slice_index row v)) ⊎ ((IsKept g x s v → ⊥) × (slice_index cells v ≡ FAR) × Contains lost (record { 0 = v }))
+  pub nodes : All (λ (k : NodeNo). k.0 < n) lost

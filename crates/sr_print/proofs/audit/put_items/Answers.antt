@@ -1,5 +1,0 @@
-use Rattle.sr_print.proofs.Appended.{begins-longer, on_err}
-use Rattle.sr_print.proofs.audit.put_items.Goals as goal
-
-pub returns-in_err-put_item-clause-err : goal.returns-in_err-put_item-clause-err
-returns-in_err-put_item-clause-err c = on_err c.from_residual.result (begins-longer _ _ _ _ c.loop-item.invariant c.in_err-put_item.ensures.err)

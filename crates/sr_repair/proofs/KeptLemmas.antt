@@ -1,0 +1,43 @@
+-- What is kept after the passes over all cases.
+use Rattle.std.proofs.Common.{◌≡◌, ℕ, ◌≤◌, List, [], ◌∷◌, ◌++◌, map, length, arith, sym, ◌∙◌, subst}
+use Rattle.std.proofs.lemmas.List.{append_assoc, get_or-map, length-map}
+use Rattle.sr_model.specs.declared.case.Case.{Case}
+use Rattle.sr_model.specs.Label.{Net}
+use Rattle.sr_repair.specs.declared.passes.Passed.{Passed}
+use Rattle.sr_repair.specs.declared.passes.Passed.TheVariants.{Nothing, AsLink, Listed}
+use Rattle.sr_repair.specs.declared.answers.Found.{Found}
+use Rattle.sr_repair.specs.declared.answers.Found.TheVariants.{AsLink as AsLinkFound}
+use Rattle.sr_repair.specs.Answers.{slot_of, AreAllPassed, AreAllFound, IsPassed, IsFound, searches_of, searches, kept_of}
+
+-- what is kept after the pass is found for the case
+kept-found : (n : Net) (case : Case) (one : Passed) → IsPassed n case one → IsFound n case (kept_of one)
+kept-found n case Nothing none = record {
+  ascending = λ i j lt end. absurd (omega arith);
+  affected = λ i lt. absurd (omega arith);
+  answers = λ i lt. absurd (omega arith);
+  all = λ d is. absurd (none (d, is));
+}
+kept-found n case AsLink like = like
+kept-found n case (Listed list search) answers = answers
+
+-- what is kept after the passes is found for the cases
+pub all-kept : (n : Net) (m : ℕ) (passed : List Passed) → AreAllPassed n m passed → AreAllFound n m (map kept_of passed)
+all-kept n m passed r = record {
+  long = length-map passed kept_of ∙ r.long;
+  each = λ case within lt.
+      subst (λ found. IsFound n case found) (sym (get_or-map kept_of passed (slot_of case) Nothing AsLinkFound (omega (arith, r.long)))) (kept-found n case _ (r.each case within lt));
+}
+
+-- one pass more is kept
+pub kept-more : (all rest : List Passed) (one : Passed) (found more : List Found) → found ++ map kept_of (one ∷ rest) ≡ map kept_of all → more ≡ found ++ kept_of one ∷ [] → more ++ map kept_of rest ≡ map kept_of all
+kept-more all rest one found more so put = rw put (append_assoc found (kept_of one ∷ []) (map kept_of rest) ∙ so)
+
+searches-one : (one : Passed) → searches_of one ≤ 1
+searches-one Nothing = omega arith
+searches-one AsLink = omega arith
+searches-one (Listed list search) = omega arith
+
+-- at most one search is counted in each pass
+pub searches-most : (passed : List Passed) → searches passed ≤ length passed
+searches-most [] = omega arith
+searches-most (one ∷ rest) = let first = searches-one one in let later = searches-most rest in omega arith

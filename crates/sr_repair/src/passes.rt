@@ -1,0 +1,125 @@
+//! One pass over each case, in threads: its searches, one for distances and one for lists.
+ghost use Rattle.std.specs.Prelude.{◌≡◌, ◌*◌, ◌<◌, ◌↔◌, IsTrue, IfOk};
+ghost use Rattle.sr_model.specs.Case.{IsCase};
+ghost use Rattle.sr_spf.specs.Trees.{AreTrees};
+ghost use Rattle.sr_repair.specs.Answers.{case_count, AffectsSome, IsPassed, IsPassedIn, AreAllPassed};
+
+use crate::cases::{case_count, case_in};
+use rayon::prelude::*;
+use sr_encode::{CaseAnswers, lists};
+use sr_labels::Net;
+use sr_model::{Case, NodeNo};
+use sr_post::{affected, post};
+use sr_spf::{Searched, Steps, Trees};
+use std::alloc::{AllocError, Global};
+use std::marker::Brand;
+use std::sync::ledger::{Blank, Ledger};
+use std::thread::Threads;
+
+/// What the pass over a case gives.
+#[derive(Drop)]
+pub(crate) enum Passed {
+    /// Nothing, since the case affects no destination.
+    Nothing,
+    /// That its answers are those of the case of kind link.
+    AsLink,
+    /// Its answers, and that one search for distances was counted for them.
+    Listed(CaseAnswers, Searched),
+}
+
+/// Whether the case affects some destination. In many domains half of the cases affect none.
+fn affects_some(net: &Net, trees: &Trees, case: Case) -> bool
+    requires trees { AreTrees net.now.graph trees.now }
+    requires case { IsCase net.now.graph case }
+    ensures { IsTrue result ↔ AffectsSome net.now case }
+{
+    for v in 0..net.graph().node_count() as u16 {
+        if affected(net, trees, case, NodeNo(v)) {
+            return true;
+        }
+    }
+    false
+}
+
+/// The answers of the case, counted from nothing: by one search for distances.
+fn listed_from<L: Ledger>(
+    alloc: Global,
+    net: &Net,
+    trees: &Trees,
+    case: Case,
+    blank: Blank,
+) -> Result<Passed, AllocError>
+    requires name { blank.name ≡ L.name }
+    requires parts { (blank.parts ≡ L.parts) × (0 < L.parts) }
+    requires trees { AreTrees net.now.graph trees.now }
+    requires case { IsCase net.now.graph case }
+    ensures { IfOk result (IsPassed net.now case) }
+{
+    let mut steps = Steps::<L>::new(blank);
+    let post = post(alloc, net, trees, case, &mut steps)?;
+    let answers = lists(alloc, net, trees, &post, case)?;
+    Ok(Passed::Listed(answers, steps.give_up()))
+}
+
+/// The answers of the case, by searches.
+fn listed(alloc: Global, net: &Net, trees: &Trees, case: Case) -> Result<Passed, AllocError>
+    requires trees { AreTrees net.now.graph trees.now }
+    requires case { IsCase net.now.graph case }
+    ensures { IfOk result (IsPassed net.now case) }
+{
+    listed_from::<Brand>(alloc, net, trees, case, Blank::new(1))
+}
+
+/// What the pass over the case gives.
+fn pass(alloc: Global, net: &Net, trees: &Trees, case: Case) -> Result<Passed, AllocError>
+    requires trees { AreTrees net.now.graph trees.now }
+    requires case { IsCase net.now.graph case }
+    ensures { IfOk result (IsPassed net.now case) }
+{
+    // Most cases of kind risk do, since few links share a group.
+    if net.graph().fails_as_link(case) {
+        return Ok(Passed::AsLink);
+    }
+    if !affects_some(net, trees, case) {
+        return Ok(Passed::Nothing);
+    }
+    listed(alloc, net, trees, case)
+}
+
+/// What the pass over the case in this slot gives.
+fn pass_in(alloc: Global, net: &Net, trees: &Trees, slot: u32) -> Result<Passed, AllocError>
+    requires trees { AreTrees net.now.graph trees.now }
+    requires slot { slot < case_count net.now.graph }
+    ensures { IfOk result (IsPassedIn net.now slot) }
+{
+    pass(alloc, net, trees, case_in(net.graph(), slot))
+}
+
+/// What the pass over each case gives, in order of slot. The cases are split among threads where there are any.
+pub(crate) fn all_passed(
+    rt: &(impl Threads + Sync),
+    alloc: Global,
+    net: &Net,
+    trees: &Trees,
+) -> Result<Vec<Passed>, AllocError>
+    requires { AreTrees net.now.graph trees.now }
+    ensures { IfOk result (λ passed. AreAllPassed net.now (case_count net.now.graph) passed.items) }
+{
+    let count = case_count(net.graph());
+    // A thread costs more than a few cases.
+    let collected = (0..count)
+        .into_par_iter()
+        .with_min_len(16)
+        .map(
+            |slot: u32| -> Result<Passed, AllocError>
+                requires trees { AreTrees net.now.graph trees.now }
+                requires slot { slot < case_count net.now.graph }
+                ensures { IfOk result (IsPassedIn net.entry.now slot) }
+            { pass_in(alloc, net, trees, slot) },
+        )
+        .collect::<Result<Vec<Passed>, AllocError>>(rt, alloc);
+    match collected {
+        Ok(passed) => passed,
+        Err(refused) => Err(refused),
+    }
+}

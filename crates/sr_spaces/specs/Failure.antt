@@ -1,0 +1,20 @@
+-- A graph where links fail.
+use Rattle.std.specs.Prelude.{◌≡◌, ◌↔◌, ℕ, ◌<◌, Bool, true, List, Option, IfSome}
+use Rattle.sr_model.specs.declared.link.NodeNo.{NodeNo}
+use Rattle.sr_model.specs.Graph.{Graph, node_count, link_count, has}
+use Rattle.sr_model.specs.Case.{Touches}
+use Rattle.sr_spf.specs.Trees.{Forest, AreTrees}
+
+-- a graph, and the links of it that fail
+pub record Failure : Type 0 where
+  pub graph : Graph
+  pub failed : List Bool
+
+-- just the links that begin or end at node f fail
+abbrev pub IsAround : Graph → List Bool → ℕ → Type 0
+IsAround g x f = (l : ℕ) → l < link_count g → (has x l ≡ true) ↔ Touches g l f
+
+-- the trees are the graph's, and where there is such a node, just the links at it fail
+pub record AreSpaces (g : Graph) (t : Forest) (x : List Bool) (around : Option NodeNo) : Type 0 where
+  pub trees : AreTrees g t
+  pub node : IfSome around (λ (f : NodeNo). (f.0 < node_count g) × IsAround g x f.0)

@@ -1,0 +1,112 @@
+//! The spaces of one set of failed links.
+ghost use Rattle.std.specs.Prelude.{◌≡◌, ◌<◌, ◌↔◌, [], IsTrue};
+ghost use Rattle.sr_model.specs.Graph.{node_count};
+ghost use Rattle.sr_model.specs.Walk.{IsRow};
+ghost use Rattle.sr_model.specs.Space.{InP};
+ghost use Rattle.sr_spf.specs.Trees.{AreTrees};
+ghost use Rattle.sr_spaces.specs.Failure.{IsAround};
+
+use crate::space::{avoids_links, comes_to};
+use sr_graph::{Graph, LinkSet};
+use sr_model::{FAR, NodeNo};
+use sr_spf::Trees;
+use std::marker::Model;
+
+/// P of every node of a graph where these links fail, asked of one pair of nodes at a time. Contracts see the graph and
+/// the failed links.
+#[derive(Drop)]
+pub struct Spaces<'a> {
+    graph: &'a Graph,
+    trees: &'a Trees,
+    failed: &'a LinkSet,
+    /// The node at which just the failed links lie, where there is one that is known.
+    around: Option<NodeNo>,
+}
+
+impl<'a> Model for Spaces<'a> {
+    ghost use Rattle.sr_spaces.specs.Failure.{Failure, AreSpaces};
+
+    ghost Value = { Failure };
+
+    ghost view = { λ a. record { graph = a.graph.now; failed = a.failed.now } };
+
+    ghost invariant = { λ a. AreSpaces a.graph.now a.trees.now a.failed.now a.around };
+}
+
+impl<'a> Spaces<'a> {
+    /// The spaces where these links fail, each of which is tested.
+    pub fn over(graph: &'a Graph, trees: &'a Trees, failed: &'a LinkSet) -> Spaces<'a>
+        requires { AreTrees graph.now trees.now }
+        ensures { result ≡ record { graph = graph.now; failed = failed.now } }
+    {
+        Spaces {
+            graph,
+            trees,
+            failed,
+            around: None,
+        }
+    }
+
+    /// The spaces where these links fail, which are those that begin or end at the node: it alone is tested.
+    pub fn around(
+        graph: &'a Graph,
+        trees: &'a Trees,
+        failed: &'a LinkSet,
+        node: NodeNo,
+    ) -> Spaces<'a>
+        requires trees { AreTrees graph.now trees.now }
+        requires node { node.0 < node_count graph.now }
+        requires around { IsAround graph.now failed.now node.0 }
+        ensures { result ≡ record { graph = graph.now; failed = failed.now } }
+    {
+        Spaces {
+            graph,
+            trees,
+            failed,
+            around: Some(node),
+        }
+    }
+
+    /// The whole graph.
+    pub fn graph(&self) -> &Graph
+        ensures { result.now ≡ self.now.graph }
+    {
+        self.graph
+    }
+
+    /// The failed links.
+    pub fn failed(&self) -> &LinkSet
+        ensures { result.now ≡ self.now.failed }
+    {
+        self.failed
+    }
+
+    /// The distance in the whole graph from u to each node, by number; `FAR` where there is no walk.
+    pub fn row(&self, u: NodeNo) -> &[u64]
+        requires { u.0 < node_count self.now.graph }
+        ensures { IsRow self.now.graph [] u.0 result.now }
+    {
+        self.trees.cells(u)
+    }
+
+    /// Whether v is in P of u: u reaches v, and no shortest walk from u to v holds a failed link, where every equal-cost
+    /// shortest walk counts (this project's rule).
+    pub fn in_p(&self, u: NodeNo, v: NodeNo) -> bool
+        requires u { u.0 < node_count self.now.graph }
+        requires v { v.0 < node_count self.now.graph }
+        ensures { IsTrue result ↔ InP self.now.graph self.now.failed u.0 v.0 }
+    {
+        let row = self.trees.cells(u);
+        if row[v.0 as usize] >= FAR {
+            return false;
+        }
+        let Some(node) = self.around else {
+            return avoids_links(self.graph, self.trees, row, u, v, self.failed);
+        };
+        // No shortest walk from a node to itself has a link, also where the node is the failed one.
+        if u.0 == v.0 {
+            return true;
+        }
+        !comes_to(self.graph, self.trees, row, u, v, node)
+    }
+}
