@@ -1,17 +1,18 @@
 -- The links that end at each node, listed one by one.
 use Rattle.std.proofs.Common.{◌≡◌, ◌≢◌, ℕ, ◌+◌, ◌<◌, ⊎_elim, List, [], ◌∷◌, ◌++◌, map, length, get_or, set, replicate, refl, arith, sym, ap, ◌∙◌, subst}
 use Rattle.std.proofs.lemmas.Bool.{cases_eq}
+use Rattle.std.proofs.lemmas.List.Quantifiers.{all_pairs_push}
 use Rattle.std.proofs.lemmas.List.{length-append, length-replicate, length-set, length-map, get_or-map, get_or_push, get_or_append_left, get_or_default, get_or-set_same, get_or-set_other, get_or-replicate}
 use Rattle.sr_model.specs.declared.link.LinkNo.{LinkNo}
 use Rattle.sr_model.specs.Graph.{Graph, node_count, no_link}
 use Rattle.sr_graph.specs.declared.edges.Edge.{Edge}
 use Rattle.sr_graph.specs.Edges.{edge_of}
 use Rattle.sr_graph.specs.Members.{number_at}
-use Rattle.sr_graph.specs.Ranges.{end_in, AreEndingAt, AreListedByEnd, AreIncoming}
+use Rattle.sr_graph.specs.Ranges.{end_in, AreEndingAt, AreListedByEnd, EndAt, AreIncoming}
 
 module _ (edges : List Edge) where
   ending-none : (v : ℕ) → AreEndingAt edges 0 v []
-  ending-none v = record { each = λ i lt. absurd (omega arith); all = λ l lt is. absurd (omega arith) }
+  ending-none v = record { each = λ i lt. absurd (omega arith); all = λ l lt is. absurd (omega arith); ascending = λ i j d lt within. absurd (omega arith) }
 
   -- one edge more, which ends elsewhere
   ending-skip : (n v : ℕ) (links : List LinkNo) → AreEndingAt edges n v links → end_in edges n ≢ v → AreEndingAt edges (n + 1) v links
@@ -21,6 +22,7 @@ module _ (edges : List Edge) where
         (λ (e : l ≡ n). absurd (away (ap (end_in edges) (sym e) ∙ is)))
         (λ (ne : l ≢ n). k.all l (omega arith) is)
         (cases_eq l n);
+    ascending = k.ascending;
   }
 
   -- one edge more, which ends here
@@ -42,6 +44,9 @@ module _ (edges : List Edge) where
         let found : (i : ℕ) × (i < length links) × (number_at links i ≡ l) = k.all l (omega arith) is in
         (found.0, omega (arith, found.1, length-append links (link ∷ [])), ap (λ (m : LinkNo). m.0) (get_or_append_left links (link ∷ []) _ found.0 found.1) ∙ found.2))
         (cases_eq l link.0);
+    ascending = all_pairs_push (λ (a b : LinkNo). a.0 < b.0) links link k.ascending (λ i d lt.
+        let P : LinkNo → Type 0 = λ m. m.0 < link.0 in
+        subst P (get_or_default links i (record { 0 = 0 }) d lt) (k.each i lt).0);
   }
 
   pub listed-none : (nodes : ℕ) → AreListedByEnd edges 0 nodes (replicate nodes [])
@@ -78,5 +83,13 @@ incoming-from_listed g lists k = record {
         let low : number_at (get_or lists v []) i < length g.links = omega (arith, (at.each i inside).0, length-map g.links edge_of) in
         (low, sym (ends_of g _ low) ∙ (at.each i inside).1);
     all = λ l within is. at.all l (omega (arith, length-map g.links edge_of)) (ends_of g l within ∙ is);
+    ascending = at.ascending;
   };
 }
+
+-- the list at a node's place, where the graph is seen as h
+pub ending-at : (g h : Graph) (lists : List (List LinkNo)) (v : ℕ) (links : List LinkNo) → g ≡ h → AreIncoming g lists → v < node_count h → links ≡ get_or lists v links → EndAt h v links
+ending-at g h lists v links seen k within is =
+    let P : Graph → Type 0 = λ graph. AreIncoming graph lists in
+    let k' : AreIncoming h lists = subst P seen k in
+    subst (EndAt h v) (get_or_default lists v [] links (omega (arith, k'.long)) ∙ sym is) (k'.each v within)

@@ -45,6 +45,6 @@ laid_out-marked systems links groups before after edges places lists k = record 
   starts = k.starts;
   incoming = record {
     long = k.incoming.long;
-    each = λ v within. record { each = (k.incoming.each v within).each; all = (k.incoming.each v within).all };
+    each = λ v within. let ends = k.incoming.each v within in record { each = ends.each; all = ends.all; ascending = ends.ascending };
   };
 }

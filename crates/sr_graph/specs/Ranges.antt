@@ -4,7 +4,7 @@ use Rattle.sr_model.specs.declared.link.Link.{Link}
 use Rattle.sr_model.specs.declared.link.LinkNo.{LinkNo}
 use Rattle.sr_model.specs.Graph.{Graph, node_count, link_count, tail, head, no_link}
 use Rattle.sr_graph.specs.declared.edges.Edge.{Edge}
-use Rattle.sr_graph.specs.Members.{number_at}
+use Rattle.sr_graph.specs.Members.{number_at, AscendEach}
 
 -- the node at which the link at place l begins
 abbrev pub tail_in : List Link → ℕ → ℕ
@@ -32,20 +32,22 @@ pub record HoldsLinks (g : Graph) (u i j : ℕ) : Type 0 where
   pub from : (l : ℕ) → i ≤ l → l < j → tail g l ≡ u
   pub to : (l : ℕ) → l < link_count g → tail g l ≡ u → (i ≤ l) × (l < j)
 
--- the list has the places below n of the edges that end at node v, and no others
+-- the list has the places below n of the edges that end at node v, ascending, and no others
 pub record AreEndingAt (edges : List Edge) (n v : ℕ) (links : List LinkNo) : Type 0 where
   pub each : (i : ℕ) → i < length links → (number_at links i < n) × (end_in edges (number_at links i) ≡ v)
   pub all : (l : ℕ) → l < n → end_in edges l ≡ v → (i : ℕ) × (i < length links) × (number_at links i ≡ l)
+  pub ascending : AscendEach links
 
 -- there is a list for each of the nodes, of the places below n of the edges that end there
 pub record AreListedByEnd (edges : List Edge) (n nodes : ℕ) (lists : List (List LinkNo)) : Type 0 where
   pub long : length lists ≡ nodes
   pub each : (v : ℕ) → v < nodes → AreEndingAt edges n v (slice_index_or lists v [])
 
--- the list has the links that end at node v, and no others
+-- the list has the links that end at node v, ascending, and no others
 pub record EndAt (g : Graph) (v : ℕ) (links : List LinkNo) : Type 0 where
   pub each : (i : ℕ) → i < length links → (number_at links i < link_count g) × (head g (number_at links i) ≡ v)
   pub all : (l : ℕ) → l < link_count g → head g l ≡ v → (i : ℕ) × (i < length links) × (number_at links i ≡ l)
+  pub ascending : AscendEach links
 
 -- there is a list for each node, of the links that end there
 pub record AreIncoming (g : Graph) (lists : List (List LinkNo)) : Type 0 where

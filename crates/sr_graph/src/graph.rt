@@ -191,7 +191,7 @@ impl Graph {
         }
     }
 
-    /// The links that end at the node, ascending.
+    /// The links that end at the node, each once, ascending.
     pub fn links_to(&self, node: NodeNo) -> &[LinkNo]
         requires { node.0 < node_count self.now }
         ensures links { EndAt self.now node.0 result.now }

@@ -86,7 +86,7 @@ impl LinkSet {
         Ok(())
     }
 
-    /// The links in the set, each once, in no order.
+    /// The links in the set, each once. Their order is not promised.
     pub fn links(&self) -> &[LinkNo]
         ensures { AreMembers self.now result.now }
     {
