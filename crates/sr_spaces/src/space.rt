@@ -19,6 +19,7 @@ fn holds(graph: &Graph, trees: &Trees, row: &[u64], u: NodeNo, v: NodeNo, link: 
     requires near { cell_at trees.now u.0 v.0 < Far }
     ensures { IsTrue result ↔ OnShortest graph.now [] u.0 v.0 link.0 }
 {
+    // A set of links knows no graph, so it may list a number past the graph's links, which stands on no walk.
     if link.0 as u32 >= graph.link_count() {
         return false;
     }
