@@ -2,5 +2,4 @@ pub mod HopLemmas
 pub mod WayLemmas
 pub mod OrderLemmas
 pub mod MarkLemmas
-pub mod FailedLemmas
 pub mod KeptLemmas

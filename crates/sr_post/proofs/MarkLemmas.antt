@@ -11,7 +11,7 @@ use Rattle.sr_model.specs.Case.{IsAffected, IsOnRepairWay, IsFailedSet, IsCase, 
 use Rattle.sr_post.specs.declared.order.Placed.{Placed}
 use Rattle.sr_post.specs.Order.{entry_at, AreByDistance}
 use Rattle.sr_post.specs.Marks.{IsMarked, AreMarks, AreWalks}
-use Rattle.sr_post.proofs.FailedLemmas.{failed-one}
+use Rattle.sr_laws.proofs.Failures.{failed-one}
 use Rattle.sr_post.proofs.WayLemmas.{IsAlong, along-from_way, way-from_along, along-here, along-on, along-cut}
 
 -- the marks are right at the places from k on

@@ -44,8 +44,7 @@ impl Begun {
         requires case { IsCase net.now.graph case }
         requires begun { IsBeginning net.now case self }
         ensures post { IfOk result (IsPost net.now case) }
-        ensures steps { OnOk result (steps.new ≡ steps.old + 1) }
-        ensures most { steps.new ≤ steps.old + 1 }
+        ensures steps { steps.new ≡ steps.old + 1 }
     {
         let graph = net.graph();
         let source = graph.edge(case.link).from;
@@ -93,6 +92,7 @@ pub fn post<L: Ledger>(
     ensures post { IfOk result (IsPost net.now case) }
     ensures steps { OnOk result (steps.new ≡ steps.old + 1) }
     ensures most { steps.new ≤ steps.old + 1 }
+    ensures least { steps.old ≤ steps.new }
 {
     begin(alloc, net, trees, case)?.finish(alloc, net, case, steps)
 }

@@ -1,9 +1,10 @@
 //! What is left after a failure, as it is read.
-ghost use Rattle.std.specs.Prelude.{◌≡◌, ◌<◌, List, Bool, length};
+ghost use Rattle.std.specs.Prelude.{◌≡◌, ◌<◌, List, Bool, length, slice_index};
 ghost use Rattle.sr_model.specs.declared.case.Case.{Case as Failure};
 ghost use Rattle.sr_model.specs.Label.{Net as Labelled};
 ghost use Rattle.sr_model.specs.Walk.{Distance};
 ghost use Rattle.sr_model.specs.Case.{IsFailedSet, source_of};
+ghost use Rattle.sr_spf.specs.Trees.{distance_of};
 ghost use Rattle.sr_post.specs.Post.{IsPost};
 
 use sr_graph::LinkSet;
@@ -51,7 +52,8 @@ impl Post {
     /// The distance from the source to the node without the failed links. None exactly where there is no walk.
     pub fn dist(&self, v: NodeNo) -> Option<u64>
         requires { v.0 < length self.now.cells }
-        ensures { (n : Labelled) (case : Failure) → IsPost n case self.now → (x : List Bool) → IsFailedSet n.graph case x → Distance n.graph x (source_of n.graph case) v.0 result }
+        ensures cell { result ≡ distance_of (slice_index self.now.cells v.0) }
+        ensures distance { (n : Labelled) (case : Failure) → IsPost n case self.now → (x : List Bool) → IsFailedSet n.graph case x → Distance n.graph x (source_of n.graph case) v.0 result }
     {
         let cell = self.row.cells()[v.0 as usize];
         if cell < FAR { Some(cell) } else { None }

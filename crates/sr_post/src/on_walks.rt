@@ -2,6 +2,7 @@
 ghost use Rattle.std.specs.Prelude.{◌≡◌, ◌<◌, ◌↔◌, List, Bool, length, IsTrue};
 ghost use Rattle.sr_model.specs.declared.case.Case.{Case as Failure};
 ghost use Rattle.sr_model.specs.Label.{Net as Labelled};
+ghost use Rattle.sr_model.specs.Graph.{has};
 ghost use Rattle.sr_model.specs.Case.{IsFailedSet, IsOnRepairWay};
 ghost use Rattle.sr_post.specs.Marks.{AreWalks};
 
@@ -34,7 +35,8 @@ impl Walks {
     /// Whether the node stands on a shortest walk without the failed links from the source to an affected destination.
     pub fn has(&self, v: NodeNo) -> bool
         requires { v.0 < length self.now }
-        ensures { (n : Labelled) (case : Failure) → AreWalks n case self.now → (x : List Bool) → IsFailedSet n.graph case x → IsTrue result ↔ IsOnRepairWay n case x v.0 }
+        ensures test { result ≡ has self.now v.0 }
+        ensures way { (n : Labelled) (case : Failure) → AreWalks n case self.now → (x : List Bool) → IsFailedSet n.graph case x → IsTrue result ↔ IsOnRepairWay n case x v.0 }
     {
         self.marks[v.0 as usize]
     }

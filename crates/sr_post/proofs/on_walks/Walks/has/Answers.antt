@@ -6,8 +6,8 @@ use Rattle.sr_model.specs.Case.{IsOnRepairWay}
 use Rattle.sr_post.specs.Marks.{AreMarks}
 use Rattle.sr_post.proofs.on_walks.Walks.has.Goals as goal
 
-pub returns : goal.returns
-returns c = λ n case p x f.
+pub returns-clause-way : goal.returns-clause-way
+returns-clause-way c = λ n case p x f.
     let marks : AreMarks n case x c.args.self.now = p.marks x f in
     let within : c.args.v.0 < node_count n.graph = omega (arith, marks.long, c.requires) in
     let told : IsTrue (has c.args.self.now c.args.v.0) ↔ IsOnRepairWay n case x c.args.v.0 = marks.each c.args.v.0 within in
