@@ -119,9 +119,10 @@ pub record EndedLast {S : Type 0} (answers : Answering S) (old : Progress S) (re
   pub refusal : new.refused ≡ old.refused || again
   pub appended : new.out.items ≡ old.out.items ++ said
 
--- the same, whatever the bytes since the last line feed were of which the head is held
+-- the same, whatever the bytes since the last line feed were of which the head is held; no line feed came
 pub record EndsLast {S : Type 0} (answers : Answering S) (old : Progress S) (new : Progress S) : Type 0 where
   pub from : (rest : List ℕ) → IsKept old.kept.items rest → EndedLast answers old rest new
+  pub counted : new.lines ≡ old.lines
 
 -- the line that no line feed ended was answered, and then the end of the script
 pub record Closed {S : Type 0} (answers : Answering S) (ends : Closing S) (old : Progress S) (rest : List ℕ) (new : Progress S) : Type 0 where
@@ -134,6 +135,7 @@ pub record Closed {S : Type 0} (answers : Answering S) (ends : Closing S) (old :
   pub end : ends last tail new.session
   pub appended : new.out.items ≡ old.out.items ++ (said ++ tail)
 
--- the same, whatever the bytes since the last line feed were of which the head is held
+-- the same, whatever the bytes since the last line feed were of which the head is held; no line feed came
 pub record Closes {S : Type 0} (answers : Answering S) (ends : Closing S) (old : Progress S) (new : Progress S) : Type 0 where
   pub from : (rest : List ℕ) → IsKept old.kept.items rest → Closed answers ends old rest new
+  pub counted : new.lines ≡ old.lines
