@@ -1,9 +1,9 @@
 //! The answers of a case, and how they are found by destination.
-ghost use Rattle.std.specs.Prelude.{◌≡◌, ◌≤◌, [], length, IfOk, MatchOption};
+ghost use Rattle.std.specs.Prelude.{◌≡◌, ◌≤◌, [], length, MatchOption};
 ghost use Rattle.sr_encode.specs.Answered.{AscendByNode, HasAnswer, NoAnswer, counts_in};
 
 use sr_model::{Answer, Counts, NodeNo};
-use std::alloc::{AllocError, Global};
+use std::alloc::Global;
 use std::marker::Model;
 
 /// The answer for a destination.
@@ -11,18 +11,6 @@ use std::marker::Model;
 pub struct NodeAnswer {
     pub destination: NodeNo,
     pub answer: Answer,
-}
-
-impl NodeAnswer {
-    /// The same answer once more.
-    fn copied(&self, alloc: Global) -> Result<NodeAnswer, AllocError>
-        ensures { IfOk result (λ copy. copy ≡ self.now) }
-    {
-        Ok(NodeAnswer {
-            destination: self.destination,
-            answer: self.answer.copied(alloc)?,
-        })
-    }
 }
 
 /// How many of the answers are of each sort.
@@ -82,15 +70,7 @@ impl CaseAnswers {
     pub fn none(alloc: Global) -> CaseAnswers
         ensures { result ≡ [] }
     {
-        CaseAnswers {
-            list: Vec::new(alloc),
-            counts: Counts {
-                covered: 0,
-                nopath: 0,
-                nolist: 0,
-                toodeep: 0,
-            },
-        }
+        CaseAnswers::new(Vec::new(alloc))
     }
 
     /// The answers, in order of destination.
@@ -106,20 +86,6 @@ impl CaseAnswers {
         ensures { result ≡ counts_in self.now }
     {
         self.counts
-    }
-
-    /// The same answers once more.
-    pub fn copied(&self, alloc: Global) -> Result<CaseAnswers, AllocError>
-        ensures { IfOk result (λ copy. copy ≡ self.now) }
-    {
-        let mut list = Vec::with_capacity(alloc, self.list.len())?;
-        for entry in &self.list {
-            list.push(entry.copied(alloc)?)?;
-        }
-        Ok(CaseAnswers {
-            list,
-            counts: self.counts,
-        })
     }
 
     /// The answer for the destination. None exactly where there is none for it.
