@@ -1,7 +1,7 @@
 -- What lists of nodes keep.
 use Rattle.std.proofs.Common.{◌≡◌, ◌≢◌, ℕ, zero, suc, ◌+◌, ◌<◌, ◌≤◌, ⊎_elim, Bool, true, false, List, [], ◌∷◌, ◌++◌, length, refl, arith, ap, sym, ◌∙◌, subst}
 use Rattle.std.specs.Prelude.{not, filter, slice_index_or}
-use Rattle.std.proofs.lemmas.Bool.{cond_both, cases_eq, cases_lt, false_from_ne_true}
+use Rattle.std.proofs.lemmas.Bool.{cond_both, cases_eq, cases_lt, false_from_ne_true, not-true}
 use Rattle.std.proofs.lemmas.List.{length-append, get_or_push, get_or_append_left}
 use Rattle.sr_model.specs.declared.link.NodeNo.{NodeNo}
 use Rattle.sr_model.specs.Graph.{has}
@@ -119,10 +119,6 @@ filter-keeps test (v ∷ rest) (suc k) lt passes =
     let behind : Keeps (filter test rest) (listed_at rest k) = filter-keeps test rest k (omega arith) passes in
     cond_both (test v) (v ∷ filter test rest) (filter test rest) (λ kept. Keeps kept (listed_at rest k))
     (λ _. keeps-behind v (filter test rest) (listed_at rest k) behind) (λ _. behind)
-
-not-true : (b : Bool) → not b ≡ true → b ≡ false
-not-true true e = let z : false ≡ true = e in absurd (cc)
-not-true false e = refl
 
 was-apart : (met more : List Bool) (v : ℕ) → ((v : ℕ) → has met v ≡ true → has more v ≡ true) → has more v ≡ false → has met v ≡ false
 was-apart met more v kept apart =

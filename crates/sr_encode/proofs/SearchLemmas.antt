@@ -68,6 +68,7 @@ step-from_exact n x s post w v e a t row within inside i leads d = record {
 
 -- one list more in the table of known ones
 module _ (known : List (Option Path)) (v : ℕ) (c : Path) (within : v < length known) (fresh : slice_index_or known v None ≡ None) where
+  -- what is known of other nodes
   other_than : (w : ℕ) (b : Path) → Knows known w b → w ≢ v
   other_than w b k e = let z : slice_index_or known v None ≡ Some b = subst (λ j. slice_index_or known j None ≡ Some b) e k in let y : None ≡ Some b = sym fresh ∙ z in cc
 
@@ -133,21 +134,17 @@ search-known n x s post known order i cur v b r inside is one =
 
 -- a segment whose end is new
 module _ (n : Net) (x : List Bool) (s : ℕ) (post : List ℕ) (known : List (Option Path)) (order : List ℕ) (i cur v : ℕ) (a : Path) (r : IsSearch n x s post known order i cur) (row : IsRow n.graph x s post) (inside : i < length order) (ka : Knows known (slice_index order i) a) (within : v < node_count n.graph) (fresh : slice_index_or known v None ≡ None) (step : StepsTo n x post (slice_index order i) (segment_at n.graph cur) v) (one : (w : ℕ) → StepsTo n x post (slice_index order i) (segment_at n.graph cur) w → w ≡ v) (known' : List (Option Path)) (order' : List ℕ) (set_is : known' ≡ set known v (Some (push a (segment_at n.graph cur)))) (order_is : order' ≡ order ++ v ∷ []) where
-  apart : (w : ℕ) (b : Path) → Knows known w b → w ≢ v
-  apart w b k e = let z : slice_index_or known v None ≡ Some b = subst (λ j. slice_index_or known j None ≡ Some b) e k in let y : None ≡ Some b = sym fresh ∙ z in cc
+  room : v < length known
+  room = omega (arith, r.long)
 
   keeps : (w : ℕ) (b : Path) → Knows known w b → Knows known' w b
-  keeps w b k = rw set_is (get_or-set_other known v w (Some (push a (segment_at n.graph cur))) None (apart w b k) ∙ k)
+  keeps w b k = rw set_is (knows-kept known v (push a (segment_at n.graph cur)) room fresh w b k)
 
   new_known : Knows known' v (push a (segment_at n.graph cur))
-  new_known = rw set_is (get_or-set_same known v (Some (push a (segment_at n.graph cur))) None (omega (arith, r.long)))
+  new_known = rw set_is (knows-new known v (push a (segment_at n.graph cur)) room fresh)
 
   back : (w : ℕ) (b : Path) → Knows known' w b → ((w ≡ v) × (b ≡ push a (segment_at n.graph cur))) ⊎ Knows known w b
-  back w b k =
-      ⊎_elim
-      (λ e. let z : Some b ≡ Some (push a (segment_at n.graph cur)) = sym k ∙ subst (λ j. slice_index_or known' j None ≡ Some (push a (segment_at n.graph cur))) (sym e) new_known in inl (e, (cc)))
-      (λ ne. inr (sym (get_or-set_other known v w (Some (push a (segment_at n.graph cur))) None ne) ∙ ap (λ l. slice_index_or l w None) (sym set_is) ∙ k))
-      (cases_eq w v)
+  back w b k = knows-back known v (push a (segment_at n.graph cur)) room fresh w b (rw set_is at k)
 
   length_is : length order' ≡ length order + 1
   length_is = rw order_is (omega (arith, length-append order (v ∷ [])))
@@ -161,7 +158,7 @@ module _ (n : Net) (x : List Bool) (s : ℕ) (post : List ℕ) (known : List (Op
   back_at : (k : ℕ) (b : Path) → k < length order → Knows known' (slice_index order' k) b → Knows known (slice_index order k) b
   back_at k b lt kb =
       ⊎_elim
-      (λ e. let f = r.found k lt in absurd (apart (slice_index order k) f.1.0 f.1.1 e.0))
+      (λ e. let f = r.found k lt in absurd (other_than known v (push a (segment_at n.graph cur)) room fresh (slice_index order k) f.1.0 f.1.1 e.0))
       (λ old. old)
       (back (slice_index order k) b (subst (λ j. Knows known' j b) (old_at k lt) kb))
 
