@@ -13,6 +13,7 @@ use std::alloc::{AllocError, Global};
 use std::marker::Brand;
 use std::sync::ledger::{Blank, Ledger};
 use std::test::Fail;
+use std::thread::Threads;
 
 /// The system id of a small number.
 fn id(value: u64) -> SystemId
@@ -84,20 +85,25 @@ fn ring_of_five(alloc: Global) -> Result<Draft, AllocError>
 }
 
 /// The trees of the graph, counted from nothing.
-fn trees_from<L: Ledger>(alloc: Global, graph: &Graph, blank: Blank) -> Result<Trees, AllocError>
+fn trees_from<L: Ledger>(
+    rt: &(impl Threads + Sync),
+    alloc: Global,
+    graph: &Graph,
+    blank: Blank,
+) -> Result<Trees, AllocError>
     requires name { blank.name ≡ L.name }
     requires parts { (blank.parts ≡ L.parts) × (0 < L.parts) }
     ensures { IfOk result (AreTrees graph.now) }
 {
     let mut steps = Steps::<L>::new(blank);
-    Trees::build(alloc, graph, &mut steps)
+    Trees::build(rt, alloc, graph, &mut steps)
 }
 
 /// The trees of the graph.
-fn trees_of(alloc: Global, graph: &Graph) -> Result<Trees, AllocError>
+fn trees_of(rt: &(impl Threads + Sync), alloc: Global, graph: &Graph) -> Result<Trees, AllocError>
     ensures { IfOk result (AreTrees graph.now) }
 {
-    trees_from::<Brand>(alloc, graph, Blank::new(1))
+    trees_from::<Brand>(rt, alloc, graph, Blank::new(1))
 }
 
 /// The spaces where the pair of nodes 1 and 2 fails: P and extended P of node 1, and Q of node 2.
@@ -109,7 +115,7 @@ struct PairSpaces {
 }
 
 /// The spaces of the ring that is drafted. In order of key the link from node 1 to node 2 is the first.
-fn found_in(alloc: Global, draft: Draft) -> Result<PairSpaces, Fail>
+fn found_in(rt: &(impl Threads + Sync), alloc: Global, draft: Draft) -> Result<PairSpaces, Fail>
     requires { IsDraft draft }
 {
     let graph = Graph::build(alloc, draft)?;
@@ -121,7 +127,7 @@ fn found_in(alloc: Global, draft: Draft) -> Result<PairSpaces, Fail>
         link: LinkNo(0),
     };
     let failed = graph.failed(alloc, case)?;
-    let trees = trees_of(alloc, &graph)?;
+    let trees = trees_of(rt, alloc, &graph)?;
     Ok(PairSpaces {
         p: p_row(alloc, &graph, &trees, NodeNo(0), &failed)?,
         extended: extended_p(alloc, &graph, &trees, NodeNo(0), &failed)?,
@@ -144,7 +150,7 @@ fn tells(set: &NodeSet, tests: &[bool]) -> bool
 #[test]
 fn in_a_ring_of_four(rt: HostRuntime) -> Result<(), Fail> {
     let alloc = rt.alloc();
-    let spaces = found_in(alloc, ring_of_four(alloc)?)?;
+    let spaces = found_in(&rt, alloc, ring_of_four(alloc)?)?;
     // Of two equal ways from 1 to 3, and from 4 to 2, one has the pair.
     assert!(rt; tells(&spaces.p, [true, false, false, true].as_slice()));
     assert!(rt; tells(&spaces.extended, [true, false, true, true].as_slice()));
@@ -155,7 +161,7 @@ fn in_a_ring_of_four(rt: HostRuntime) -> Result<(), Fail> {
 #[test]
 fn in_a_ring_of_five(rt: HostRuntime) -> Result<(), Fail> {
     let alloc = rt.alloc();
-    let spaces = found_in(alloc, ring_of_five(alloc)?)?;
+    let spaces = found_in(&rt, alloc, ring_of_five(alloc)?)?;
     assert!(rt; tells(&spaces.p, [true, false, false, true, true].as_slice()));
     assert!(rt; tells(&spaces.extended, [true, false, true, true, true].as_slice()));
     assert!(rt; tells(&spaces.q, [false, true, true, true, false].as_slice()));
@@ -188,7 +194,7 @@ fn where_a_node_of_four_fails(rt: HostRuntime) -> Result<(), Fail> {
         link: LinkNo(0),
     };
     let failed = graph.failed(alloc, case)?;
-    let trees = trees_of(alloc, &graph)?;
+    let trees = trees_of(&rt, alloc, &graph)?;
     let spaces = Spaces::around(&graph, &trees, &failed, graph.edge(case.link).to);
     // Of two equal ways from 1 to 3 one comes to node 2.
     assert!(rt; are_in_p(&spaces, NodeNo(0), [true, false, false, true].as_slice()));

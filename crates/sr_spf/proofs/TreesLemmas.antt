@@ -1,40 +1,32 @@
--- One row of distances more, and one node's next hops more.
-use Rattle.std.proofs.Common.{◌≡◌, ◌≢◌, ℕ, ◌+◌, ⊎_elim, List, [], ◌∷◌, ◌++◌, arith, sym, ◌∙◌, subst}
-use Rattle.std.proofs.lemmas.Bool.{cases_eq}
-use Rattle.std.proofs.lemmas.List.{length_push, get_or_push, get_or_append_left}
-use Rattle.sr_model.specs.Graph.{Graph, node_count}
+-- The rows, and the lists of next hops, that come from the nodes in order.
+use Rattle.std.proofs.Common.{ℕ, List, [], ◌∷◌, map}
+use Rattle.std.specs.List.{AllZip, range_with_len}
+use Rattle.sr_model.specs.Graph.{Graph, node_count, IsGraph}
 use Rattle.sr_model.specs.Walk.{IsRow}
-use Rattle.sr_spf.specs.Trees.{row_at, lists_at, AreRows, AreHops, AreTrees}
+use Rattle.sr_spf.specs.declared.rows.Counted.{Counted}
+use Rattle.sr_spf.specs.Rows.{rows_in}
+use Rattle.sr_spf.specs.Trees.{AreRows, AreHops, AreTrees}
 use Rattle.sr_spf.specs.Hops.{HopLists, AreHopsFrom}
+use Rattle.sr_spf.proofs.CollectLemmas.{in_order}
 
-pub rows-more : (g : Graph) (rows : List (List ℕ)) (n : ℕ) (row : List ℕ) → AreRows g rows n → IsRow g [] n row → AreRows g (rows ++ row ∷ []) (n + 1)
-rows-more g rows n row r here = record {
-  graph = r.graph;
-  long = length_push rows row ∙ omega (arith, r.long);
-  each = λ u lt. ⊎_elim
-      (λ (e : u ≡ n).
-      let P : ℕ → Type 0 = λ k. IsRow g [] k (row_at (rows ++ row ∷ []) k) in
-      let Q : List ℕ → Type 0 = λ cells. IsRow g [] n cells in
-      subst P (sym e) (subst Q (sym (get_or_push rows row [] n r.long)) here))
-      (λ (ne : u ≢ n).
-      let Q : List ℕ → Type 0 = λ cells. IsRow g [] u cells in
-      subst Q (sym (get_or_append_left rows (row ∷ []) [] u (omega (arith, r.long)))) (r.each u (omega arith)))
-      (cases_eq u n);
-}
+-- a relation to what the items of a list hold, as one to the items
+zip-inside : {X Y Z : Type 0} (f : Y → Z) (P : X → Z → Type 0) (xs : List X) (ys : List Y) → AllZip (λ x y. P x (f y)) xs ys → AllZip P xs (map f ys)
+zip-inside f P [] [] h = tt
+zip-inside f P [] (y ∷ ys) h = absurd h
+zip-inside f P (x ∷ xs) [] h = absurd h
+zip-inside f P (x ∷ xs) (y ∷ ys) h = (h.0, zip-inside f P xs ys h.1)
 
-pub hops-more : (g : Graph) (hops : List HopLists) (n : ℕ) (table : HopLists) → AreHops g hops n → AreHopsFrom g n table → AreHops g (hops ++ table ∷ []) (n + 1)
-hops-more g hops n table h here = record {
-  long = length_push hops table ∙ omega (arith, h.long);
-  each = λ u lt. ⊎_elim
-      (λ (e : u ≡ n).
-      let P : ℕ → Type 0 = λ k. AreHopsFrom g k (lists_at (hops ++ table ∷ []) k) in
-      let Q : HopLists → Type 0 = λ lists. AreHopsFrom g n lists in
-      subst P (sym e) (subst Q (sym (get_or_push hops table _ n h.long)) here))
-      (λ (ne : u ≢ n).
-      let Q : HopLists → Type 0 = λ lists. AreHopsFrom g u lists in
-      subst Q (sym (get_or_append_left hops (table ∷ []) _ u (omega (arith, h.long)))) (h.each u (omega arith)))
-      (cases_eq u n);
-}
+-- a row for each node in order
+pub rows-in_order : (g : Graph) (all : List Counted) → IsGraph g → AllZip (λ i (one : Counted). IsRow g [] i one.row) (range_with_len 0 (node_count g)) all → AreRows g (rows_in all) (node_count g)
+rows-in_order g all graph zip =
+    let rows = in_order (IsRow g []) (node_count g) (rows_in all) [] (zip-inside (λ (one : Counted). one.row) (IsRow g []) (range_with_len 0 (node_count g)) all zip) in
+    record { graph = graph; long = rows.0; each = rows.1 }
+
+-- the next hops of each node in order
+pub hops-in_order : (g : Graph) (hops : List HopLists) → AllZip (AreHopsFrom g) (range_with_len 0 (node_count g)) hops → AreHops g hops (node_count g)
+hops-in_order g hops zip =
+    let lists = in_order (AreHopsFrom g) (node_count g) hops (record { starts = []; links = [] }) zip in
+    record { long = lists.0; each = lists.1 }
 
 pub trees-whole : (g : Graph) (rows : List (List ℕ)) (hops : List HopLists) → AreRows g rows (node_count g) → AreHops g hops (node_count g) → AreTrees g (record { rows = rows; hops = hops })
 trees-whole g rows hops r h = record {

@@ -3,4 +3,5 @@ pub mod Queue
 pub mod Begun
 pub mod Hops
 pub mod Trees
+pub mod Rows
 pub mod Drawn

@@ -87,29 +87,6 @@ pub(crate) fn settle(
     Ok(())
 }
 
-/// The same as `row`, with a queue that is empty before and after.
-pub(crate) fn row_by<L: Ledger>(
-    alloc: Global,
-    graph: &Graph,
-    without: &LinkSet,
-    source: NodeNo,
-    queue: &mut Queue,
-    steps: &mut Steps<L>,
-) -> Result<Row, AllocError>
-    requires source { source.0 < node_count graph.now }
-    requires empty { heap_items queue.old ≡ [] }
-    ensures row { IfOk result (λ r. IsRow graph.now without.now source.0 r) }
-    ensures empty { OnOk result (heap_items queue.new ≡ []) }
-    ensures steps { steps.new ≡ steps.old + 1 }
-{
-    steps.tick();
-    let mut cells = vec![in alloc; FAR; graph.node_count() as usize]?;
-    cells[source.0 as usize] = 0;
-    queue.push(Reverse((0, source.0)))?;
-    settle(graph, without, source, &mut cells, queue)?;
-    Ok(Row::new(cells))
-}
-
 /// The distances from the source in the graph without these links. One search is counted.
 pub fn row<L: Ledger>(
     alloc: Global,
@@ -122,7 +99,12 @@ pub fn row<L: Ledger>(
     ensures row { IfOk result (λ r. IsRow graph.now without.now source.0 r) }
     ensures steps { steps.new ≡ steps.old + 1 }
 {
-    let mut queue = BinaryHeap::new(alloc);
-    let row = row_by(alloc, graph, without, source, &mut queue, steps)?;
-    Ok(row)
+    steps.tick();
+    let count = graph.node_count() as usize;
+    let mut cells = vec![in alloc; FAR; count]?;
+    let mut queue = BinaryHeap::with_capacity(alloc, count)?;
+    cells[source.0 as usize] = 0;
+    queue.push(Reverse((0, source.0)))?;
+    settle(graph, without, source, &mut cells, &mut queue)?;
+    Ok(Row::new(cells))
 }

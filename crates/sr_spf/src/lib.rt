@@ -6,6 +6,7 @@ mod begun;
 mod cells;
 mod dijkstra;
 mod hops;
+mod rows;
 mod steps;
 #[cfg(test)]
 mod tests;

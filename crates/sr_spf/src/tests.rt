@@ -14,6 +14,7 @@ use std::alloc::{AllocError, Global};
 use std::marker::Brand;
 use std::sync::ledger::{Blank, Ledger};
 use std::test::Fail;
+use std::thread::Threads;
 
 /// The system id of a small number.
 fn id(value: u64) -> SystemId
@@ -77,20 +78,25 @@ fn chain(alloc: Global, metric: u32) -> Result<Draft, AllocError>
 }
 
 /// The trees of the graph, counted from nothing.
-fn trees_from<L: Ledger>(alloc: Global, graph: &Graph, blank: Blank) -> Result<Trees, AllocError>
+fn trees_from<L: Ledger>(
+    rt: &(impl Threads + Sync),
+    alloc: Global,
+    graph: &Graph,
+    blank: Blank,
+) -> Result<Trees, AllocError>
     requires name { blank.name ≡ L.name }
     requires parts { (blank.parts ≡ L.parts) × (0 < L.parts) }
     ensures { IfOk result (λ t. tree_count t ≡ node_count graph.now) }
 {
     let mut steps = Steps::<L>::new(blank);
-    Trees::build(alloc, graph, &mut steps)
+    Trees::build(rt, alloc, graph, &mut steps)
 }
 
 /// The trees of the graph.
-fn trees_of(alloc: Global, graph: &Graph) -> Result<Trees, AllocError>
+fn trees_of(rt: &(impl Threads + Sync), alloc: Global, graph: &Graph) -> Result<Trees, AllocError>
     ensures { IfOk result (λ t. tree_count t ≡ node_count graph.now) }
 {
-    trees_from::<Brand>(alloc, graph, Blank::new(1))
+    trees_from::<Brand>(rt, alloc, graph, Blank::new(1))
 }
 
 /// The row of the source, counted from nothing.
@@ -183,7 +189,7 @@ fn a_ring_has_two_ways_across(rt: HostRuntime) -> Result<(), Fail> {
     let alloc = rt.alloc();
     let graph = Graph::build(alloc, ring(alloc, 1, 1)?)?;
     assert!(rt; graph.node_count() == 4);
-    let trees = trees_of(alloc, &graph)?;
+    let trees = trees_of(&rt, alloc, &graph)?;
     assert_eq!(rt; trees.cells(NodeNo(2)), [2, 1, 0, 1].as_slice());
     assert!(rt; trees.dist(NodeNo(3), NodeNo(1)) == Some(2));
     assert_eq!(rt;
@@ -227,7 +233,7 @@ fn no_walk_passes_through_an_overloaded_node(rt: HostRuntime) -> Result<(), Fail
     graph.mark(alloc, [id(4)].as_slice())?;
     assert!(rt; graph.node_count() == 4);
     assert!(rt; graph.link_count() == 8);
-    let trees = trees_of(alloc, &graph)?;
+    let trees = trees_of(&rt, alloc, &graph)?;
     assert_eq!(rt; trees.cells(NodeNo(0)), [0, 1, 2, 1].as_slice());
     assert_eq!(rt;
         trees.next_hops(NodeNo(0), NodeNo(2)),
@@ -254,7 +260,7 @@ fn a_chain_has_an_end(rt: HostRuntime) -> Result<(), Fail> {
     let alloc = rt.alloc();
     let graph = Graph::build(alloc, chain(alloc, 7)?)?;
     assert!(rt; graph.node_count() == 4);
-    let trees = trees_of(alloc, &graph)?;
+    let trees = trees_of(&rt, alloc, &graph)?;
     assert_eq!(rt; trees.cells(NodeNo(0)), [0, 10, 17, FAR].as_slice());
     assert_eq!(rt; trees.cells(NodeNo(2)), [FAR, FAR, 0, FAR].as_slice());
     assert!(rt; trees.dist(NodeNo(1), NodeNo(2)) == Some(7));

@@ -2,19 +2,23 @@
 ghost use Rattle.std.specs.Prelude.{◌≡◌, ◌+◌, ◌<◌, ◌≤◌, [], length, IfOk, OnOk};
 ghost use Rattle.sr_model.specs.Graph.{Graph as Topology, node_count};
 ghost use Rattle.sr_model.specs.Walk.{Distance};
-ghost use Rattle.sr_spf.specs.Hops.{AreNextHops};
+ghost use Rattle.sr_spf.specs.Hops.{AreNextHops, AreHopsFrom};
 ghost use Rattle.sr_spf.specs.Trees.{AreTrees, AreRows, AreHops, row_at, cell_at, hops_at, lists_at, tree_count, distance_of};
 
 use crate::cells::Row;
-use crate::dijkstra::row_by;
 use crate::hops::{HopTable, hops_of};
+use crate::rows::rows_of;
 use crate::steps::Steps;
+use rayon::prelude::*;
 use sr_graph::Graph;
 use sr_model::{FAR, LinkNo, NodeNo};
 use std::alloc::{AllocError, Global};
-use std::collections::BinaryHeap;
 use std::marker::Model;
 use std::sync::ledger::Ledger;
+use std::thread::Threads;
+
+/// Half as many nodes as are worth a thread: one costs more than a few searches.
+pub(crate) const FEW: usize = 16;
 
 /// The shortest-path trees of all nodes of a graph: the distances, and the next hops, between all of them.
 #[derive(Debug, Drop)]
@@ -33,51 +37,38 @@ impl Model for Trees {
     ghost invariant = { λ a. IsWhole (record { rows = a.rows.items; hops = a.hops.items }) };
 }
 
-/// The distances from each node. One search is counted for each node.
-fn rows_of<L: Ledger>(
+/// The next hops from each node, in threads where there are any.
+fn hops_of_all(
+    rt: &(impl Threads + Sync),
     alloc: Global,
     graph: &Graph,
-    steps: &mut Steps<L>,
-) -> Result<Vec<Row>, AllocError>
-    ensures rows { IfOk result (λ rows. AreRows graph.now rows.items (node_count graph.now)) }
-    ensures steps { OnOk result (steps.new ≡ steps.old + node_count graph.now) }
-    ensures most { steps.new ≤ steps.old + node_count graph.now }
-{
-    let count = graph.node_count();
-    let nothing = graph.nothing(alloc)?;
-    let mut queue = BinaryHeap::new(alloc);
-    let mut rows = Vec::with_capacity(alloc, count as usize)?;
-    for node in 0..count {
-        let row = row_by(
-            alloc,
-            graph,
-            &nothing,
-            NodeNo(node as u16),
-            &mut queue,
-            steps,
-        )?;
-        rows.push(row)?;
-    }
-    Ok(rows)
-}
-
-/// The next hops from each node.
-fn hops_of_all(alloc: Global, graph: &Graph, rows: &[Row]) -> Result<Vec<HopTable>, AllocError>
+    rows: &[Row],
+) -> Result<Vec<HopTable>, AllocError>
     requires { AreRows graph.now rows.now (node_count graph.now) }
     ensures { IfOk result (λ hops. AreHops graph.now hops.items (node_count graph.now)) }
 {
-    let count = graph.node_count();
-    let mut hops = Vec::with_capacity(alloc, count as usize)?;
-    for node in 0..count {
-        let table = hops_of(alloc, graph, rows, NodeNo(node as u16))?;
-        hops.push(table)?;
+    let collected = (0..graph.node_count())
+        .into_par_iter()
+        .with_min_len(FEW)
+        .map(
+            |node: u32| -> Result<HopTable, AllocError>
+                requires rows { AreRows graph.now rows.now (node_count graph.now) }
+                requires node { node < node_count graph.now }
+                ensures { IfOk result (AreHopsFrom graph.entry.now node) }
+            { hops_of(alloc, graph, rows, NodeNo(node as u16)) },
+        )
+        .collect::<Result<Vec<HopTable>, AllocError>>(rt, alloc);
+    match collected {
+        Ok(hops) => hops,
+        Err(refused) => Err(refused),
     }
-    Ok(hops)
 }
 
 impl Trees {
-    /// The distances and next hops from each node of the graph. One search is counted for each node.
+    /// The distances and next hops from each node of the graph. One search is counted for each node. The nodes are split
+    /// among threads where there are any.
     pub fn build<L: Ledger>(
+        rt: &(impl Threads + Sync),
         alloc: Global,
         graph: &Graph,
         steps: &mut Steps<L>,
@@ -86,8 +77,8 @@ impl Trees {
         ensures steps { OnOk result (steps.new ≡ steps.old + node_count graph.now) }
         ensures most { steps.new ≤ steps.old + node_count graph.now }
     {
-        let rows = rows_of(alloc, graph, steps)?;
-        let hops = hops_of_all(alloc, graph, &rows)?;
+        let rows = rows_of(rt, alloc, graph, steps)?;
+        let hops = hops_of_all(rt, alloc, graph, &rows)?;
         Ok(Trees { rows, hops })
     }
 

@@ -1,0 +1,120 @@
+//! The distances from each node in the whole graph, in threads.
+ghost use Rattle.std.specs.Prelude.{◌≡◌, ◌+◌, ◌<◌, ◌≤◌, [], length, IfOk, OnOk};
+ghost use Rattle.sr_model.specs.Graph.{node_count};
+ghost use Rattle.sr_model.specs.Walk.{IsRow};
+ghost use Rattle.sr_spf.specs.Trees.{AreRows};
+ghost use Rattle.sr_spf.specs.Rows.{rows_in};
+
+use crate::cells::Row;
+use crate::dijkstra::row;
+use crate::steps::{Searched, Steps};
+use crate::trees::FEW;
+use rayon::prelude::*;
+use sr_graph::{Graph, LinkSet};
+use sr_model::NodeNo;
+use std::alloc::{AllocError, Global};
+use std::marker::Brand;
+use std::sync::ledger::{Blank, Ledger};
+use std::thread::Threads;
+
+/// The distances from one node, and that the search for them was counted.
+#[derive(Drop)]
+pub(crate) struct Counted {
+    pub(crate) row: Row,
+    pub(crate) searched: Searched,
+}
+
+/// The distances from the node in the whole graph, counted from nothing. `nothing` is the set of no links.
+fn measured_from<L: Ledger>(
+    alloc: Global,
+    graph: &Graph,
+    nothing: &LinkSet,
+    node: NodeNo,
+    blank: Blank,
+) -> Result<Counted, AllocError>
+    requires name { blank.name ≡ L.name }
+    requires parts { (blank.parts ≡ L.parts) × (0 < L.parts) }
+    requires nothing { nothing.now ≡ [] }
+    requires node { node.0 < node_count graph.now }
+    ensures { IfOk result (λ c. IsRow graph.now [] node.0 c.row) }
+{
+    let mut steps = Steps::<L>::new(blank);
+    let row = row(alloc, graph, nothing, node, &mut steps)?;
+    let searched = steps.give_up();
+    Ok(Counted { row, searched })
+}
+
+/// The distances from the node in the whole graph, by a counter of their own.
+fn measured(
+    alloc: Global,
+    graph: &Graph,
+    nothing: &LinkSet,
+    node: NodeNo,
+) -> Result<Counted, AllocError>
+    requires nothing { nothing.now ≡ [] }
+    requires node { node.0 < node_count graph.now }
+    ensures { IfOk result (λ c. IsRow graph.now [] node.0 c.row) }
+{
+    measured_from::<Brand>(alloc, graph, nothing, node, Blank::new(1))
+}
+
+/// The distances from each node, by number. The nodes are split among threads where there are any.
+fn all_counted(
+    rt: &(impl Threads + Sync),
+    alloc: Global,
+    graph: &Graph,
+) -> Result<Vec<Counted>, AllocError>
+    ensures { IfOk result (λ all. AreRows graph.now (rows_in all.items) (node_count graph.now)) }
+{
+    let nothing = graph.nothing(alloc)?;
+    let collected = (0..graph.node_count())
+        .into_par_iter()
+        .with_min_len(FEW)
+        .map(
+            |node: u32| -> Result<Counted, AllocError>
+                requires nothing { nothing ≡ [] }
+                requires few { node_count graph.now ≤ 256 }
+                requires node { node < node_count graph.now }
+                ensures { IfOk result (λ c. IsRow graph.entry.now [] node c.row) }
+            { measured(alloc, graph, &nothing, NodeNo(node as u16)) },
+        )
+        .collect::<Result<Vec<Counted>, AllocError>>(rt, alloc);
+    match collected {
+        Ok(all) => all,
+        Err(refused) => Err(refused),
+    }
+}
+
+/// The distances alone. The search for each is taken in.
+fn all_taken_in<L: Ledger>(
+    alloc: Global,
+    all: Vec<Counted>,
+    steps: &mut Steps<L>,
+) -> Result<Vec<Row>, AllocError>
+    ensures rows { IfOk result (λ rows. rows.items ≡ rows_in all.items) }
+    ensures steps { OnOk result (steps.new ≡ steps.old + length all.items) }
+    ensures most { steps.new ≤ steps.old + length all.items }
+{
+    let mut rows = Vec::with_capacity(alloc, all.len())?;
+    for one in all {
+        let Counted { row, searched } = one;
+        steps.take_in(searched);
+        rows.push(row)?;
+    }
+    Ok(rows)
+}
+
+/// The distances from each node, in threads where there are any. One search is counted for each node.
+pub(crate) fn rows_of<L: Ledger>(
+    rt: &(impl Threads + Sync),
+    alloc: Global,
+    graph: &Graph,
+    steps: &mut Steps<L>,
+) -> Result<Vec<Row>, AllocError>
+    ensures rows { IfOk result (λ rows. AreRows graph.now rows.items (node_count graph.now)) }
+    ensures steps { OnOk result (steps.new ≡ steps.old + node_count graph.now) }
+    ensures most { steps.new ≤ steps.old + node_count graph.now }
+{
+    let all = all_counted(rt, alloc, graph)?;
+    all_taken_in(alloc, all, steps)
+}
