@@ -1,6 +1,5 @@
 pub mod PlaceLemmas
 pub mod KindLemmas
 pub mod KeptLemmas
-pub mod CollectLemmas
 pub mod StackLemmas
 pub mod DeliveryLemmas

@@ -1,14 +1,13 @@
 -- The places and slots of cases, and what stands in these.
-use Rattle.std.proofs.Common.{◌≡◌, ℕ, ◌+◌, ◌*◌, ◌<◌, List, length, get_or, refl, arith, sym, ◌∙◌, subst}
+use Rattle.std.proofs.Common.{◌≡◌, ℕ, ◌+◌, ◌*◌, ◌<◌, List, refl, arith, sym, ◌∙◌, subst}
 use Rattle.std.specs.List.{AllZip, range_with_len}
-use Rattle.std.proofs.lemmas.List.FromFn.{get_or-range_with_len, length-range_with_len}
 use Rattle.sr_model.specs.declared.case.Case.{Case}
 use Rattle.sr_model.specs.declared.case.Kind.{Kind}
 use Rattle.sr_model.specs.declared.case.Kind.TheVariants.{Link as LinkKind, Node as NodeKind, Risk as RiskKind}
 use Rattle.sr_model.specs.Audit.{rank_of}
 use Rattle.sr_model.specs.Graph.{Graph, link_count}
 use Rattle.sr_model.specs.Case.{IsCase}
-use Rattle.sr_graph.proofs.ZipLemmas.{zip-length, zip-at}
+use Rattle.sr_spf.proofs.CollectLemmas.{in_order}
 use Rattle.sr_repair.specs.Answers.{place_of, slot_of, BelongsIn, StandInSlots}
 
 -- a rank and a number below k are told from the place of both
@@ -52,11 +51,6 @@ belongs-in g Belongs case i x at here other within there = subst (λ k. Belongs 
 
 -- what comes from the slots below m one by one stands there
 pub all-zipped : {X : Type 0} (default : X) (g : Graph) (Belongs : Case → X → Type 0) (m : ℕ) (all : List X) → AllZip (BelongsIn g Belongs) (range_with_len 0 m) all → StandInSlots default g Belongs m all
-all-zipped {X} default g Belongs m all zip = record {
-  long = zip-length (BelongsIn g Belongs) (range_with_len 0 m) all zip ∙ length-range_with_len 0 m;
-  each = λ case within lt.
-      let some : slot_of case < length (range_with_len 0 m) = omega (arith, length-range_with_len 0 m) in
-      let here = zip-at (BelongsIn g Belongs) (range_with_len 0 m) all (slot_of case) 0 default zip some in
-      let from : get_or (range_with_len 0 m) (slot_of case) 0 ≡ slot_of case = omega (arith, get_or-range_with_len 0 m (slot_of case) 0 lt) in
-      here case within (sym from);
-}
+all-zipped default g Belongs m all zip =
+    let here = in_order (BelongsIn g Belongs) m all default zip in
+    record { long = here.0; each = λ case within lt. here.1 (slot_of case) lt case within refl }

@@ -105,7 +105,7 @@ impl Version {
         ensures version { IfOk result (λ v. v ≡ version_of number net) }
         ensures most { steps.new ≤ steps.old + node_count net.graph + 3 * link_count net.graph }
     {
-        let trees = Trees::build(alloc, net.graph(), steps)?;
+        let trees = Trees::build(rt, alloc, net.graph(), steps)?;
         let Made { fib, found } = made_of(rt, alloc, &net, &trees, steps)?;
         Ok(Version {
             number,

@@ -5,7 +5,7 @@ use Rattle.std.proofs.lemmas.Result.{IfOk-weaker}
 use Rattle.rayon.proofs.ToStd.{nat_range-All}
 use Rattle.sr_model.specs.declared.audit.Item.{Item}
 use Rattle.sr_repair.specs.Answers.{case_count}
-use Rattle.sr_repair.proofs.CollectLemmas.{collected}
+use Rattle.sr_spf.proofs.CollectLemmas.{collected}
 use Rattle.sr_audit.specs.Cases.{IsAuditAt}
 use Rattle.sr_audit.proofs.JoinLemmas.{few-joined}
 use Rattle.sr_audit.proofs.audits.all_items.Goals as goal

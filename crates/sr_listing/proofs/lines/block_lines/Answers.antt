@@ -2,7 +2,7 @@ use Rattle.std.proofs.Common.{ℕ, ◌<◌, ◌-◌, arith}
 use Rattle.std.specs.List.{range_with_len}
 use Rattle.rayon.proofs.ToStd.{nat_range-All}
 use Rattle.sr_repair.specs.Answers.{case_count}
-use Rattle.sr_repair.proofs.CollectLemmas.{collected}
+use Rattle.sr_spf.proofs.CollectLemmas.{collected}
 use Rattle.sr_listing.specs.Listed.{AreLinesAt}
 use Rattle.sr_listing.proofs.lines.block_lines.Goals as goal
 

@@ -4,7 +4,7 @@ use Rattle.std.proofs.lemmas.Result.{IfOk-weaker}
 use Rattle.std.specs.List.{range_with_len}
 use Rattle.rayon.proofs.ToStd.{nat_range-All}
 use Rattle.sr_repair.specs.Answers.{case_count, IsPassed, IsPassedIn}
-use Rattle.sr_repair.proofs.CollectLemmas.{collected}
+use Rattle.sr_spf.proofs.CollectLemmas.{collected}
 use Rattle.sr_repair.proofs.PlaceLemmas.{all-zipped}
 use Rattle.sr_repair.proofs.passes.all_passed.Goals as goal
 
