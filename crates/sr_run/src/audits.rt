@@ -8,7 +8,6 @@ use sr_audit::counts;
 use sr_listing::put_audit;
 use sr_print::{Refusal, put_summary};
 use std::alloc::AllocError;
-use std::thread::Threads;
 
 impl DomainSession {
     /// Carries out `audit`.
@@ -25,12 +24,7 @@ impl DomainSession {
     }
 
     /// Carries out `audit full`.
-    pub(crate) fn audit_whole(
-        &self,
-        rt: &(impl Threads + Sync),
-        number: u32,
-        out: &mut Vec<u8>,
-    ) -> Result<bool, AllocError>
+    pub(crate) fn audit_whole(&self, number: u32, out: &mut Vec<u8>) -> Result<bool, AllocError>
         ensures { IfOk result (λ refused.
             IsCarriedOut AuditFull number self.now out.old.items out.new.items refused self.now) }
     {
@@ -38,7 +32,7 @@ impl DomainSession {
             Some(version) => version,
             None => return DomainSession::refuse(number, &Refusal::NoVersion, out),
         };
-        put_audit(rt, self.alloc, version, out)?;
+        put_audit(self.alloc, version, out)?;
         put_summary(version.number(), counts(version), out)?;
         Ok(false)
     }

@@ -135,7 +135,7 @@ impl DomainSession {
                 choice,
             } => self.walk_repair(number, kind, from, to, n, dest, choice, out),
             Command::Audit => self.sum_up(number, out),
-            Command::AuditFull => self.audit_whole(rt, number, out),
+            Command::AuditFull => self.audit_whole(number, out),
             Command::Show => self.show(number, out),
             _ => DomainSession::refuse(number, &Refusal::NotBuilt, out),
         }
