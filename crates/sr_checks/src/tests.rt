@@ -1,6 +1,7 @@
 //! Whole runs of the program, over the sources and sinks in memory.
 
 mod audits;
+mod calls;
 mod cases;
 mod devices;
 mod domains;
@@ -9,8 +10,10 @@ mod field;
 mod flooded;
 mod limits;
 mod pairs;
+mod remains;
 mod rings;
 mod routers;
+mod versions;
 
 use audits::AUDITS;
 use cases::{CASES, Case};
