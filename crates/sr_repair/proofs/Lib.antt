@@ -1,4 +1,5 @@
 pub mod PlaceLemmas
+pub mod PassedLemmas
 pub mod KindLemmas
 pub mod KeptLemmas
 pub mod StackLemmas

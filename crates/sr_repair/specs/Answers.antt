@@ -1,5 +1,6 @@
 -- The answers of all cases.
 use Rattle.std.specs.Prelude.{◌≡◌, ℕ, ◌+◌, ◌*◌, ◌<◌, List, [], ◌∷◌, length, slice_index_or}
+use Rattle.std.specs.List.{AllZip, range_with_len}
 use Rattle.sr_model.specs.declared.case.Case.{Case}
 use Rattle.sr_model.specs.declared.case.Kind.TheVariants.{Link as LinkKind}
 use Rattle.sr_model.specs.Audit.{rank_of}
@@ -51,6 +52,10 @@ IsPassed n case (Listed list search) = AreAnswers n case list
 -- what the pass over the case in slot i gives
 abbrev pub IsPassedIn : Net → ℕ → Passed → Type 0
 IsPassedIn n = BelongsIn n.graph (IsPassed n)
+
+-- what the passes over the cases in k slots from m on give, one by one
+abbrev pub ArePassedFrom : Net → ℕ → ℕ → List Passed → Type 0
+ArePassedFrom n m k all = AllZip (IsPassedIn n) (range_with_len m k) all
 
 -- what the passes over the cases in the first m slots give
 abbrev pub AreAllPassed : Net → ℕ → List Passed → Type 0
