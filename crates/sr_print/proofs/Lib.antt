@@ -1,4 +1,5 @@
 pub mod Appended
+pub mod Digits
 pub mod Items
 pub mod Labelled
 pub mod Members
