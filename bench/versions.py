@@ -4,8 +4,8 @@
 usage: versions.py PROGRAM SCRIPT [SCRIPT ..]
 
 PROGRAM is the built program. Each SCRIPT has a domain's `lsp` lines, a commit, and edits with their commits. Measured are
-the first commit, `audit` and `audit full` after it, each over what goes before, and the edits with their commits and
-questions. Where the variable PEER names a second implementation's program, which tells the times of its phases with
+the first commit, until its answer is there, `audit` and `audit full` after it, each over what goes before, and the edits
+with their commits and questions. Where the variable PEER names a second implementation's program, which tells the times of its phases with
 `--time`, its times for distances and cases, for printing, and for the edits stand beside, on one processor and on all, with
 the ratios. The least time of several runs counts. Overload bits are cleared, since a commit refuses them.
 """
@@ -15,6 +15,7 @@ import pathlib
 import re
 import subprocess
 import sys
+import tempfile
 import time
 
 RUNS = 9
@@ -39,6 +40,22 @@ def milliseconds(command, lines, runs=RUNS):
     return least
 
 
+def milliseconds_to_answers(command, lines):
+    """How long it takes until all answers are there, without the end of the program, which gives its memory back."""
+    text = "".join(line + "\n" for line in lines).encode()
+    wanted = len(subprocess.run(command, input=text, stdout=subprocess.PIPE, stderr=subprocess.DEVNULL, check=False).stdout)
+    least = float("inf")
+    with tempfile.TemporaryFile() as script:
+        script.write(text)
+        for _ in range(RUNS):
+            script.seek(0)
+            start = time.perf_counter()
+            with subprocess.Popen(command, stdin=script, stdout=subprocess.PIPE, stderr=subprocess.DEVNULL) as run:
+                run.stdout.read(wanted)
+                least = min(least, 1000 * (time.perf_counter() - start))
+    return least
+
+
 class Program:
     """The built program, run on as many processors as are asked for."""
 
@@ -46,12 +63,13 @@ class Program:
         self.command = [*(ONE_PROCESSOR if processors == 1 else []), path, "run"]
 
     def times(self, opening, edits):
-        read = milliseconds(self.command, opening)
+        read = milliseconds_to_answers(self.command, opening)
+        answered = milliseconds_to_answers(self.command, opening + ["commit"])
         commit = milliseconds(self.command, opening + ["commit"])
         audit = milliseconds(self.command, opening + ["commit", "audit"])
         full = milliseconds(self.command, opening + ["commit", "audit full"])
         churn = milliseconds(self.command, opening + ["commit"] + edits, runs=2)
-        return {"commit": commit - read, "audit": audit - commit, "printing": full - commit, "edits": churn - commit}
+        return {"commit": answered - read, "audit": audit - commit, "printing": full - commit, "edits": churn - commit}
 
 
 class Peer:
