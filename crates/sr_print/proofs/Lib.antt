@@ -1,5 +1,4 @@
 pub mod Appended
-pub mod Digits
 pub mod Items
 pub mod Labelled
 pub mod Members

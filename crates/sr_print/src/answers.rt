@@ -24,6 +24,25 @@ use sr_model::{Answer, Case, LinkNo, NodeNo, RepairList, Segment};
 use sr_repair::{label_left, node_label, segment_end, segment_label};
 use std::alloc::AllocError;
 
+/// Appends `node:NODE` or `adj:LINK` as one more word. After an error a part of it may stand there;
+/// what stood before stays.
+fn put_named(names: &Names, segment: Segment, out: &mut Vec<u8>) -> Result<(), AllocError>
+    requires { HasText names.now segment }
+    ensures line { OnOk result (out.new.items ≡ out.old.items ++ named_segment names.now segment) }
+    ensures err { OnErr result (BeginsWith out.old.items out.new.items) }
+{
+    match segment {
+        Segment::Node(node) => {
+            out.extend_from_slice(b" node:")?;
+            out.extend_from_slice(names.node(node))
+        }
+        Segment::Adj(link) => {
+            out.extend_from_slice(b" adj:")?;
+            out.extend_from_slice(names.link(link))
+        }
+    }
+}
+
 /// Appends segments, each as one more word. After an error a part of them may stand there;
 /// what stood before stays.
 fn put_each_named(names: &Names, segments: &[Segment], out: &mut Vec<u8>) -> Result<(), AllocError>
@@ -32,7 +51,7 @@ fn put_each_named(names: &Names, segments: &[Segment], out: &mut Vec<u8>) -> Res
     ensures err { OnErr result (BeginsWith out.old.items out.new.items) }
 {
     for segment in segments {
-        out.extend_from_slice(names.segment(*segment))?;
+        put_named(names, *segment, out)?;
     }
     Ok(())
 }
@@ -121,7 +140,8 @@ fn put_least(
     ensures line { OnOk result (PutsAnswer net.now d.0 (Least list.now) out.old.items out.new.items) }
     ensures err { OnErr result (BeginsWith out.old.items out.new.items) }
 {
-    out.extend_from_slice(names.way(list.first))?;
+    out.extend_from_slice(b" via ")?;
+    out.extend_from_slice(names.link(list.first))?;
     put_route(net, names, list.first, list.segments.list(), d, out)?;
     put_numbered(b" cost ", list.cost, out)
 }

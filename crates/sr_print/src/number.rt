@@ -2,7 +2,7 @@
 ghost use Rattle.std.specs.Prelude.{◌≡◌, ◌++◌, decimal, OnOk, OnErr};
 ghost use Rattle.sr_print.specs.Printed.{BeginsWith, node_word, word};
 
-use itoa::{Buffer, write_digits};
+use itoa::Buffer;
 use sr_model::SystemId;
 use std::alloc::AllocError;
 
@@ -15,15 +15,14 @@ pub fn put_number(number: u64, out: &mut Vec<u8>) -> Result<(), AllocError>
     out.extend_from_slice(buffer.format(number).as_bytes())
 }
 
-/// Appends a number as one more word. After an error what stood before stays.
+/// Appends a number as one more word. After an error a part of it may stand there;
+/// what stood before stays.
 pub fn put_value(number: u64, out: &mut Vec<u8>) -> Result<(), AllocError>
     ensures line { OnOk result (out.new.items ≡ out.old.items ++ word (decimal number)) }
     ensures err { OnErr result (BeginsWith out.old.items out.new.items) }
 {
-    // A blank, and before the end room for the digits of the greatest number.
-    let mut text = [b' '; 21];
-    let start = write_digits(number, &mut text, 21);
-    out.extend_from_slice(&text[start - 1..])
+    out.push(b' ')?;
+    put_number(number, out)
 }
 
 /// Appends a node's name as one more word. After an error a part of it may stand there;

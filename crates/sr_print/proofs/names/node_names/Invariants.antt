@@ -1,7 +1,6 @@
 -- the names of the nodes so far
-use Rattle.std.proofs.Common.{◌++◌}
 use Rattle.sr_print.specs.Names.{AreTexts, node_text}
 use Rattle.sr_print.proofs.names.node_names.Given as goal
 
 abbrev pub invariant-loop-node : goal.invariant-loop-node
-invariant-loop-node l = AreTexts (λ i. l.before ++ node_text l.net i) l.node l.names.items
+invariant-loop-node l = AreTexts (node_text l.net) l.node l.names.items
