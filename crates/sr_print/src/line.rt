@@ -8,6 +8,7 @@ use std::alloc::AllocError;
 
 /// Appends a text and a number behind it.
 /// After an error a part of them may stand there; what stood before stays.
+#[inline(always)]
 pub(crate) fn put_numbered(text: &[u8], number: u64, out: &mut Vec<u8>) -> Result<(), AllocError>
     ensures line { OnOk result (out.new.items ≡ out.old.items ++ numbered text.now number) }
     ensures err { OnErr result (BeginsWith out.old.items out.new.items) }

@@ -7,6 +7,8 @@ use sr_model::SystemId;
 use std::alloc::AllocError;
 
 /// Appends a number in decimal digits. After an error what stood before stays.
+// An audit prints up to two million numbers, which take less time without a call for each.
+#[inline(always)]
 pub fn put_number(number: u64, out: &mut Vec<u8>) -> Result<(), AllocError>
     ensures line { OnOk result (out.new.items ≡ out.old.items ++ decimal number) }
     ensures err { OnErr result (BeginsWith out.old.items out.new.items) }
@@ -17,6 +19,7 @@ pub fn put_number(number: u64, out: &mut Vec<u8>) -> Result<(), AllocError>
 
 /// Appends a number as one more word. After an error a part of it may stand there;
 /// what stood before stays.
+#[inline(always)]
 pub fn put_value(number: u64, out: &mut Vec<u8>) -> Result<(), AllocError>
     ensures line { OnOk result (out.new.items ≡ out.old.items ++ word (decimal number)) }
     ensures err { OnErr result (BeginsWith out.old.items out.new.items) }
