@@ -1,13 +1,14 @@
 #!/usr/bin/env python3
-"""Measures what commits and audits of a domain take, on one processor and on all.
+"""Measures what commits and audits of a domain take, on one processor, on two and on all.
 
 usage: versions.py PROGRAM SCRIPT [SCRIPT ..]
 
 PROGRAM is the built program. Each SCRIPT has a domain's `lsp` lines, a commit, and edits with their commits. Measured are
 the first commit, until its answer is there, `audit` and `audit full` after it, each over what goes before, and the edits
-with their commits and questions. Where the variable PEER names a second implementation's program, which tells the times of its phases with
-`--time`, its times for distances and cases, for printing, and for the edits stand beside, on one processor and on all, with
-the ratios. The least time of several runs counts. Overload bits are cleared, since a commit refuses them.
+with their commits and questions. Where the variable PEER names a second implementation's program, which tells the times
+of its phases with `--time`, its times for distances and cases, for printing, and for the edits stand beside, on as many
+processors, with the ratios. The least time of several runs counts, of as many as the variable RUNS says (9 if it says
+nothing). Overload bits are cleared, since a commit refuses them.
 """
 
 import os
@@ -18,9 +19,8 @@ import sys
 import tempfile
 import time
 
-RUNS = 9
+RUNS = int(os.environ.get("RUNS", "9"))
 OVERLOAD = 0x04
-ONE_PROCESSOR = ["taskset", "-c", "0"]
 
 
 def cleared(line):
@@ -28,6 +28,11 @@ def cleared(line):
     octets = bytearray(bytes.fromhex(line.split()[1]))
     octets[26] &= ~OVERLOAD
     return f"lsp {octets.hex()}"
+
+
+def on(processors):
+    """The words before a command that is to run on so many processors; none where it may run on all."""
+    return ["taskset", "-c", ",".join(map(str, range(processors)))] if processors else []
 
 
 def milliseconds(command, lines, runs=RUNS):
@@ -60,7 +65,7 @@ class Program:
     """The built program, run on as many processors as are asked for."""
 
     def __init__(self, path, processors):
-        self.command = [*(ONE_PROCESSOR if processors == 1 else []), path, "run"]
+        self.command = [*on(processors), path, "run"]
 
     def times(self, opening, edits):
         read = milliseconds_to_answers(self.command, opening)
@@ -77,7 +82,7 @@ class Peer:
 
     def __init__(self, path, processors):
         threads = ["--threads", str(processors)] if processors else []
-        self.command = [*(ONE_PROCESSOR if processors == 1 else []), path, "run", "--rules", "base", "--eager", *threads, "--time"]
+        self.command = [*on(processors), path, "run", "--rules", "base", "--eager", *threads, "--time"]
 
     def phases(self, lines):
         text = "".join(line + "\n" for line in lines).encode()
@@ -108,10 +113,10 @@ def measure(program, script):
     first = lines.index("commit")
     opening, edits = lines[:first], [line for line in lines[first + 1 :] if not line.startswith("audit")]
     peer = os.environ.get("PEER")
-    for processors in (1, None):
+    for processors in (1, 2, None):
         mine = Program(program, processors).times(opening, edits)
         theirs = Peer(peer, processors).times(opening, edits) if peer else {}
-        where = "one processor" if processors else "all"
+        where = f"processors {processors or 'all'}"
         print(f"{script.stem}, {where}: " + ", ".join(shown(name, mine, theirs) for name in mine) + " ms", flush=True)
 
 
