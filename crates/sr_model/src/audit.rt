@@ -39,10 +39,10 @@ impl Stack {
 /// One line of an audit: the case, the destination, the answer, and the labels that go on the packet on the first link,
 /// none where the answer isn't a list.
 #[derive(Debug, Drop)]
-pub struct Item {
+pub struct Item<'a> {
     pub case: Case,
     pub dest: NodeNo,
-    pub answer: Answer,
+    pub answer: Answer<'a>,
     pub labels: Stack,
 }
 
