@@ -12,20 +12,12 @@ use Rattle.sr_walks.proofs.Walks.{IsWalk-append}
 use Rattle.sr_walks.proofs.Distances.{distance-unique}
 use Rattle.sr_laws.proofs.Order.{push, PathLe-push, PathLe-trans}
 use Rattle.sr_laws.proofs.Waypoints.{Routes, IsRouted, routed-from_sound, last-walk}
-use Rattle.sr_laws.proofs.Exact.{IsExact, Knows, Serves, exact-before, exact-from_routed, sound-from_serves}
+use Rattle.sr_laws.proofs.Exact.{IsExact, Knows, Serves, snoc_cases, exact-before, exact-from_routed, sound-from_serves}
 use Rattle.sr_encode.specs.declared.waypoint.Waypoint.{Waypoint}
 use Rattle.sr_encode.specs.Waypoints.{node_at, path_to}
 use Rattle.sr_encode.specs.Search.{StepsTo, IsSearch, IsSearching}
 use Rattle.sr_encode.specs.Serve.{EndsAt, NoneEnds, IsFirstLeast}
 use Rattle.sr_encode.proofs.SearchLemmas.{segment_key, row-distance, row-exact, step-from_exact, leads-within}
-
-snoc_cases : (ss : List Segment) → (ss ≡ []) ⊎ ((init : List Segment) × (last : Segment) × (ss ≡ init ++ last ∷ []))
-snoc_cases [] = inl refl
-snoc_cases (s ∷ ss) =
-    ⊎_elim
-    (λ e. inr ([], s, ap (λ k. s ∷ k) e))
-    (λ r. inr (s ∷ r.0, r.1, ap (λ k. s ∷ k) r.2))
-    (snoc_cases ss)
 
 -- the list of this first link and these segments
 abbrev list : ℕ → List Segment → Path

@@ -1,11 +1,10 @@
 //! The graph: how it is built, and what it answers.
-ghost use Rattle.std.specs.Prelude.{◌≡◌, ◌≢◌, [], ℕ, ◌<◌, ◌≤◌, length, map, IfSome, IfNone, IfOk, IfErr};
+ghost use Rattle.std.specs.Prelude.{◌≡◌, ◌≢◌, [], ℕ, ◌<◌, ◌≤◌, length, IfSome, IfNone, IfOk, IfErr};
 ghost use Rattle.sr_model.specs.declared.link.NodeNo.{NodeNo as Node};
 ghost use Rattle.sr_model.specs.declared.link.LinkNo.{LinkNo as Number};
 ghost use Rattle.sr_model.specs.Graph.{node_count, link_count, link_at, tail, head, metric, system_at, groups_at, is_overloaded, carries, IsGraph, IsNamed, IsGrouped};
 ghost use Rattle.sr_graph.specs.Draft.{IsDraft, AreSorted, IsAccepted, IsRefusal};
 ghost use Rattle.sr_graph.specs.Built.{IsBuilt};
-ghost use Rattle.sr_graph.specs.Edges.{edge_of};
 ghost use Rattle.sr_graph.specs.Ranges.{HoldsLinks, EndAt};
 
 use crate::draft::{Draft, DraftLink, Groups};
@@ -141,14 +140,6 @@ impl Graph {
         ensures graph { IsGraph self.now }
     {
         self.edges[link.0 as usize]
-    }
-
-    /// The edges of all links, in order of link number.
-    pub fn edges(&self) -> &[Edge]
-        ensures edges { result.now ≡ map edge_of self.now.links }
-        ensures graph { IsGraph self.now }
-    {
-        &self.edges
     }
 
     /// The shared-risk groups of the link, ascending.

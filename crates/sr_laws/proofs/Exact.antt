@@ -118,7 +118,8 @@ pub record IsClosed (n : Net) (x : List Bool) (s : ℕ) (known : List (Option Pa
   pub starts : (w first : ℕ) → IsExact n x s w (record { first = first; segments = [] }) → (a : Path) × Knows known w a × PathLe a (record { first = first; segments = [] })
   pub goes_on : (w v e : ℕ) (a : Path) (t : Segment) (k : Knows known w a) → Routes n x w (t ∷ []) v e → IsDistance n.graph x s v (metric n.graph a.first + (exact w a k).middle + e) → (b : Path) × Knows known v b × PathLe b (push a t)
 
-snoc_cases : (ss : List Segment) → (ss ≡ []) ⊎ ((init : List Segment) × (last : Segment) × (ss ≡ init ++ last ∷ []))
+-- a list of segments is empty or has a last one
+pub snoc_cases : (ss : List Segment) → (ss ≡ []) ⊎ ((init : List Segment) × (last : Segment) × (ss ≡ init ++ last ∷ []))
 snoc_cases [] = inl refl
 snoc_cases (s ∷ ss) =
     ⊎_elim

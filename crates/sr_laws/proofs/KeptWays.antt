@@ -12,7 +12,7 @@ use Rattle.sr_model.specs.Label.{Labels, Net, labels_at, nameless}
 use Rattle.sr_model.specs.Rule.{IsNet}
 use Rattle.sr_model.specs.Repair.{IsAnswer, IsCaseAnswer}
 use Rattle.sr_model.specs.Stay.{HaveSameName, IsKeptTree, IsKeptCase, case_with, IsSameAnswer}
-use Rattle.sr_walks.proofs.Walks.{cost-append, Begins, begins-self, begins-passes}
+use Rattle.sr_walks.proofs.Walks.{cost-append, walk-end, walk-within, Begins, begins-self, begins-passes}
 use Rattle.sr_walks.proofs.Distances.{shortest-cut, distance-from_shortest}
 use Rattle.sr_walks.proofs.Rows.{agree-sym}
 use Rattle.sr_laws.proofs.Keys.{nodes-same, name-ends}
@@ -35,16 +35,6 @@ pub answer-there : (n m : Net) → IsNet n → IsNet m → (case : Case) → (c 
 answer-there n m nn nm case c d within af a old =
     let r = answer-kept n m case nn nm c d within af a (subst (λ j. IsAnswer n j (tail n.graph case.link.0) d a) (failed-one n.graph case old.failed c.x old.set c.failed) old.answers) in
     (r.0, r.1)
-
--- a walk has one end
-walk-end : (g : Graph) (x : List Bool) (u : ℕ) (p : List ℕ) (v w : ℕ) → IsWalk g x u p v → IsWalk g x u p w → v ≡ w
-walk-end g x u [] v w a b = sym a ∙ b
-walk-end g x u (l ∷ p) v w a b = walk-end g x (head g l) p v w a.3 b.3
-
--- and that is a node
-walk-within : (g : Graph) (x : List Bool) (u : ℕ) (p : List ℕ) (v : ℕ) → IsGraph g → u < node_count g → IsWalk g x u p v → v < node_count g
-walk-within g x u [] v graph at a = rw (← a) at
-walk-within g x u (l ∷ p) v graph at a = walk-within g x (head g l) p v graph ((graph.each l a.0).1) a.3
 
 -- what has an index is a node
 index-within : (n : Net) (d : ℕ) → IsNet n → is_some (labels_at n d).index ≡ true → d < node_count n.graph

@@ -5,15 +5,9 @@ use Rattle.std.proofs.lemmas.Bool.{cases_lt}
 use Rattle.sr_model.specs.Graph.{Graph, IsGraph, IsLink, carries, has, head, link_at, link_count, metric, node_count, tail}
 use Rattle.sr_model.specs.Walk.{IsDistance, IsRow, IsWalk, IsOnWay, Passes, cost}
 use Rattle.sr_model.specs.declared.link.TheConstants.{FAR}
-use Rattle.sr_walks.proofs.Walks.{IsWalk-append, IsWalk-cut, cost-append, carries-cases, Begins, begins-self, begins-passes, stable-cost}
+use Rattle.sr_walks.proofs.Walks.{IsWalk-append, IsWalk-cut, walk-end, walk-within, cost-append, carries-cases, Begins, begins-self, begins-passes, stable-cost}
 use Rattle.sr_walks.proofs.Distances.{distance-unique, distance-self, cell-distance, walk-into, IsShortest-from_cost, distance-from_shortest}
 use Rattle.sr_walks.proofs.Rows.{row-near, row-stable}
-use Rattle.sr_spaces.proofs.AroundLemmas.{walk-end}
-
--- from a node a walk ends at a node
-walk-inside : (g : Graph) (x : List Bool) (u : ℕ) (p : List ℕ) (v : ℕ) → IsGraph g → u < node_count g → IsWalk g x u p v → v < node_count g
-walk-inside g x u [] v graph within a = subst (λ k. k < node_count g) a within
-walk-inside g x u (l ∷ p) v graph within a = let k : IsLink g (link_at g l) = graph.each l a.0 in walk-inside g x (head g l) p v graph k.1 a.3
 
 -- from v a walk leads to d along the row: what it costs is what the cells differ
 pub record IsAlong (g : Graph) (x : List Bool) (s : ℕ) (cells : List ℕ) (v d : ℕ) : Type 0 where
@@ -43,8 +37,8 @@ module _ (g : Graph) (x : List Bool) (s : ℕ) (cells : List ℕ) (graph : IsGra
   -- a node on a shortest walk has its rest along the row
   pub along-from_way : (d v : ℕ) → IsOnWay g x s d v → IsAlong g x s cells v d
   along-from_way d v w =
-      let v_in : v < node_count g = walk-inside g x s w.before v graph inside w.to in
-      let d_in : d < node_count g = walk-inside g x v w.after d graph v_in w.from in
+      let v_in : v < node_count g = walk-within g x s w.before v graph inside w.to in
+      let d_in : d < node_count g = walk-within g x v w.after d graph v_in w.from in
       let v_near : slice_index cells v < FAR = near_walk w.before v v_in w.to in
       let d_near : slice_index cells d < FAR = near_walk (w.before ++ w.after) d d_in w.shortest.0 in
       let whole : slice_index cells d ≡ cost g (w.before ++ w.after) = distance-unique g x s d _ _ ((row.each d d_in).near d_near) (distance-from_shortest g x s d (w.before ++ w.after) w.shortest) in
@@ -71,7 +65,7 @@ module _ (g : Graph) (x : List Bool) (s : ℕ) (cells : List ℕ) (graph : IsGra
 
   pub way-from_along : (d v : ℕ) → v < node_count g → IsAlong g x s cells v d → IsOnWay g x s d v
   way-from_along d v within k =
-      let d_in : d < node_count g = walk-inside g x v k.walk d graph within k.to in
+      let d_in : d < node_count g = walk-within g x v k.walk d graph within k.to in
       let r : (p : List ℕ) × IsWalk g x s p v × (cost g p ≡ slice_index cells v) × IsWalk g x s (p ++ k.walk) d = join_at v within k.walk d k.to k.begins k.near in
       let d_near : slice_index cells d < FAR = near_walk (r.0 ++ k.walk) d d_in r.3 in
       record {

@@ -8,7 +8,7 @@ use Rattle.sr_model.specs.Case.{Touches, IsFailedSet, end_of}
 use Rattle.sr_model.specs.declared.case.Case.{Case}
 use Rattle.sr_model.specs.declared.case.Kind.TheVariants.{Node as NodeKind}
 use Rattle.sr_model.specs.declared.link.TheConstants.{FAR}
-use Rattle.sr_walks.proofs.Walks.{IsWalk-cut, cost-append, carries-same, carries-clear, passes-cases}
+use Rattle.sr_walks.proofs.Walks.{IsWalk-cut, walk-end, cost-append, carries-same, carries-clear, passes-cases}
 use Rattle.sr_walks.proofs.Distances.{cell-distance, distance-from_shortest, distance-self, shortest-cut, sum-from_OnShortest, walk-into, IsShortest-from_cost, InP-from_none, none-from_InP}
 use Rattle.sr_spaces.specs.Failure.{IsAround}
 use Rattle.sr_spaces.proofs.SpaceLemmas.{OnShortest-within}
@@ -17,11 +17,6 @@ use Rattle.sr_spaces.proofs.SpaceLemmas.{OnShortest-within}
 last_link : (g : Graph) (u l : ℕ) (p : List ℕ) (v : ℕ) → IsWalk g [] u (l ∷ p) v → (front : List ℕ) × (k : ℕ) × (l ∷ p ≡ front ++ k ∷ []) × (head g k ≡ v)
 last_link g u l [] v a = ([], l, refl, a.3)
 last_link g u l (m ∷ p) v a = let r = last_link g (head g l) m p v a.3 in (l ∷ r.0, r.1, ap (λ q. l ∷ q) r.2, r.3)
-
--- a walk leads to one node
-pub walk-end : (g : Graph) (x : List Bool) (u : ℕ) (p : List ℕ) (v w : ℕ) → IsWalk g x u p v → IsWalk g x u p w → v ≡ w
-walk-end g x u [] v w a b = sym a ∙ b
-walk-end g x u (l ∷ p) v w a b = walk-end g x (head g l) p v w a.3 b.3
 
 -- a shortest walk between two nodes that comes to f holds a link that begins or ends there
 touching : (g : Graph) (u v f : ℕ) → u ≢ v → (before after : List ℕ) → IsWalk g [] u before f → IsWalk g [] f after v → IsShortest g [] u (before ++ after) v → (l : ℕ) × Touches g l f × OnShortest g [] u v l

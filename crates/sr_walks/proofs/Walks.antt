@@ -3,7 +3,7 @@ use Rattle.std.proofs.Common.{◌≡◌, ℕ, ◌+◌, ◌<◌, ◌≤◌, ◌�
 use Rattle.std.specs.Prelude.{slice_index, ◌==◌, not}
 use Rattle.std.proofs.Common.{eq-eqb}
 use Rattle.std.proofs.lemmas.Bool.{cond_both, eqb-true, not-true}
-use Rattle.sr_model.specs.Graph.{Graph, carries, has, head, is_overloaded, link_count, metric, tail}
+use Rattle.sr_model.specs.Graph.{Graph, IsGraph, carries, has, head, is_overloaded, link_count, metric, node_count, tail}
 use Rattle.sr_model.specs.Walk.{IsWalk, Passes, cost}
 
 -- the test of a node beside an end
@@ -43,6 +43,16 @@ passes-join g x h (l ∷ p) w q a b c = b
 pub IsWalk-append : (g : Graph) (x : List Bool) (u : ℕ) (p : List ℕ) (w : ℕ) (q : List ℕ) (v : ℕ) → IsWalk g x u p w → IsWalk g x w q v → Passes g w q → IsWalk g x u (p ++ q) v
 IsWalk-append g x u [] w q v a b c = rw a b
 IsWalk-append g x u (l ∷ p) w q v a b c = (a.0, a.1, a.2, IsWalk-append g x (head g l) p w q v a.3 b c, passes-join g x (head g l) p w q a.3 a.4 c)
+
+-- a walk has one end
+pub walk-end : (g : Graph) (x : List Bool) (u : ℕ) (p : List ℕ) (v w : ℕ) → IsWalk g x u p v → IsWalk g x u p w → v ≡ w
+walk-end g x u [] v w a b = sym a ∙ b
+walk-end g x u (l ∷ p) v w a b = walk-end g x (head g l) p v w a.3 b.3
+
+-- and that is a node
+pub walk-within : (g : Graph) (x : List Bool) (u : ℕ) (p : List ℕ) (v : ℕ) → IsGraph g → u < node_count g → IsWalk g x u p v → v < node_count g
+walk-within g x u [] v graph at a = rw (← a) at
+walk-within g x u (l ∷ p) v graph at a = walk-within g x (head g l) p v graph ((graph.each l a.0).1) a.3
 
 -- a walk without x is a walk
 pub IsWalk-any : (g : Graph) (x : List Bool) (u : ℕ) (p : List ℕ) (v : ℕ) → IsWalk g x u p v → IsWalk g [] u p v
