@@ -1,5 +1,5 @@
 -- How the answers of a case are gathered, and what a search by destination finds in them.
-use Rattle.std.proofs.Common.{◌≡◌, ◌≢◌, ℕ, ◌+◌, ◌<◌, ◌≤◌, ⊎_elim, Bool, true, false, List, [], ◌∷◌, ◌++◌, length, refl, arith, ap, sym, ◌∙◌, subst, Option, Some, None, Ok, Err}
+use Rattle.std.proofs.Common.{◌≡◌, ◌≢◌, ℕ, ◌+◌, ◌<◌, ◌≤◌, ⊎_elim, ◌-◌, Bool, true, false, List, [], ◌∷◌, ◌++◌, length, take, drop, map, slice_range, get_or, All, refl, arith, ap, sym, ◌∙◌, subst, Option, Some, None, Ok, Err}
 use Rattle.std.specs.Prelude.{is_some}
 use Rattle.std.specs.List.Sorted.{IsBinarySearchResult, IsNonDecreasingBy}
 use Rattle.std.specs.Ordering.{nat_cmp, ordering_index}
@@ -7,15 +7,22 @@ use Rattle.std.proofs.lemmas.Cmp.{ranked}
 use Rattle.std.proofs.lemmas.List.Sorted.{IsNonDecreasingBy-from_default}
 use Rattle.std.proofs.lemmas.Bool.{cases_eq, cases_lt}
 use Rattle.std.proofs.lemmas.Bool.Decides.{nat_tests}
-use Rattle.std.proofs.lemmas.List.{length-append, get_or_push, get_or_append_left, get_or_past}
+use Rattle.std.proofs.lemmas.List.{length-append, length-drop, length-map, get_or-map, get_or_push, get_or_append_left, get_or_past, map-append, drop-append-le, drop_all, take-append-le, take_all}
+use Rattle.std.proofs.lemmas.List.Elements.{All-head, All-tail, All-push, All-weaker}
 use Rattle.sr_model.specs.declared.case.Case.{Case}
 use Rattle.sr_model.specs.declared.link.NodeNo.{NodeNo}
-use Rattle.sr_model.specs.declared.repair.Answer.TheVariants.{NoPath}
+use Rattle.sr_model.specs.declared.repair.Answer.{Answer}
+use Rattle.sr_model.specs.declared.repair.Answer.TheVariants.{Least, NoPath}
+use Rattle.sr_model.specs.declared.repair.Segment.{Segment}
 use Rattle.sr_model.specs.Graph.{node_count}
 use Rattle.sr_model.specs.Label.{Net, Labels, labels_at, nameless}
 use Rattle.sr_model.specs.Case.{IsFailedSet, IsAffected, source_of}
 use Rattle.sr_model.specs.Repair.{IsAnswer, IsCaseAnswer}
 use Rattle.sr_encode.specs.declared.answers.NodeAnswer.{NodeAnswer}
+use Rattle.sr_encode.specs.declared.kept.KeptAnswer.{KeptAnswer}
+use Rattle.sr_encode.specs.declared.kept.KeptAnswer.TheVariants.{Least as KeptLeast, NoPath as KeptNoPath, NoList as KeptNoList, TooDeep as KeptTooDeep}
+use Rattle.sr_encode.specs.declared.kept.Kept.{Kept}
+use Rattle.sr_encode.specs.Kept.{answer_from, entry_from, entries, IsWithin, AreWithin, IsKeptAnswer}
 use Rattle.sr_encode.specs.Serve.{AreNodes}
 use Rattle.sr_encode.specs.Nodes.{listed_at}
 use Rattle.sr_encode.specs.Answered.{entry_at, destination_at, answer_at, AscendByNode, AreAnswers, AreAffected, AreAnswered}
@@ -87,30 +94,87 @@ answers-none n case wanted long r none = record {
   all = λ d is. let q = r.all d (affected-within n case d long is) is in let lt : q.0 < length wanted = q.1 in absurd (omega arith);
 }
 
--- what a search by destination finds
-module _ (list : List NodeAnswer) (up : AscendByNode list) (d : ℕ) where
-  key : NodeAnswer → ℕ
-  key entry = entry.destination.0
+-- what stands for an answer past the end of those that are kept
+abbrev pub no_kept : Kept
+no_kept = record { destination = record { 0 = 0 }; answer = KeptNoPath }
 
-  rises : (i j : ℕ) → i ≤ j → j < length list → destination_at list i ≤ destination_at list j
+-- the answers that are kept, read by place
+pub kept-at : (segments : List Segment) (kept : List Kept) (i : ℕ) → i < length kept → entry_at (entries segments kept) i ≡ entry_from segments (get_or kept i no_kept)
+kept-at segments kept i lt = get_or-map (entry_from segments) kept i no_kept no_entry lt
+
+-- what a search by destination finds
+module _ (segments : List Segment) (kept : List Kept) (up : AscendByNode (entries segments kept)) (d : ℕ) where
+  abbrev node : ℕ → ℕ
+  node i = (get_or kept i no_kept).destination.0
+
+  is-node : (i : ℕ) → i < length kept → destination_at (entries segments kept) i ≡ node i
+  is-node i lt = ap (λ (e : NodeAnswer). e.destination.0) (kept-at segments kept i lt)
+
+  rises : (i j : ℕ) → i ≤ j → j < length kept → node i ≤ node j
   rises i j le within =
       ⊎_elim
-      (λ (same : i ≡ j). let P : ℕ → Type 0 = λ m. destination_at list m ≤ destination_at list j in subst P (sym same) (omega arith))
-      (λ (ne : i ≢ j). let lt : destination_at list i < destination_at list j = up i j (omega arith) within in omega arith)
+      (λ (same : i ≡ j). let P : ℕ → Type 0 = λ m. node m ≤ node j in subst P (sym same) (omega arith))
+      (λ (ne : i ≢ j).
+      let lt : destination_at (entries segments kept) i < destination_at (entries segments kept) j = up i j (omega arith) (omega (arith, within, length-map kept (entry_from segments))) in
+      omega (arith, lt, is-node i (omega arith), is-node j within))
       (cases_eq i j)
 
-  comparisons_rise : IsNonDecreasingBy (λ (x : NodeAnswer). ordering_index (nat_cmp x.destination.0 d)) list
-  comparisons_rise = IsNonDecreasingBy-from_default (λ (x : NodeAnswer). ordering_index (nat_cmp x.destination.0 d)) list no_entry (λ i j le within.
-      let le' : destination_at list i ≤ destination_at list j = rises i j le within in
+  comparisons_rise : IsNonDecreasingBy (λ (x : Kept). ordering_index (nat_cmp x.destination.0 d)) kept
+  comparisons_rise = IsNonDecreasingBy-from_default (λ (x : Kept). ordering_index (nat_cmp x.destination.0 d)) kept no_kept (λ i j le within.
+      let le' : node i ≤ node j = rises i j le within in
       grind (arith, nat_tests))
 
-  pub found-at : (at : ℕ) → IsBinarySearchResult (λ (x : NodeAnswer). nat_cmp x.destination.0 d) list (Ok at) → destination_at list at ≡ d
-  found-at at is = ranked _ d _ (sym (is no_entry))
+  pub found-at : (at : ℕ) → at < length kept → IsBinarySearchResult (λ (x : Kept). nat_cmp x.destination.0 d) kept (Ok at) → destination_at (entries segments kept) at ≡ d
+  found-at at within is = is-node at within ∙ ranked _ d _ (sym (is no_kept))
 
-  pub missed-at : (at : ℕ) → IsBinarySearchResult (λ (x : NodeAnswer). nat_cmp x.destination.0 d) list (Err at) → (i : ℕ) → i < length list → destination_at list i ≢ d
-  missed-at at is i within same =
+  pub missed-at : (at : ℕ) → IsBinarySearchResult (λ (x : Kept). nat_cmp x.destination.0 d) kept (Err at) → (i : ℕ) → i < length (entries segments kept) → destination_at (entries segments kept) i ≢ d
+  missed-at at is i inside same =
+      let within : i < length kept = omega (arith, inside, length-map kept (entry_from segments)) in
+      let here : node i ≡ d = sym (is-node i within) ∙ same in
       let parted = is comparisons_rise in
       ⊎_elim
-      (λ (lt : i < at). let low : destination_at list i < d = ranked _ d _ (sym (parted.0 i no_entry (omega arith) lt)) in omega arith)
-      (λ (ge : at ≤ i). let high : d < destination_at list i = ranked _ d _ (sym (parted.1 i no_entry ge within)) in omega arith)
+      (λ (lt : i < at). let low : node i < d = ranked _ d _ (sym (parted.0 i no_kept (omega arith) lt)) in omega arith)
+      (λ (ge : at ≤ i). let high : d < node i = ranked _ d _ (sym (parted.1 i no_kept ge within)) in omega arith)
       (cases_lt i at)
+
+-- the segments of a list stay where others come behind
+range-kept : (xs ys : List Segment) (a b : ℕ) → a ≤ b → b ≤ length xs → slice_range (xs ++ ys) a b ≡ slice_range xs a b
+range-kept xs ys a b le within =
+    ap (λ l. take (b - a) l) (drop-append-le a xs ys (omega arith))
+    ∙ take-append-le (b - a) (drop a xs) ys (omega (arith, length-drop a xs))
+
+-- what is put behind is read there
+pub range-behind : (xs ys : List Segment) (a b : ℕ) → a ≡ length xs → b ≡ length (xs ++ ys) → slice_range (xs ++ ys) a b ≡ ys
+range-behind xs ys a b begin end =
+    let rest : drop a (xs ++ ys) ≡ ys = drop-append-le a xs ys (omega (arith, begin)) ∙ ap (λ l. l ++ ys) (drop_all a xs (omega (arith, begin))) in
+    ap (λ l. take (b - a) l) rest ∙ take_all (b - a) ys (omega (arith, begin, end, length-append xs ys))
+
+answer-kept : (segments more : List Segment) (kept : KeptAnswer) → IsWithin segments kept → answer_from (segments ++ more) kept ≡ answer_from segments kept
+answer-kept segments more (KeptLeast first cost begin end) within = ap (λ (l : List Segment). Least (record { first = first; segments = l; cost = cost })) (range-kept segments more begin end within.0 within.1)
+answer-kept segments more KeptNoPath within = refl
+answer-kept segments more KeptNoList within = refl
+answer-kept segments more (KeptTooDeep needed) within = refl
+
+within-more : (segments more : List Segment) (kept : KeptAnswer) → IsWithin segments kept → IsWithin (segments ++ more) kept
+within-more segments more (KeptLeast first cost begin end) within = (within.0, omega (arith, within.1, length-append segments more))
+within-more segments more KeptNoPath within = within
+within-more segments more KeptNoList within = within
+within-more segments more (KeptTooDeep needed) within = within
+
+-- and so do all answers
+entries-kept : (segments more : List Segment) (kept : List Kept) → AreWithin segments kept → entries (segments ++ more) kept ≡ entries segments kept
+entries-kept segments more [] within = refl
+entries-kept segments more (k ∷ ks) within =
+    ap (λ (a : Answer). record { destination = k.destination; answer = a } ∷ entries (segments ++ more) ks) (answer-kept segments more k.answer (All-head (λ (o : Kept). IsWithin segments o.answer) k ks within))
+    ∙ ap (λ (l : List NodeAnswer). entry_from segments k ∷ l) (entries-kept segments more ks (All-tail (λ (o : Kept). IsWithin segments o.answer) k ks within))
+
+-- one more is kept, with its segments behind those of the others
+pub kept-push : (n : Net) (x : List Bool) (s : ℕ) (wanted : List NodeNo) (m : ℕ) (before after : List Segment) (list : List Kept) (kept : Kept) → AreAnswered n x s wanted m (entries before list) → AreWithin before list → kept.destination.0 ≡ listed_at wanted m → IsKeptAnswer n x s (listed_at wanted m) before after kept.answer → AreAnswered n x s wanted (m + 1) (entries after (list ++ kept ∷ [])) × AreWithin after (list ++ kept ∷ [])
+kept-push n x s wanted m before after list kept answered within node k =
+    let same : entries after list ≡ entries before list = ap (λ l. entries l list) k.added ∙ entries-kept before k.more list within in
+    let joined : entries after (list ++ kept ∷ []) ≡ entries before list ++ entry_from after kept ∷ [] = map-append (entry_from after) list (kept ∷ []) ∙ ap (λ l. l ++ entry_from after kept ∷ []) same in
+    let others : AreWithin after list = subst (λ l. AreWithin l list) (sym k.added) (All-weaker (λ (o : Kept). IsWithin before o.answer) (λ (o : Kept). IsWithin (before ++ k.more) o.answer) (λ (o : Kept) w. within-more before k.more o.answer w) list within) in
+    (
+      subst (λ l. AreAnswered n x s wanted (m + 1) l) (sym joined) (answered-push n x s wanted m (entries before list) (entry_from after kept) answered node k.answer),
+      All-push (λ (o : Kept). IsWithin after o.answer) list kept others k.within,
+    )

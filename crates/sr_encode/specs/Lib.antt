@@ -3,3 +3,4 @@ pub mod Nodes
 pub mod Search
 pub mod Serve
 pub mod Answered
+pub mod Kept

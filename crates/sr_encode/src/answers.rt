@@ -1,22 +1,25 @@
 //! The answers of a case, and how they are found by destination.
-ghost use Rattle.std.specs.Prelude.{◌≡◌, ◌≤◌, [], length, MatchOption};
-ghost use Rattle.sr_encode.specs.Answered.{AscendByNode, HasAnswer, NoAnswer, counts_in};
+ghost use Rattle.std.specs.Prelude.{◌≡◌, ◌<◌, ◌≤◌, [], List, length, MatchOption};
+ghost use Rattle.sr_model.specs.declared.repair.Segment.{Segment};
+ghost use Rattle.sr_encode.specs.Answered.{AscendByNode, HasAnswer, NoAnswer, counts_in, entry_at};
+ghost use Rattle.sr_encode.specs.Kept.{AreWithin, entries};
 
-use sr_model::{Answer, Counts, NodeNo};
+use crate::kept::{Kept, KeptAnswer, answer_from};
+use sr_model::{Answer, Counts, NodeNo, Segment};
 use std::alloc::Global;
 use std::marker::Model;
 
 /// The answer for a destination.
 #[derive(Debug, Drop)]
-pub struct NodeAnswer {
+pub struct NodeAnswer<'a> {
     pub destination: NodeNo,
-    pub answer: Answer,
+    pub answer: Answer<'a>,
 }
 
-/// How many of the answers are of each sort.
-fn counted(list: &[NodeAnswer]) -> Counts
+/// How many of the answers are of each sort, whatever their segments.
+fn counted(list: &[Kept]) -> Counts
     requires { length list.now ≤ 256 }
-    ensures { result ≡ counts_in list.now }
+    ensures { (segments : List Segment) → result ≡ counts_in (entries segments list.now) }
 {
     let mut counts = Counts {
         covered: 0,
@@ -24,12 +27,12 @@ fn counted(list: &[NodeAnswer]) -> Counts
         nolist: 0,
         toodeep: 0,
     };
-    for entry in list {
-        match entry.answer {
-            Answer::Least(_) => counts.covered += 1,
-            Answer::NoPath => counts.nopath += 1,
-            Answer::NoList => counts.nolist += 1,
-            Answer::TooDeep { .. } => counts.toodeep += 1,
+    for kept in list {
+        match kept.answer {
+            KeptAnswer::Least { .. } => counts.covered += 1,
+            KeptAnswer::NoPath => counts.nopath += 1,
+            KeptAnswer::NoList => counts.nolist += 1,
+            KeptAnswer::TooDeep { .. } => counts.toodeep += 1,
         }
     }
     counts
@@ -38,7 +41,9 @@ fn counted(list: &[NodeAnswer]) -> Counts
 /// The answers of a case, in order of destination. Contracts see them as their list.
 #[derive(Debug, Drop)]
 pub struct CaseAnswers {
-    list: Vec<NodeAnswer>,
+    kept: Vec<Kept>,
+    /// The segments of their lists, one list after the other.
+    segments: Vec<Segment>,
     /// How many of them are of each sort, so that an audit needn't count them again.
     counts: Counts,
 }
@@ -47,38 +52,57 @@ impl Model for CaseAnswers {
     ghost use Rattle.std.specs.Prelude.{◌≡◌, List};
     ghost use Rattle.sr_encode.specs.declared.answers.NodeAnswer.{NodeAnswer as Entry};
     ghost use Rattle.sr_encode.specs.Answered.{AscendByNode, counts_in};
+    ghost use Rattle.sr_encode.specs.Kept.{AreWithin, entries};
 
     ghost Value = { List Entry };
 
-    ghost view = { λ a. a.list.items };
+    ghost view = { λ a. entries a.segments.items a.kept.items };
 
-    ghost invariant = { λ a. AscendByNode a.list.items × (a.counts ≡ counts_in a.list.items) };
+    ghost invariant = { λ a. AreWithin a.segments.items a.kept.items
+        × AscendByNode (entries a.segments.items a.kept.items)
+        × (a.counts ≡ counts_in (entries a.segments.items a.kept.items)) };
 }
 
 impl CaseAnswers {
-    /// These answers, which are in order of destination. There is at most one for each node.
-    pub(crate) fn new(list: Vec<NodeAnswer>) -> CaseAnswers
-        requires ascending { AscendByNode list.items }
-        requires few { length list.items ≤ 256 }
-        ensures { result ≡ list.items }
+    /// The answers that are kept so, which are in order of destination. There is at most one for each node.
+    pub(crate) fn new(kept: Vec<Kept>, segments: Vec<Segment>) -> CaseAnswers
+        requires within { AreWithin segments.items kept.items }
+        requires ascending { AscendByNode (entries segments.items kept.items) }
+        requires few { length kept.items ≤ 256 }
+        ensures { result ≡ entries segments.items kept.items }
     {
-        let counts = counted(&list);
-        CaseAnswers { list, counts }
+        let counts = counted(&kept);
+        CaseAnswers {
+            kept,
+            segments,
+            counts,
+        }
     }
 
     /// The answers of a case that affects no destination.
     pub fn none(alloc: Global) -> CaseAnswers
         ensures { result ≡ [] }
     {
-        CaseAnswers::new(Vec::new(alloc))
+        CaseAnswers::new(Vec::new(alloc), Vec::new(alloc))
     }
 
-    /// The answers, in order of destination.
-    pub fn list(&self) -> &[NodeAnswer]
-        ensures list { result.now ≡ self.now }
-        ensures ascending { AscendByNode self.now }
+    /// How many answers there are.
+    pub fn count(&self) -> usize
+        ensures { result ≡ length self.now }
     {
-        &self.list
+        self.kept.len()
+    }
+
+    /// The answer at this place, in order of destination.
+    pub fn at(&self, place: usize) -> NodeAnswer<'_>
+        requires { place < length self.now }
+        ensures { result ≡ entry_at self.now place }
+    {
+        let kept = self.kept[place];
+        NodeAnswer {
+            destination: kept.destination,
+            answer: answer_from(kept.answer, &self.segments),
+        }
     }
 
     /// How many of the answers are lists, no path, no list and too deep.
@@ -89,14 +113,14 @@ impl CaseAnswers {
     }
 
     /// The answer for the destination. None exactly where there is none for it.
-    pub fn answer_for(&self, destination: NodeNo) -> Option<&Answer>
-        ensures { MatchOption result (NoAnswer self.now destination.0) (λ answer. HasAnswer self.now destination.0 answer.now) }
+    pub fn answer_for(&self, destination: NodeNo) -> Option<Answer<'_>>
+        ensures { MatchOption result (NoAnswer self.now destination.0) (HasAnswer self.now destination.0) }
     {
         match self
-            .list
-            .binary_search_by_key(&destination.0, |entry| entry.destination.0)
+            .kept
+            .binary_search_by_key(&destination.0, |kept| kept.destination.0)
         {
-            Ok(place) => Some(&self.list[place].answer),
+            Ok(place) => Some(self.at(place).answer),
             Err(_) => None,
         }
     }

@@ -4,6 +4,7 @@
 
 mod answer;
 mod answers;
+mod kept;
 mod repairs;
 mod search;
 mod serve;

@@ -1,5 +1,5 @@
 //! The answers of a case, from its search.
-ghost use Rattle.std.specs.Prelude.{◌≡◌, ◌<◌, length, IfOk};
+ghost use Rattle.std.specs.Prelude.{◌≡◌, ◌<◌, ◌≤◌, length, IfOk};
 ghost use Rattle.sr_model.specs.Graph.{node_count};
 ghost use Rattle.sr_model.specs.Walk.{IsRow};
 ghost use Rattle.sr_model.specs.Case.{IsCase, IsFailedSet, source_of};
@@ -7,9 +7,11 @@ ghost use Rattle.sr_spf.specs.Trees.{AreTrees};
 ghost use Rattle.sr_post.specs.Post.{IsPost};
 ghost use Rattle.sr_encode.specs.Serve.{AreNodes, AreFound};
 ghost use Rattle.sr_encode.specs.Answered.{AreAffected, AreAnswered, AreAnswers};
+ghost use Rattle.sr_encode.specs.Kept.{AreWithin, entries};
 
-use crate::answer::answer_of;
-use crate::answers::{CaseAnswers, NodeAnswer};
+use crate::answer::keep_answer;
+use crate::answers::CaseAnswers;
+use crate::kept::Kept;
 use crate::search::begin_all;
 use crate::serve::explore;
 use crate::unmet::unmet_nodes;
@@ -17,7 +19,7 @@ use crate::unserved::unserved_places;
 use crate::waypoint::Waypoint;
 use sr_graph::LinkSet;
 use sr_labels::Net;
-use sr_model::{Case, NodeNo};
+use sr_model::{Case, NodeNo, Segment};
 use sr_post::{Post, affected, spaces_of};
 use sr_spaces::Spaces;
 use sr_spf::Trees;
@@ -88,6 +90,13 @@ fn search(
     Ok(Found { queue, places })
 }
 
+/// Answers as they are kept, and the segments of their lists.
+#[derive(Drop)]
+struct KeptAnswers {
+    kept: Vec<Kept>,
+    segments: Vec<Segment>,
+}
+
 /// The answers for the destinations, in their order.
 fn answers_of(
     alloc: Global,
@@ -98,18 +107,22 @@ fn answers_of(
     queue: &[Waypoint],
     wanted: &[NodeNo],
     places: &[Option<u16>],
-) -> Result<Vec<NodeAnswer>, AllocError>
+) -> Result<KeptAnswers, AllocError>
     requires cells { IsRow net.now.graph failed.now source.0 cells.now }
     requires source { source.0 < node_count net.now.graph }
     requires wanted { AreNodes net.now wanted.now }
+    requires few { length wanted.now ≤ 256 }
     requires found { AreFound net.now failed.now source.0 cells.now queue.now wanted.now places.now }
-    ensures { IfOk result (λ list. AreAnswered net.now failed.now source.0 wanted.now (length wanted.now) list.items) }
+    ensures answered { IfOk result (λ all. AreAnswered net.now failed.now source.0 wanted.now (length wanted.now)
+        (entries all.segments.items all.kept.items)) }
+    ensures within { IfOk result (λ all. AreWithin all.segments.items all.kept.items) }
 {
-    let mut list = Vec::with_capacity(alloc, wanted.len())?;
+    let mut kept = Vec::with_capacity(alloc, wanted.len())?;
+    let mut segments = Vec::new(alloc);
+    let mut list = Vec::new(alloc);
     for j in 0..wanted.len() {
         let destination = wanted[j];
-        let answer = answer_of(
-            alloc,
+        let answer = keep_answer(
             net,
             cells,
             failed,
@@ -117,13 +130,15 @@ fn answers_of(
             queue,
             destination,
             places[j],
+            &mut list,
+            &mut segments,
         )?;
-        list.push(NodeAnswer {
+        kept.push(Kept {
             destination,
             answer,
         })?;
     }
-    Ok(list)
+    Ok(KeptAnswers { kept, segments })
 }
 
 /// The answers of the case, whose affected destinations these are. `spaces` has the links that fail in it, and `cells` the
@@ -145,7 +160,7 @@ fn answers_for(
 {
     let source = net.graph().link(case.link).from;
     let found = search(alloc, net, spaces, cells, source, wanted)?;
-    let list = answers_of(
+    let KeptAnswers { kept, segments } = answers_of(
         alloc,
         net,
         cells,
@@ -155,7 +170,7 @@ fn answers_for(
         wanted,
         &found.places,
     )?;
-    Ok(CaseAnswers::new(list))
+    Ok(CaseAnswers::new(kept, segments))
 }
 
 /// The answer of the case for each affected destination, ascending: the least sound list, or why

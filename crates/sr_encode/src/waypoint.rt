@@ -1,9 +1,9 @@
 //! Waypoints, and the lists that lead to them.
-ghost use Rattle.std.specs.Prelude.{◌≡◌, ◌<◌, length, IfOk};
+ghost use Rattle.std.specs.Prelude.{◌≡◌, ◌<◌, length, OnOk};
 ghost use Rattle.sr_encode.specs.Waypoints.{waypoint_at, segments_to, AreParents};
 
 use sr_model::{LinkNo, NodeNo, Segment};
-use std::alloc::{AllocError, Global};
+use std::alloc::AllocError;
 
 /// A node that a search meets, with the least list to it. That is the first link alone where
 /// `depth` is 0, and else the list of the waypoint at place `parent` of the queue, with `segment`
@@ -18,18 +18,18 @@ pub(crate) struct Waypoint {
     pub(crate) segment: Segment,
 }
 
-/// The segments of the list to the waypoint at this place.
-pub(crate) fn segments_of(
-    alloc: Global,
+/// Makes `list` the segments of the list to the waypoint at this place.
+pub(crate) fn read_segments(
     queue: &[Waypoint],
     place: usize,
-) -> Result<Vec<Segment>, AllocError>
+    list: &mut Vec<Segment>,
+) -> Result<(), AllocError>
     requires place { place < length queue.now }
     requires parents { AreParents queue.now }
-    ensures { IfOk result (λ list. list.items ≡ segments_to queue.now (waypoint_at queue.now place).depth place) }
+    ensures { OnOk result (list.new.items ≡ segments_to queue.now (waypoint_at queue.now place).depth place) }
 {
     let depth = queue[place].depth;
-    let mut list = Vec::with_capacity(alloc, depth as usize)?;
+    list.clear();
     let mut at = place;
     for _ in 0..depth {
         let waypoint = queue[at];
@@ -38,5 +38,5 @@ pub(crate) fn segments_of(
     }
     // They were taken from the last to the first.
     list.reverse();
-    Ok(list)
+    Ok(())
 }

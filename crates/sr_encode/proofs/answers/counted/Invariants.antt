@@ -1,7 +1,9 @@
-use Rattle.std.proofs.Common.{◌≡◌, take}
+use Rattle.std.proofs.Common.{◌≡◌, List, take}
+use Rattle.sr_model.specs.declared.repair.Segment.{Segment}
 use Rattle.sr_encode.specs.Answered.{counts_in}
+use Rattle.sr_encode.specs.Kept.{entries}
 use Rattle.sr_encode.proofs.answers.counted.Given as goal
 
--- the counts of the answers so far
-abbrev pub invariant-loop-entry : goal.invariant-loop-entry
-invariant-loop-entry l = l.counts ≡ counts_in (take l.entry-index l.list)
+-- the counts of the answers so far, whatever their segments
+abbrev pub invariant-loop-kept : goal.invariant-loop-kept
+invariant-loop-kept l = (segments : List Segment) → l.counts ≡ counts_in (entries segments (take l.kept-index l.list))

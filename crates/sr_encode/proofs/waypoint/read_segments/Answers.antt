@@ -1,7 +1,7 @@
 use Rattle.std.proofs.Common.{◌≡◌, ◌≤◌, ◌+◌, ◌-◌, ◌++◌, suc, reverse, refl, arith, subst}
 use Rattle.sr_encode.specs.Waypoints.{waypoint_at, segments_to}
 use Rattle.sr_encode.proofs.QueueLemmas.{chain-step}
-use Rattle.sr_encode.proofs.waypoint.segments_of.Goals as goal
+use Rattle.sr_encode.proofs.waypoint.read_segments.Goals as goal
 
 pub loop-preserved : goal.loop-preserved
 loop-preserved c =

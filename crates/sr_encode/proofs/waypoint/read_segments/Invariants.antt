@@ -1,6 +1,6 @@
 use Rattle.std.proofs.Common.{◌≡◌, ◌<◌, ◌-◌, ◌++◌, length, reverse}
 use Rattle.sr_encode.specs.Waypoints.{segments_to}
-use Rattle.sr_encode.proofs.waypoint.segments_of.Given as goal
+use Rattle.sr_encode.proofs.waypoint.read_segments.Given as goal
 
 abbrev pub invariant-loop : goal.invariant-loop
 invariant-loop l =
