@@ -13,7 +13,8 @@ use Rattle.sr_encode.specs.Answered.{counts_in}
 use Rattle.sr_repair.specs.Answers.{case_count}
 use Rattle.sr_repair.specs.Items.{IsItemFor}
 use Rattle.sr_audit.specs.Counted.{counts_sum, AreCountsAt, AreAuditCounts}
-use Rattle.sr_audit.proofs.JoinLemmas.{AreFirst, first-more, first-audit}
+use Rattle.sr_audit.specs.Cases.{AreFirst}
+use Rattle.sr_audit.proofs.JoinLemmas.{first-more, first-audit}
 
 -- 1 where the answer passes the test
 abbrev pass : (Answer → Bool) → Answer → ℕ

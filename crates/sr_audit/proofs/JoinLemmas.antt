@@ -12,18 +12,8 @@ use Rattle.sr_model.specs.Case.{IsCase, IsAffected}
 use Rattle.sr_model.specs.Audit.{rank_of, CaseLt, ItemLt, IsItem, IsAudit}
 use Rattle.sr_repair.specs.Answers.{place_of, case_count}
 use Rattle.sr_repair.proofs.PlaceLemmas.{place-one}
-use Rattle.sr_audit.specs.Cases.{IsAuditAt, AreAuditsAt}
+use Rattle.sr_audit.specs.Cases.{HasItem, AreFirst, AreNext, IsAuditAt, AreAuditsAt}
 use Rattle.sr_audit.proofs.AppendLemmas.{IsIn, get-append, get-left, get-right}
-
--- the item is there, with this case and destination
-abbrev pub HasItem : List Item → Case → ℕ → Type 0
-HasItem items case d = (k : ℕ) × (item : Item) × (slice_get items k ≡ Some item) × (item.case ≡ case) × (item.dest.0 ≡ d)
-
--- the audit of the cases at the first m places
-pub record AreFirst (n : Net) (m : ℕ) (items : List Item) : Type 0 where
-  pub each : (k : ℕ) (item : Item) → slice_get items k ≡ Some item → IsItem n item × (place_of n.graph item.case < m)
-  pub ascending : (j k : ℕ) (a b : Item) → j < k → slice_get items j ≡ Some a → slice_get items k ≡ Some b → ItemLt a b
-  pub all : (case : Case) (d : ℕ) → IsCase n.graph case → place_of n.graph case < m → IsAffected n case d → HasItem items case d
 
 -- of two ranks and numbers below k, what stands at the lower place has the lower rank, or the same and the lower number
 rank-lt : (k : ℕ) (a b : Kind) (i j : ℕ) → i < k → j < k → rank_of a * k + i < rank_of b * k + j → (rank_of a < rank_of b) ⊎ ((a ≡ b) × (i < j))
@@ -131,3 +121,19 @@ few-joined n m zero [] zip = omega arith
 few-joined n m zero (list ∷ lists) zip = absurd zip
 few-joined n m (suc k) [] zip = absurd zip
 few-joined n m (suc k) (list ∷ lists) zip = omega (arith, length-append list.items (flat_map vec_items lists), zip.0.few, few-joined n (m + 1) k lists zip.1)
+
+-- the items of one case more come next
+pub next-more : (n : Net) (m k : ℕ) (items list : List Item) → AreNext n m k items → IsAuditAt n k list → AreNext n m (k + 1) (items ++ list)
+next-more n m k items list r at first before = subst (AreFirst n (k + 1)) (append_assoc first items list) (first-more n k (first ++ items) list (r first before) at)
+
+-- the items of no cases are none
+pub next-none : (n : Net) (m : ℕ) → AreNext n m m []
+next-none n m first before = subst (AreFirst n m) (sym (append-nil first)) before
+
+-- what comes next, and what comes next to that
+pub next-joined : (n : Net) (m k p : ℕ) (items more : List Item) → AreNext n m k items → AreNext n k p more → AreNext n m p (items ++ more)
+next-joined n m k p items more r next first before = subst (AreFirst n p) (append_assoc first items more) (next (first ++ items) (r first before))
+
+-- what comes next to nothing are the first items
+pub next-first : (n : Net) (m : ℕ) (items : List Item) → AreNext n 0 m items → AreFirst n m items
+next-first n m items r = r [] (first-none n)

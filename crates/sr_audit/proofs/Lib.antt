@@ -2,3 +2,4 @@ pub mod AppendLemmas
 pub mod CaseLemmas
 pub mod CountLemmas
 pub mod JoinLemmas
+pub mod RestLemmas

@@ -1,11 +1,11 @@
 -- The items of one case.
-use Rattle.std.specs.Prelude.{◌≡◌, ℕ, ◌<◌, ◌≤◌, List, length, Some, slice_get}
+use Rattle.std.specs.Prelude.{◌≡◌, ℕ, ◌<◌, ◌≤◌, List, ◌++◌, length, Some, slice_get}
 use Rattle.std.specs.List.{AllZip, range_with_len}
 use Rattle.std.specs.Global.{Vec}
 use Rattle.sr_model.specs.declared.case.Case.{Case}
 use Rattle.sr_model.specs.declared.audit.Item.{Item}
 use Rattle.sr_model.specs.Case.{IsCase, IsAffected}
-use Rattle.sr_model.specs.Audit.{IsItem}
+use Rattle.sr_model.specs.Audit.{IsItem, ItemLt}
 use Rattle.sr_model.specs.Label.{Net}
 use Rattle.sr_repair.specs.Answers.{place_of}
 
@@ -26,6 +26,20 @@ pub record IsAuditAt (n : Net) (place : ℕ) (items : List Item) : Type 0 where
   pub place_is : place_of n.graph case ≡ place
   pub audit : IsCaseAudit n case items
   pub few : length items ≤ 256
+
+-- the item is there, with this case and destination
+abbrev pub HasItem : List Item → Case → ℕ → Type 0
+HasItem items case d = (k : ℕ) × (item : Item) × (slice_get items k ≡ Some item) × (item.case ≡ case) × (item.dest.0 ≡ d)
+
+-- the audit of the cases at the first m places
+pub record AreFirst (n : Net) (m : ℕ) (items : List Item) : Type 0 where
+  pub each : (k : ℕ) (item : Item) → slice_get items k ≡ Some item → IsItem n item × (place_of n.graph item.case < m)
+  pub ascending : (j k : ℕ) (a b : Item) → j < k → slice_get items j ≡ Some a → slice_get items k ≡ Some b → ItemLt a b
+  pub all : (case : Case) (d : ℕ) → IsCase n.graph case → place_of n.graph case < m → IsAffected n case d → HasItem items case d
+
+-- behind the items of the cases before place m these make those of the cases before place k
+abbrev pub AreNext : Net → ℕ → ℕ → List Item → Type 0
+AreNext n m k items = (first : List Item) → AreFirst n m first → AreFirst n k (first ++ items)
 
 -- the lists are the audits of the cases at k places from m on
 abbrev pub AreAuditsAt : Net → ℕ → ℕ → List (Vec Item) → Type 0

@@ -12,7 +12,7 @@ ghost use Rattle.sr_audit.specs.Cases.{IsCaseAudit, IsAuditAt, AreAuditsAt};
 
 use crate::report::Report;
 use rayon::prelude::*;
-use sr_encode::NodeAnswer;
+use sr_encode::{CaseAnswers, NodeAnswer};
 use sr_labels::Net;
 use sr_model::{Case, Item, Stack};
 use sr_repair::{Version, case_at, case_count, labels_of};
@@ -20,51 +20,68 @@ use std::alloc::{AllocError, Global};
 use std::thread::Threads;
 
 /// The item that stands for an answer of the case.
-fn item_of(alloc: Global, net: &Net, case: Case, entry: &NodeAnswer) -> Result<Item, AllocError>
+fn item_of<'a>(
+    alloc: Global,
+    net: &Net,
+    case: Case,
+    entry: NodeAnswer<'a>,
+) -> Result<Item<'a>, AllocError>
     requires case { IsCase net.now.graph case }
-    requires affected { IsAffected net.now case entry.now.destination.0 }
-    requires answer { IsCaseAnswer net.now case entry.now.destination.0 entry.now.answer }
-    ensures { IfOk result (IsItemFor net.now case entry.now) }
+    requires affected { IsAffected net.now case entry.destination.0 }
+    requires answer { IsCaseAnswer net.now case entry.destination.0 entry.answer }
+    ensures { IfOk result (IsItemFor net.now case entry) }
 {
-    let labels = labels_of(alloc, net, case, entry.destination, &entry.answer)?;
+    let NodeAnswer {
+        destination,
+        answer,
+    } = entry;
+    let labels = labels_of(alloc, net, case, destination, &answer)?;
     Ok(Item {
         case,
-        dest: entry.destination,
-        answer: entry.answer.copied(alloc)?,
+        dest: destination,
+        answer,
         labels: Stack::new(labels),
     })
 }
 
 /// The items that stand for these answers of the case, in their order.
-fn items_of(
+fn items_of<'a>(
     alloc: Global,
     net: &Net,
     case: Case,
-    answers: &[NodeAnswer],
-) -> Result<Vec<Item>, AllocError>
+    answers: &'a CaseAnswers,
+) -> Result<Vec<Item<'a>>, AllocError>
     requires case { IsCase net.now.graph case }
     requires answers { AreAnswers net.now case answers.now }
     ensures { IfOk result (λ items. AllZip (IsItemFor net.now case) answers.now items.items) }
 {
-    let mut items = Vec::with_capacity(alloc, answers.len())?;
-    for entry in answers {
-        let item = item_of(alloc, net, case, entry)?;
+    let mut items = Vec::with_capacity(alloc, answers.count())?;
+    for place in 0..answers.count() {
+        let item = item_of(alloc, net, case, answers.at(place))?;
         items.push(item)?;
     }
     Ok(items)
 }
 
 /// The items of the case, destinations ascending.
-fn case_items(alloc: Global, version: &Version, case: Case) -> Result<Vec<Item>, AllocError>
+fn case_items<'a>(
+    alloc: Global,
+    version: &'a Version,
+    case: Case,
+) -> Result<Vec<Item<'a>>, AllocError>
     requires { IsCase version.now.net.graph case }
     ensures audit { IfOk result (λ items. IsCaseAudit version.now.net case items.items) }
     ensures few { IfOk result (λ items. length items.items ≤ 256) }
 {
-    items_of(alloc, version.net(), case, version.answers(case).list())
+    items_of(alloc, version.net(), case, version.answers(case))
 }
 
 /// The items of the case at this place.
-fn items_at(alloc: Global, version: &Version, place: u32) -> Result<Vec<Item>, AllocError>
+fn items_at<'a>(
+    alloc: Global,
+    version: &'a Version,
+    place: u32,
+) -> Result<Vec<Item<'a>>, AllocError>
     requires { place < case_count version.now.net.graph }
     ensures { IfOk result (λ items. IsAuditAt version.now.net place items.items) }
 {
@@ -73,12 +90,12 @@ fn items_at(alloc: Global, version: &Version, place: u32) -> Result<Vec<Item>, A
 }
 
 /// The items of each case, in order of the cases' places.
-fn all_items(
+fn all_items<'a>(
     rt: &(impl Threads + Sync),
     alloc: Global,
-    version: &Version,
+    version: &'a Version,
     count: u32,
-) -> Result<Vec<Vec<Item>>, AllocError>
+) -> Result<Vec<Vec<Item<'a>>>, AllocError>
     requires count { count ≡ case_count version.now.net.graph }
     requires few { count ≤ 6144 }
     ensures audits { IfOk result (λ lists. AreAuditsAt version.now.net 0 count lists.items) }
@@ -89,12 +106,12 @@ fn all_items(
         .into_par_iter()
         .with_min_len(16)
         .map(
-            |place: u32| -> Result<Vec<Item>, AllocError>
+            |place: u32| -> Result<Vec<Item<'a>>, AllocError>
                 requires { place < case_count version.now.net.graph }
                 ensures { IfOk result (λ items. IsAuditAt version.entry.now.net place items.items) }
             { items_at(alloc, version, place) },
         )
-        .collect::<Result<Vec<Vec<Item>>, AllocError>>(rt, alloc);
+        .collect::<Result<Vec<Vec<Item<'a>>>, AllocError>>(rt, alloc);
     match collected {
         Ok(lists) => lists,
         Err(refused) => Err(refused),
@@ -102,7 +119,7 @@ fn all_items(
 }
 
 /// How many items the lists have.
-fn item_count(lists: &[Vec<Item>]) -> usize
+fn item_count(lists: &[Vec<Item<'_>>]) -> usize
     requires { length (flat_map vec_items lists.now) < 2 ^ 32 }
     ensures { result ≡ length (flat_map vec_items lists.now) }
 {
@@ -114,7 +131,7 @@ fn item_count(lists: &[Vec<Item>]) -> usize
 }
 
 /// The items of all lists, in order.
-fn joined(alloc: Global, lists: Vec<Vec<Item>>) -> Result<Vec<Item>, AllocError>
+fn joined<'a>(alloc: Global, lists: Vec<Vec<Item<'a>>>) -> Result<Vec<Item<'a>>, AllocError>
     requires { length (flat_map vec_items lists.items) < 2 ^ 32 }
     ensures { IfOk result (λ items. items.items ≡ flat_map vec_items lists.items) }
 {
@@ -127,11 +144,11 @@ fn joined(alloc: Global, lists: Vec<Vec<Item>>) -> Result<Vec<Item>, AllocError>
 
 /// The audit of the version: each case and each destination that it affects once, in order, with its answer and the
 /// labels on the first link. The cases are split among threads where there are any; the report is the same without.
-pub fn audit(
+pub fn audit<'a>(
     rt: &(impl Threads + Sync),
     alloc: Global,
-    version: &Version,
-) -> Result<Report, AllocError>
+    version: &'a Version,
+) -> Result<Report<'a>, AllocError>
     ensures version { IfOk result (λ (report : Audited). report.version ≡ version.now.number) }
     ensures audit { IfOk result (λ (report : Audited). IsAudit version.now.net report.items) }
     ensures few { IfOk result (λ (report : Audited). length report.items < 2 ^ 32) }

@@ -9,12 +9,12 @@ use std::marker::Model;
 /// The answers of all cases of a version with their labels: cases by kind (link, node, risk) and then by protected link,
 /// in a case the affected destinations ascending. Contracts see the version's number and the list.
 #[derive(Debug, Drop)]
-pub struct Report {
+pub struct Report<'a> {
     version: u32,
-    items: Vec<Item>,
+    items: Vec<Item<'a>>,
 }
 
-impl Model for Report {
+impl<'a> Model for Report<'a> {
     ghost use Rattle.sr_audit.specs.Audited.{Audited};
 
     ghost Value = { Audited };
@@ -22,9 +22,9 @@ impl Model for Report {
     ghost view = { λ a. record { version = a.version; items = a.items.items } };
 }
 
-impl Report {
+impl<'a> Report<'a> {
     /// The report of these items.
-    pub(crate) fn new(version: u32, items: Vec<Item>) -> Report
+    pub(crate) fn new(version: u32, items: Vec<Item<'a>>) -> Report<'a>
         ensures { result ≡ record { version = version; items = items.items } }
     {
         Report { version, items }
@@ -38,7 +38,7 @@ impl Report {
     }
 
     /// The items, in order.
-    pub fn items(&self) -> &[Item]
+    pub fn items(&self) -> &[Item<'a>]
         ensures { result.now ≡ self.now.items }
     {
         &self.items

@@ -5,7 +5,7 @@ use sr_model::{Answer, Case, Kind, LinkNo, NodeNo, RepairList, Segments, Stack};
 use std::alloc::{AllocError, Global};
 
 /// An item of the case of this kind that protects link 5.
-fn item(alloc: Global, kind: Kind, dest: u16, answer: Answer) -> Item {
+fn item(alloc: Global, kind: Kind, dest: u16, answer: Answer<'static>) -> Item<'static> {
     Item {
         case: Case {
             kind,
@@ -18,10 +18,10 @@ fn item(alloc: Global, kind: Kind, dest: u16, answer: Answer) -> Item {
 }
 
 /// A list without segments.
-fn least(alloc: Global, cost: u64) -> Answer {
+fn least(cost: u32) -> Answer<'static> {
     Answer::Least(RepairList {
         first: LinkNo(2),
-        segments: Segments::new(Vec::new(alloc)),
+        segments: Segments::new(&[]),
         cost,
     })
 }
@@ -30,14 +30,14 @@ fn least(alloc: Global, cost: u64) -> Answer {
 fn each_sort_of_answer_is_counted_apart(rt: HostRuntime) -> Result<(), AllocError> {
     let alloc = rt.alloc();
     let mut items = Vec::new(alloc);
-    items.push(item(alloc, Kind::Link, 1, least(alloc, 10)))?;
+    items.push(item(alloc, Kind::Link, 1, least(10)))?;
     items.push(item(alloc, Kind::Link, 2, Answer::NoPath))?;
-    items.push(item(alloc, Kind::Node, 1, least(alloc, 20)))?;
+    items.push(item(alloc, Kind::Node, 1, least(20)))?;
     items.push(item(alloc, Kind::Node, 2, Answer::TooDeep { needed: 4 }))?;
     items.push(item(alloc, Kind::Node, 3, Answer::TooDeep { needed: 13 }))?;
-    items.push(item(alloc, Kind::Risk, 1, least(alloc, 30)))?;
+    items.push(item(alloc, Kind::Risk, 1, least(30)))?;
     items.push(item(alloc, Kind::Risk, 2, Answer::TooDeep { needed: 5 }))?;
-    items.push(item(alloc, Kind::Risk, 3, least(alloc, 40)))?;
+    items.push(item(alloc, Kind::Risk, 3, least(40)))?;
     items.push(item(alloc, Kind::Risk, 4, Answer::NoList))?;
     items.push(item(alloc, Kind::Risk, 6, Answer::NoPath))?;
     let report = Report::new(7, items);

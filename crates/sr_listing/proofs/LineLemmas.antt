@@ -1,5 +1,5 @@
 -- The lines of the cases, in order.
-use Rattle.std.proofs.Common.{◌≡◌, ℕ, ◌+◌, List, ◌++◌, append_assoc}
+use Rattle.std.proofs.Common.{◌≡◌, ℕ, ◌+◌, List, [], ◌++◌, append_assoc, append-nil, sym}
 use Rattle.std.proofs.lemmas.Grind.{flat_map-append}
 use Rattle.sr_model.specs.declared.audit.Item.{Item}
 use Rattle.sr_model.specs.declared.case.Case.{Case}
@@ -8,12 +8,12 @@ use Rattle.sr_model.specs.Label.{Net}
 use Rattle.sr_model.specs.Rule.{IsNet}
 use Rattle.sr_encode.specs.declared.answers.NodeAnswer.{NodeAnswer}
 use Rattle.sr_encode.specs.Answered.{AreAnswers}
-use Rattle.sr_repair.specs.Answers.{case_count, place_of}
+use Rattle.sr_repair.specs.Answers.{place_of}
 use Rattle.sr_audit.proofs.CaseLemmas.{items-audit, items-few}
-use Rattle.sr_audit.proofs.JoinLemmas.{AreFirst, first-more, first-audit}
+use Rattle.sr_audit.proofs.JoinLemmas.{next-more, next-none}
 use Rattle.sr_print.specs.Answers.{PutsItems}
 use Rattle.sr_print.specs.Repairs.{item_line, item_lines}
-use Rattle.sr_listing.specs.Listed.{PutsCase, PutsAudit}
+use Rattle.sr_listing.specs.Listed.{PutsCase, PutsCases}
 
 -- the lines of the answers of a case are those of its audit
 pub case-put : (n : Net) (place : ℕ) (case : Case) (answers : List NodeAnswer) (before after : List ℕ) → IsNet n → IsCase n.graph case → place_of n.graph case ≡ place → AreAnswers n case answers → PutsItems n case answers before after → PutsCase n place before after
@@ -29,20 +29,14 @@ case-put n place case answers before after net within at are puts = record {
   lines = puts.text;
 }
 
--- the lines of the audit of the cases at the first m places were appended
-pub record PutsFirst (n : Net) (m : ℕ) (before after : List ℕ) : Type 0 where
-  pub items : List Item
-  pub first : AreFirst n m items
-  pub lines : after ≡ before ++ item_lines n items
+-- no lines of no cases
+pub lines-none : (n : Net) (m : ℕ) (text : List ℕ) → PutsCases n m m text text
+lines-none n m text = record { items = []; next = next-none n m; lines = sym (append-nil text) }
 
 -- the lines of the next case
-pub lines-more : (n : Net) (m : ℕ) (before between after : List ℕ) → PutsFirst n m before between → PutsCase n m between after → PutsFirst n (m + 1) before after
-lines-more n m before between after r at = record {
+pub lines-more : (n : Net) (m k : ℕ) (before between after : List ℕ) → PutsCases n m k before between → PutsCase n k between after → PutsCases n m (k + 1) before after
+lines-more n m k before between after r at = record {
   items = r.items ++ at.items;
-  first = first-more n m r.items at.items r.first at.audit;
+  next = next-more n m k r.items at.items r.next at.audit;
   lines = rw (at.lines, r.lines, flat_map-append (item_line n) r.items at.items) (append_assoc before (item_lines n r.items) (item_lines n at.items));
 }
-
--- the lines of all cases are those of an audit
-pub lines-audit : (n : Net) (before after : List ℕ) → PutsFirst n (case_count n.graph) before after → PutsAudit n before after
-lines-audit n before after r = record { items = r.items; audit = first-audit n r.items r.first; lines = r.lines }

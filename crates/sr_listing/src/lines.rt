@@ -1,13 +1,17 @@
 //! The lines of an audit, case by case.
-ghost use Rattle.std.specs.Prelude.{◌<◌, OnOk, OnErr};
+ghost use Rattle.std.specs.Prelude.{◌<◌, ◌≤◌, IfOk, OnOk, OnErr};
 ghost use Rattle.sr_repair.specs.Answers.{case_count};
 ghost use Rattle.sr_print.specs.Names.{AreNames};
 ghost use Rattle.sr_print.specs.Printed.{BeginsWith};
-ghost use Rattle.sr_listing.specs.Listed.{PutsCase, PutsAudit};
+ghost use Rattle.sr_listing.specs.Listed.{IsLater, PutsCase, PutsCases};
 
 use sr_print::{Names, put_answers};
 use sr_repair::{Version, case_at, case_count};
 use std::alloc::{AllocError, Global};
+
+/// Where more bytes than this are appended, the rest waits until they are written. The memory of a buffer that grows is
+/// touched for the first time again and again, which takes longer than the lines themselves.
+const LONG: usize = 1 << 20;
 
 /// Appends the lines of the answers of the case at this place. `names` are those of the version's net.
 /// After an error a part of the lines may stand there; what stood before stays.
@@ -24,20 +28,31 @@ fn put_case(
 {
     let net = version.net();
     let case = case_at(net.graph(), place);
-    put_answers(net, names, case, version.answers(case).list(), out)
+    put_answers(net, names, case, version.answers(case), out)
 }
 
-/// Appends the lines of the audit of the version: each case and each destination that it affects once, in order, as
-/// `put_repair` appends it. They are written where they stay, since the time goes into memory that is touched first.
+/// Appends the lines of the audit of the version from the case at this place on, and says from which place they go on: each
+/// case and each destination that it affects once, in order, as `put_repair` appends it. Behind the case with which there are
+/// more than 1,048,576 bytes they end for now; the place behind the last case says that they are whole.
 /// After an error a part of the lines may stand there; what stood before stays.
-pub fn put_audit(alloc: Global, version: &Version, out: &mut Vec<u8>) -> Result<(), AllocError>
-    ensures line { OnOk result (PutsAudit version.now.net out.old.items out.new.items) }
+pub fn put_audit(
+    alloc: Global,
+    version: &Version,
+    place: u32,
+    out: &mut Vec<u8>,
+) -> Result<u32, AllocError>
+    requires { place ≤ case_count version.now.net.graph }
+    ensures lines { IfOk result (λ next. PutsCases version.now.net place next out.old.items out.new.items) }
+    ensures later { IfOk result (IsLater (case_count version.now.net.graph) place) }
     ensures err { OnErr result (BeginsWith out.old.items out.new.items) }
 {
     let names = Names::of(alloc, version.net())?;
     let count = case_count(version.net().graph());
-    for place in 0..count {
-        put_case(version, &names, place, out)?;
+    for at in place..count {
+        put_case(version, &names, at, out)?;
+        if out.len() > LONG {
+            return Ok(at + 1);
+        }
     }
-    Ok(())
+    Ok(count)
 }

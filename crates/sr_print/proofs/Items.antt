@@ -39,15 +39,11 @@ line-put n case entry old one two three new a b puts c =
     }
 
 -- one more line
-pub items-more : (n : Net) (case : Case) (answers : List NodeAnswer) (i : ℕ) (entry : NodeAnswer) (old so_far new : List ℕ) → i < length answers → entry ≡ get_or answers i entry → PutsItems n case (take i answers) old so_far → PutsItem n case entry so_far new → PutsItems n case (take (i + 1) answers) old new
+pub items-more : (n : Net) (case : Case) (answers : List NodeAnswer) (i : ℕ) (entry : NodeAnswer) (old so_far new : List ℕ) → i < length answers → entry ≡ entry_at answers i → PutsItems n case (take i answers) old so_far → PutsItem n case entry so_far new → PutsItems n case (take (i + 1) answers) old new
 items-more n case answers i entry old so_far new lt here puts last =
-    let more : take (i + 1) answers ≡ take i answers ++ entry ∷ [] = take_more answers i entry lt ∙ ap (λ (x : NodeAnswer). take i answers ++ x ∷ []) (sym here) in
+    let more : take (i + 1) answers ≡ take i answers ++ entry ∷ [] = take_more answers i _ lt ∙ ap (λ (x : NodeAnswer). take i answers ++ x ∷ []) (sym here) in
     record {
       items = puts.items ++ last.item ∷ [];
       each = rw more (all_zipped_more (IsItemFor n case) (take i answers) puts.items entry last.item puts.each last.is);
       text = last.text ∙ ap (λ (t : List ℕ). t ++ item_line n last.item) puts.text ∙ flat_map_more (item_line n) old puts.items last.item;
     }
-
--- what a loop reads is the answer at its place
-pub entry-is : (answers : List NodeAnswer) (i : ℕ) (entry : NodeAnswer) → i < length answers → entry ≡ get_or answers i entry → entry ≡ entry_at answers i
-entry-is answers i entry lt is = is ∙ get_or_default answers i entry _ lt

@@ -18,7 +18,7 @@ use crate::line::{end, put_numbered};
 use crate::names::Names;
 use crate::number::put_value;
 use crate::repair::{put_head, put_uncovered};
-use sr_encode::NodeAnswer;
+use sr_encode::{CaseAnswers, NodeAnswer};
 use sr_labels::Net;
 use sr_model::{Answer, Case, LinkNo, NodeNo, RepairList, Segment};
 use sr_repair::{label_left, node_label, segment_end, segment_label};
@@ -143,7 +143,7 @@ fn put_least(
     out.extend_from_slice(b" via ")?;
     out.extend_from_slice(names.link(list.first))?;
     put_route(net, names, list.first, list.segments.list(), d, out)?;
-    put_numbered(b" cost ", list.cost, out)
+    put_numbered(b" cost ", u64::from(list.cost), out)
 }
 
 /// Appends an answer of the case with its labels, or why there is no repair.
@@ -199,7 +199,7 @@ fn put_lines(
     names: &Names,
     case: Case,
     head: &[u8],
-    answers: &[NodeAnswer],
+    answers: &CaseAnswers,
     out: &mut Vec<u8>,
 ) -> Result<(), AllocError>
     requires names { AreNames net.now names.now }
@@ -208,8 +208,8 @@ fn put_lines(
     ensures line { OnOk result (PutsItems net.now case answers.now out.old.items out.new.items) }
     ensures err { OnErr result (BeginsWith out.old.items out.new.items) }
 {
-    for entry in answers {
-        put_line(net, names, case, head, entry, out)?;
+    for place in 0..answers.count() {
+        put_line(net, names, case, head, &answers.at(place), out)?;
     }
     Ok(())
 }
@@ -221,7 +221,7 @@ pub fn put_answers(
     net: &Net,
     names: &Names,
     case: Case,
-    answers: &[NodeAnswer],
+    answers: &CaseAnswers,
     out: &mut Vec<u8>,
 ) -> Result<(), AllocError>
     requires case { IsCase net.now.graph case }

@@ -155,7 +155,7 @@ fn put_list(
     put_link(net, list.first, out)?;
     put_segments(net, list.segments.list(), out)?;
     put_labels(labels, out)?;
-    put_numbered(b" cost ", list.cost, out)
+    put_numbered(b" cost ", u64::from(list.cost), out)
 }
 
 /// Appends ` uncovered nopath`, ` uncovered nolist` or ` uncovered toodeep K`: why there is no

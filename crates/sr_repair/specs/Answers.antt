@@ -8,6 +8,7 @@ use Rattle.sr_model.specs.Case.{IsCase, IsAffected}
 use Rattle.sr_model.specs.Graph.{Graph, link_count}
 use Rattle.sr_model.specs.Label.{Net}
 use Rattle.sr_graph.specs.Failed.{FailsAsLink}
+use Rattle.sr_encode.specs.declared.answers.NodeAnswer.{NodeAnswer}
 use Rattle.sr_encode.specs.Answered.{AreAnswers}
 use Rattle.sr_repair.specs.declared.passes.Passed.{Passed}
 use Rattle.sr_repair.specs.declared.passes.Passed.TheVariants.{Nothing, AsLink, Listed}
@@ -86,3 +87,7 @@ IsFound n case AsLinkFound = FailsAsLink n.graph case
 -- what is found for the cases in the first m slots
 abbrev pub AreAllFound : Net → ℕ → List Found → Type 0
 AreAllFound n = StandInSlots AsLinkFound n.graph (IsFound n)
+
+-- each case has its answers
+abbrev pub IsAnswered : Net → Type 0
+IsAnswered n = (case : Case) → IsCase n.graph case → (answers : List NodeAnswer) × AreAnswers n case answers

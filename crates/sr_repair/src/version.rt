@@ -7,6 +7,7 @@ ghost use Rattle.sr_model.specs.Rule.{IsNet};
 ghost use Rattle.sr_spf.specs.Trees.{AreTrees};
 ghost use Rattle.sr_fib.specs.Tables.{IsFib};
 ghost use Rattle.sr_encode.specs.Answered.{AreAnswers};
+ghost use Rattle.sr_repair.specs.Answers.{IsAnswered};
 ghost use Rattle.sr_repair.specs.Version.{version_of};
 ghost use Rattle.sr_repair.specs.Stack.{HasNoList, IsStackOf};
 
@@ -154,14 +155,21 @@ impl Version {
         answers_of(&self.net, &self.found, case)
     }
 
+    /// A law with nothing to run: each case has its answers.
+    pub fn is_answered(&self)
+        ensures { IsAnswered self.now.net }
+    {
+        let _found = &self.found;
+    }
+
     /// The answer of the case for the destination (this project's rule). None exactly where the destination isn't
     /// affected.
-    pub fn repair(&self, case: Case, destination: NodeNo) -> Option<&Answer>
+    pub fn repair(&self, case: Case, destination: NodeNo) -> Option<Answer<'_>>
         requires case { IsCase self.now.net.graph case }
         ensures { MatchOption result
             (IsAffected self.now.net case destination.0 → ⊥)
             (λ answer. IsAffected self.now.net case destination.0
-            × IsCaseAnswer self.now.net case destination.0 answer.now) }
+            × IsCaseAnswer self.now.net case destination.0 answer) }
     {
         self.answers(case).answer_for(destination)
     }
@@ -181,7 +189,7 @@ impl Version {
             (λ labels. IsStackOf self.now.net case destination.0 labels.items)) }
     {
         match self.repair(case, destination) {
-            Some(answer) => list_labels(alloc, &self.net, case, destination, answer),
+            Some(answer) => list_labels(alloc, &self.net, case, destination, &answer),
             None => Ok(None),
         }
     }

@@ -3,3 +3,4 @@ pub mod ForwardLemmas
 pub mod FailureLemmas
 pub mod AuditLemmas
 pub mod RepairedLemmas
+pub mod PartLemmas

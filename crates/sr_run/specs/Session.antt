@@ -1,5 +1,5 @@
 -- What the session answers to each line, and the state after it.
-use Rattle.std.specs.Prelude.{◌≡◌, ℕ, ◌+◌, ◌<◌, ◌≤◌, ◌⊎◌, Bool, true, false, List, [], ◌∷◌, ◌++◌, Option, Some, None, IfSome, is_some, reverse}
+use Rattle.std.specs.Prelude.{◌≡◌, ℕ, zero, suc, ◌+◌, ◌<◌, ◌≤◌, ◌⊎◌, Bool, true, false, List, [], ◌∷◌, ◌++◌, Option, Some, None, IfSome, is_some, reverse}
 use Rattle.sr_model.specs.declared.name.LinkKey.{LinkKey}
 use Rattle.sr_model.specs.Key.{pair_of}
 use Rattle.sr_model.specs.Graph.{Graph, node_count, link_count, head, system_at}
@@ -16,6 +16,7 @@ use Rattle.sr_model.specs.declared.repair.Answer.{Answer}
 use Rattle.sr_model.specs.declared.repair.Answer.TheVariants.{Least}
 use Rattle.sr_model.specs.declared.repair.RepairList.{RepairList}
 use Rattle.sr_model.specs.declared.audit.Item.{Item}
+use Rattle.sr_model.specs.declared.audit.Counts.{Counts}
 use Rattle.sr_model.specs.Case.{key_at, IsFailedSet, IsAffected, source_of}
 use Rattle.sr_model.specs.Repair.{IsCaseAnswer}
 use Rattle.sr_model.specs.Audit.{AreLabelsOf, IsAudit, is_least, counts_of}
@@ -49,8 +50,13 @@ use Rattle.sr_print.specs.Printed.{staged_line, dropped_line, version_line, dist
 use Rattle.sr_print.specs.Forwarding.{next_line, label_line, walk_line}
 use Rattle.sr_fib.specs.Entries.{numbers}
 use Rattle.sr_print.specs.Refused.{refused_line}
+use Rattle.sr_repair.specs.Answers.{case_count}
 use Rattle.sr_repair.specs.Version.{Numbered}
 use Rattle.sr_repair.specs.Delivery.{RepairDelivers, EachRepairDelivers}
+use Rattle.sr_audit.specs.Cases.{AreNext}
+use Rattle.sr_audit.specs.Counted.{AreAuditCounts}
+use Rattle.sr_engine.specs.declared.session.Reply.{Reply}
+use Rattle.sr_engine.specs.declared.session.Reply.TheVariants.{Whole, Part}
 use Rattle.sr_run.specs.State.{State, number_of, net_of, with_editing, with_dropped, with_version}
 use Rattle.sr_run.specs.Refusals.{refusal_of_rule, refusal_of_malformed, IsRefusedAs}
 
@@ -264,6 +270,19 @@ AuditsWhole (Some version) number old out refused new =
     (items : List Item) × IsAudit version.net items
     × Accepts (item_lines version.net items ++ summary_line version.number (counts_of items)) old out refused new
 
+-- what `audit full` says from the case at this place on: the items that come next to those of the cases before it, item by item, and then how many answers of each sort the whole audit has
+pub record SaysRest (version : Numbered) (place : ℕ) (said : List ℕ) : Type 0 where
+  pub items : List Item
+  pub next : AreNext version.net place (case_count version.net.graph) items
+  pub counts : Counts
+  pub counted : AreAuditCounts version.net counts
+  pub lines : said ≡ item_lines version.net items ++ summary_line version.number counts
+
+-- the same of the last version, where there is one that has so many cases
+abbrev pub AuditsOn : Option Numbered → ℕ → State → List ℕ → Bool → State → Type 0
+AuditsOn None place old out refused new = ⊥
+AuditsOn (Some version) place old out refused new = SaysRest version place out × (refused ≡ false) × (new ≡ old)
+
 -- how many nodes the last net has, and 0 before the first
 abbrev pub nodes_of : Option Net → ℕ
 nodes_of None = 0
@@ -305,6 +324,11 @@ Answers old number line out refused new =
     ((fault : LineFault) × (reason : Refusal) × IsLineFault line fault × IsRefusedAs fault reason × Refuses reason number old out refused new)
     ⊎ ((LineSays line Nothing × Accepts [] old out refused new)
     ⊎ ((command : Command) × LineSays line (Word command) × CarriesOut command number old out refused new))
+
+-- the same from this place of the answer on: place 0 is its beginning, and the other places are those of the cases from which `audit full` goes on
+abbrev pub AnswersFrom : State → ℕ → List ℕ → ℕ → List ℕ → Bool → State → Type 0
+AnswersFrom old number line zero out refused new = Answers old number line out refused new
+AnswersFrom old number line (suc place) out refused new = AuditsOn old.current (suc place) old out refused new
 
 -- the end of the script says nothing, and changes nothing
 abbrev pub Ends : State → List ℕ → State → Type 0
@@ -350,6 +374,30 @@ pub record IsCarriedOut (command : Command) (number : ℕ) (old : State) (before
   pub said : List ℕ
   pub appended : after ≡ before ++ said
   pub carries : CarriesOut command number old said refused new
+
+-- a part of what `audit full` says from the case at this place on was appended. What it says from the next place on goes on from it, and there is such a rest
+pub record SaysPart (version : Numbered) (place : ℕ) (before after : List ℕ) (next : ℕ) : Type 0 where
+  pub later : place < next
+  pub part : List ℕ
+  pub appended : after ≡ before ++ part
+  pub goes_on : (said : List ℕ) → SaysRest version next said → SaysRest version place (part ++ said)
+  pub rest : List ℕ
+  pub there : SaysRest version next rest
+
+-- what `audit full` says from the case at this place on was appended, or a part of it
+abbrev pub GivesRest : Numbered → ℕ → List ℕ → List ℕ → Reply → Type 0
+GivesRest version place before after (Whole refused) = (said : List ℕ) × (after ≡ before ++ said) × SaysRest version place said × (refused ≡ false)
+GivesRest version place before after (Part next) = SaysPart version place before after next
+
+-- the same of the last version, which there is
+abbrev pub GoesOn : Option Numbered → ℕ → List ℕ → List ℕ → Reply → Type 0
+GoesOn None place before after reply = ⊥
+GoesOn (Some version) place before after reply = GivesRest version place before after reply
+
+-- the command's answer was appended, or the first part of an audit
+abbrev pub GivesAnswer : Command → ℕ → State → List ℕ → List ℕ → Reply → State → Type 0
+GivesAnswer command number old before after (Whole refused) new = IsCarriedOut command number old before after refused new
+GivesAnswer command number old before after (Part next) new = (command ≡ AuditFull) × GoesOn old.current 0 before after (Part next) × (new ≡ old)
 
 -- a refusal was appended for which a line with this fault is refused
 pub record IsRefusedLine (fault : LineFault) (number : ℕ) (before after : List ℕ) (refused : Bool) : Type 0 where

@@ -106,8 +106,8 @@ impl DomainSession {
         }
         match version.repair(case, destination) {
             Some(answer) => {
-                let labels = labels_of(self.alloc, version.net(), case, destination, answer)?;
-                put_repair(version.net(), case, destination, answer, &labels, out)?;
+                let labels = labels_of(self.alloc, version.net(), case, destination, &answer)?;
+                put_repair(version.net(), case, destination, &answer, &labels, out)?;
                 Ok(false)
             }
             None => DomainSession::refuse(number, &Refusal::NotAffected { node: dest }, out),

@@ -102,9 +102,9 @@ impl DomainSession {
             None => return DomainSession::refuse(number, &Refusal::NotAffected { node: dest }, out),
         };
         let source = version.net().graph().link(failure.case.link).from;
-        match walk_answer(self.alloc, version, failure, answer, choice)? {
+        match walk_answer(self.alloc, version, failure, &answer, choice)? {
             Some(links) => put_walk(version.net(), source, Some(&links), out)?,
-            None => put_walk_uncovered(answer, out)?,
+            None => put_walk_uncovered(&answer, out)?,
         }
         Ok(false)
     }

@@ -3,7 +3,7 @@ ghost use Rattle.std.specs.Prelude.{◌≡◌, ◌++◌, true, IfOk};
 ghost use Rattle.sr_print.specs.Refused.{refused_line};
 
 use crate::refusals::refusal_of_fault;
-use sr_engine::Session;
+use sr_engine::{Reply, Session};
 use sr_lsdb::Editor;
 use sr_print::{Refusal, put_dropped, put_refused};
 use sr_repair::Version;
@@ -35,7 +35,7 @@ impl Model for DomainSession {
 
 impl DomainSession {
     ghost use Rattle.sr_run.specs.State.{opening};
-    ghost use Rattle.sr_run.specs.Session.{IsAsked, IsCarriedOut, IsRefusedLine};
+    ghost use Rattle.sr_run.specs.Session.{GivesAnswer, IsAsked, IsCarriedOut, IsRefusedLine};
     ghost use Rattle.sr_script.specs.declared.command.Command.TheVariants.{DropStaged};
 
     /// A session before its first line.
@@ -83,49 +83,50 @@ impl DomainSession {
         }
     }
 
-    /// Carries out a command, and says whether it was refused.
+    /// Carries out a command, and says whether it was refused; or says the first part of an audit.
     fn carry_out(
         &mut self,
         rt: &(impl Threads + Sync),
         number: u32,
         command: Command,
         out: &mut Vec<u8>,
-    ) -> Result<bool, AllocError>
+    ) -> Result<Reply, AllocError>
         requires { IsAsked command }
-        ensures { IfOk result (λ refused.
-            IsCarriedOut command number self.old out.old.items out.new.items refused self.new) }
+        ensures { IfOk result (λ reply.
+            GivesAnswer command number self.old out.old.items out.new.items reply self.new) }
     {
-        match command {
-            Command::Lsp { octets } => self.announce(number, octets.as_slice(), out),
+        let refused = match command {
+            Command::AuditFull => return self.audit_whole(number, out),
+            Command::Lsp { octets } => self.announce(number, octets.as_slice(), out)?,
             Command::Cost {
                 from,
                 to,
                 n,
                 metric,
-            } => self.set_cost(number, from, to, n, metric, out),
-            Command::Down { from, to, n } => self.take_down(number, from, to, n, out),
-            Command::Up { from, to, n } => self.bring_up(number, from, to, n, out),
-            Command::Depth { depth } => self.set_depth(number, depth, out),
-            Command::Commit => self.commit(rt, number, out),
-            Command::DropStaged => self.drop_staged(number, out),
-            Command::Dist { from, to } => self.measure(number, from, to, out),
-            Command::Next { from, to } => self.name_hops(number, from, to, out),
-            Command::Label { node, label } => self.look_up(number, node, label, out),
+            } => self.set_cost(number, from, to, n, metric, out)?,
+            Command::Down { from, to, n } => self.take_down(number, from, to, n, out)?,
+            Command::Up { from, to, n } => self.bring_up(number, from, to, n, out)?,
+            Command::Depth { depth } => self.set_depth(number, depth, out)?,
+            Command::Commit => self.commit(rt, number, out)?,
+            Command::DropStaged => self.drop_staged(number, out)?,
+            Command::Dist { from, to } => self.measure(number, from, to, out)?,
+            Command::Next { from, to } => self.name_hops(number, from, to, out)?,
+            Command::Label { node, label } => self.look_up(number, node, label, out)?,
             Command::Spaces {
                 kind,
                 from,
                 to,
                 n,
                 dest,
-            } => self.name_spaces(number, kind, from, to, n, dest, out),
+            } => self.name_spaces(number, kind, from, to, n, dest, out)?,
             Command::Repair {
                 kind,
                 from,
                 to,
                 n,
                 dest,
-            } => self.name_repair(number, kind, from, to, n, dest, out),
-            Command::Walk { from, dest, choice } => self.forward(number, from, dest, choice, out),
+            } => self.name_repair(number, kind, from, to, n, dest, out)?,
+            Command::Walk { from, dest, choice } => self.forward(number, from, dest, choice, out)?,
             Command::WalkRepair {
                 kind,
                 from,
@@ -133,19 +134,19 @@ impl DomainSession {
                 n,
                 dest,
                 choice,
-            } => self.walk_repair(number, kind, from, to, n, dest, choice, out),
-            Command::Audit => self.sum_up(number, out),
-            Command::AuditFull => self.audit_whole(number, out),
-            Command::Show => self.show(number, out),
-            _ => DomainSession::refuse(number, &Refusal::NotBuilt, out),
-        }
+            } => self.walk_repair(number, kind, from, to, n, dest, choice, out)?,
+            Command::Audit => self.sum_up(number, out)?,
+            Command::Show => self.show(number, out)?,
+            _ => DomainSession::refuse(number, &Refusal::NotBuilt, out)?,
+        };
+        Ok(Reply::Whole(refused))
     }
 }
 
 impl Session for DomainSession {
-    ghost use Rattle.sr_run.specs.Session.{Answers, Ends};
+    ghost use Rattle.sr_run.specs.Session.{AnswersFrom, Ends};
 
-    ghost answers = { Answers };
+    ghost answers = { AnswersFrom };
 
     ghost ends = { Ends };
 
@@ -154,12 +155,18 @@ impl Session for DomainSession {
         rt: &R,
         number: u32,
         line: &[u8],
+        place: u32,
         out: &mut Vec<u8>,
-    ) -> Result<bool, AllocError> {
+    ) -> Result<Reply, AllocError> {
+        if place > 0 {
+            return self.audit_on(place, out);
+        }
         match read_line(self.alloc, line) {
-            Ok(Line::Nothing) => Ok(false),
+            Ok(Line::Nothing) => Ok(Reply::Whole(false)),
             Ok(Line::Word(command)) => self.carry_out(rt, number, command, out),
-            Err(fault) => DomainSession::refuse_line(number, &fault, out),
+            Err(fault) => Ok(Reply::Whole(DomainSession::refuse_line(
+                number, &fault, out,
+            )?)),
         }
     }
 
