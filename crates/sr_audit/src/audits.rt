@@ -24,17 +24,17 @@ fn item_of<'a>(
     alloc: Global,
     net: &Net,
     case: Case,
-    entry: NodeAnswer<'a>,
+    found: NodeAnswer<'a>,
 ) -> Result<Item<'a>, AllocError>
     requires case { IsCase net.now.graph case }
-    requires affected { IsAffected net.now case entry.destination.0 }
-    requires answer { IsCaseAnswer net.now case entry.destination.0 entry.answer }
-    ensures { IfOk result (IsItemFor net.now case entry) }
+    requires affected { IsAffected net.now case found.destination.0 }
+    requires answer { IsCaseAnswer net.now case found.destination.0 found.answer }
+    ensures { IfOk result (IsItemFor net.now case found.entry) }
 {
     let NodeAnswer {
         destination,
         answer,
-    } = entry;
+    } = found;
     let labels = labels_of(alloc, net, case, destination, &answer)?;
     Ok(Item {
         case,
@@ -106,12 +106,12 @@ fn all_items<'a>(
         .into_par_iter()
         .with_min_len(16)
         .map(
-            |place: u32| -> Result<Vec<Item<'a>>, AllocError>
+            |place: u32| -> Result<Vec<Item>, AllocError>
                 requires { place < case_count version.now.net.graph }
                 ensures { IfOk result (λ items. IsAuditAt version.entry.now.net place items.items) }
             { items_at(alloc, version, place) },
         )
-        .collect::<Result<Vec<Vec<Item<'a>>>, AllocError>>(rt, alloc);
+        .collect::<Result<Vec<Vec<Item>>, AllocError>>(rt, alloc);
     match collected {
         Ok(lists) => lists,
         Err(refused) => Err(refused),
@@ -133,7 +133,7 @@ fn item_count(lists: &[Vec<Item<'_>>]) -> usize
 /// The items of all lists, in order.
 fn joined<'a>(alloc: Global, lists: Vec<Vec<Item<'a>>>) -> Result<Vec<Item<'a>>, AllocError>
     requires { length (flat_map vec_items lists.items) < 2 ^ 32 }
-    ensures { IfOk result (λ items. items.items ≡ flat_map vec_items lists.items) }
+    ensures { IfOk result (λ items. items.items ≡ flat_map vec_items lists.entry.items) }
 {
     let mut items = Vec::with_capacity(alloc, item_count(&lists))?;
     for list in lists {

@@ -25,7 +25,7 @@ impl<'a> Model for Report<'a> {
 impl<'a> Report<'a> {
     /// The report of these items.
     pub(crate) fn new(version: u32, items: Vec<Item<'a>>) -> Report<'a>
-        ensures { result ≡ record { version = version; items = items.items } }
+        ensures { result ≡ record { version = version; items = items.entry.items } }
     {
         Report { version, items }
     }

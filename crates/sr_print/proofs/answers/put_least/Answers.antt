@@ -17,4 +17,4 @@ returns-clause-line c =
     let route : PutsRoute n c.args.d.0 list.first.0 list.segments two three = rw c.list.ensures at c.in_ok-put_route.ensures.line in
     on_ok_weaker c.put_numbered.result
     (λ is. list-put n c.args.d.0 list c.args.out.now.items one two three c.put_numbered.new.out.items c.in_ok-extend_from_slice.ensures.items second route is)
-    c.put_numbered.ensures.line
+    (rw c.from.ensures at c.put_numbered.ensures.line)
