@@ -1,14 +1,16 @@
 -- A moment of a run, and how the run goes on from one to another. What is held of a line is its head alone, so the
 -- facts speak of every line that has it.
-use Rattle.std.specs.Prelude.{◌≡◌, ℕ, ◌+◌, ◌≤◌, ◌<◌, Bool, false, ◌||◌, List, [], ◌++◌, length, take, MatchResult}
+use Rattle.std.specs.Prelude.{◌≡◌, ℕ, ◌+◌, ◌≤◌, ◌<◌, ◌⊎◌, Bool, false, ◌||◌, List, [], ◌++◌, length, take, MatchResult}
 use Rattle.std.specs.Io.KnownBytes.{Appends}
 use Rattle.std.specs.declared.option.Option.{Option}
 use Rattle.std.specs.declared.result.Result.{Result}
 use Rattle.sr_base.specs.declared.SinkFault.{SinkFault}
 use Rattle.sr_base.specs.Writing.{CauseOf}
 use Rattle.sr_engine.specs.Lines.{Splits, IsUnbroken, head_of, last_line}
-use Rattle.sr_engine.specs.Replies.{Answering, Closing, Replies}
+use Rattle.sr_engine.specs.Replies.{Answering, Closing, Partly, Replies, AnswersPart, whole, from_place}
 use Rattle.sr_engine.specs.declared.progress.Progress.{Progress}
+use Rattle.sr_engine.specs.declared.session.Reply.{Reply}
+use Rattle.sr_engine.specs.declared.session.Reply.TheVariants.{Whole, Part}
 
 -- the session's state, the lines so far, whether one was refused, the bytes since the last line feed, and the answers
 pub record Moment (S : Type 0) : Type 0 where
@@ -34,6 +36,7 @@ pub record IsFresh {S : Type 0} (progress : Progress S) : Type 0 where
   pub lines : progress.lines ≡ 0
   pub refused : progress.refused ≡ false
   pub kept : progress.kept.items ≡ []
+  pub place : progress.place ≡ 0
   pub out : progress.out.items ≡ []
 
 -- the moment at which a run begins
@@ -59,22 +62,100 @@ pub record AnswersLine {S : Type 0} (answers : Answering S) (old : S) (number : 
   pub appended : after ≡ before ++ said
   pub from : (rest : List ℕ) → kept ≡ head_of rest → answers old number (rest ++ line) said refused new
 
--- the run went on over these bytes
-pub record Carried {S : Type 0} (answers : Answering S) (old : Progress S) (before bytes : List ℕ) (new : Progress S) : Type 0 where
+-- of the answer to a line that ends so the first part was given, and the line's head is held for the others
+pub record BeginsLine {S : Type 0} (answers : Partly S) (old : S) (number : ℕ) (kept line kept' before after : List ℕ) (next : ℕ) (new : S) : Type 0 where
+  pub head : (rest : List ℕ) → kept ≡ head_of rest → kept' ≡ head_of (rest ++ line)
+  pub part : AnswersPart answers old number kept' 0 before after next new
+
+-- a line that ends so was answered and nothing of it is held any more, or the answer was begun
+abbrev pub RepliesLine : {S : Type 0} → Partly S → S → ℕ → List ℕ → List ℕ → List ℕ → List ℕ → List ℕ → Reply → S → Type 0
+RepliesLine answers old number kept line kept' before after (Whole refused) new = AnswersLine (whole answers) old number kept line before after refused new × (kept' ≡ [])
+RepliesLine answers old number kept line kept' before after (Part next) new = BeginsLine answers old number kept line kept' before after next new
+
+-- what may remain of the answer to the line that came last, whether that line is refused, and the state after it: nothing, where no answer goes on
+pub record Remains {S : Type 0} (answers : Partly S) (progress : Progress S) (more : List ℕ) (again : Bool) (next : S) : Type 0 where
+  pub none : progress.place ≡ 0 → (more ≡ []) × (again ≡ false) × (next ≡ progress.session)
+  pub some : 0 < progress.place → (line : List ℕ) → progress.kept.items ≡ head_of line → answers progress.session progress.lines line progress.place more again next
+
+-- what is still to be written of the lines that came, whether one was refused then, and the state then: what is gathered, and what remains of an answer that goes on
+pub record Owes {S : Type 0} (answers : Partly S) (progress : Progress S) (said : List ℕ) (refused : Bool) (next : S) : Type 0 where
+  pub more : List ℕ
+  pub again : Bool
+  pub remains : Remains answers progress more again next
+  pub gathered : said ≡ progress.out.items ++ more
+  pub refusal : refused ≡ progress.refused || again
+
+-- there is something that is owed so
+pub record Owing {S : Type 0} (answers : Partly S) (progress : Progress S) : Type 0 where
+  pub said : List ℕ
+  pub refused : Bool
+  pub next : S
+  pub owes : Owes answers progress said refused next
+
+-- these are the bytes since the last line feed: their head is held, or that of the last line while its answer goes on, and then none came since
+pub record IsSince {S : Type 0} (progress : Progress S) (rest : List ℕ) : Type 0 where
+  pub held : progress.place ≡ 0 → IsKept progress.kept.items rest
+  pub none : 0 < progress.place → rest ≡ []
+
+-- where the run stands, with these bytes since the last line feed, once what is owed was given so
+abbrev pub moment_then : {S : Type 0} → Progress S → List ℕ → List ℕ → Bool → S → Moment S
+moment_then progress rest said refused next = record { state = next; lines = progress.lines; refused = refused; rest = rest; out = said }
+
+-- the run went on over these bytes, whatever of what it owes then is given
+pub record Carried {S : Type 0} (answers : Partly S) (old : Progress S) (before bytes : List ℕ) (new : Progress S) : Type 0 where
   pub rest : List ℕ
-  pub kept : IsKept new.kept.items rest
-  pub carries : Carries answers (moment_of old before) bytes (moment_of new rest)
+  pub since : IsSince new rest
+  pub carries : (said : List ℕ) (refused : Bool) (next : S) → Owes answers new said refused next → Carries (whole answers) (moment_of old before) bytes (moment_then new rest said refused next)
 
 -- the same, whatever the bytes since the last line feed were of which the head is held
-pub record CarriesOn {S : Type 0} (answers : Answering S) (old : Progress S) (bytes : List ℕ) (new : Progress S) : Type 0 where
+pub record CarriesOn {S : Type 0} (answers : Partly S) (old : Progress S) (bytes : List ℕ) (new : Progress S) : Type 0 where
   pub from : (rest : List ℕ) → IsKept old.kept.items rest → Carried answers old rest bytes new
   pub few : new.lines ≤ old.lines + length bytes
+  pub owing : Owing answers new
 
 -- the run went on over the first bytes of the piece, at least one
-pub record Advances {S : Type 0} (answers : Answering S) (old : Progress S) (piece : List ℕ) (count : ℕ) (new : Progress S) : Type 0 where
+pub record Advances {S : Type 0} (answers : Partly S) (old : Progress S) (piece : List ℕ) (count : ℕ) (new : Progress S) : Type 0 where
   pub some : 0 < count
   pub within : count ≤ length piece
   pub carries : CarriesOn answers old (take count piece) new
+
+-- these bytes were given of what was owed: what is owed then was owed after them. No byte of the script came
+pub record Pays {S : Type 0} (answers : Partly S) (old : Progress S) (given : List ℕ) (new : Progress S) : Type 0 where
+  pub owes : (said : List ℕ) (refused : Bool) (next : S) → Owes answers new said refused next → Owes answers old (given ++ said) refused next
+  pub owing : Owing answers new
+  pub lines : new.lines ≡ old.lines
+  pub since : (rest : List ℕ) → IsSince old rest → IsSince new rest
+
+-- the answer that goes on was answered further, to its end or to a later place, and is gathered
+pub record GoesOn {S : Type 0} (answers : Partly S) (old new : Progress S) : Type 0 where
+  pub pays : Pays answers old [] new
+  pub later : (new.place ≡ 0) ⊎ (old.place < new.place)
+
+-- what was owed so far was appended to the sink
+pub record Paid {S : Type 0} (answers : Partly S) (old new : Progress S) (held held' : Option (List ℕ)) : Type 0 where
+  pub given : List ℕ
+  pub appended : Appends held held' given
+  pub pays : Pays answers old given new
+
+-- all that was owed was appended to the sink
+pub record Settled {S : Type 0} (answers : Partly S) (old new : Progress S) (held held' : Option (List ℕ)) : Type 0 where
+  pub paid : Paid answers old new held held'
+  pub place : new.place ≡ 0
+  pub sent : new.out.items ≡ []
+
+-- a beginning of what was owed was appended to the sink
+pub record BeginsOwed {S : Type 0} (answers : Partly S) (old : Progress S) (held held' : Option (List ℕ)) : Type 0 where
+  pub given : List ℕ
+  pub more : List ℕ
+  pub appended : Appends held held' given
+  pub refused : Bool
+  pub next : S
+  pub owes : Owes answers old (given ++ more) refused next
+
+-- all that was owed was written, or at a fault that has its cause a beginning of it
+pub record Settles {S : Type 0} (answers : Partly S) (old new : Progress S) (held held' : Option (List ℕ)) (faults faults' : ℕ) (result : Result (Unit {0}) SinkFault) : Type 0 where
+  pub bytes : MatchResult result (λ _. Settled answers old new held held') (λ _. BeginsOwed answers old held held')
+  pub cause : MatchResult result (λ _. faults' ≡ faults) (CauseOf faults faults')
 
 -- the run went on over these bytes, and the answers were appended to the sink
 pub record Passed {S : Type 0} (answers : Answering S) (old : Progress S) (before bytes : List ℕ) (new : Progress S) (held held' : Option (List ℕ)) : Type 0 where
@@ -84,10 +165,11 @@ pub record Passed {S : Type 0} (answers : Answering S) (old : Progress S) (befor
   pub appended : Appends held held' said
   pub carries : Carries answers (moment_with old before []) bytes (moment_with new rest said)
 
--- the same, whatever the bytes since the last line feed were of which the head is held; nothing is left to be written
+-- the same, whatever the bytes since the last line feed were of which the head is held; nothing is owed
 pub record PassesAll {S : Type 0} (answers : Answering S) (old : Progress S) (bytes : List ℕ) (new : Progress S) (held held' : Option (List ℕ)) : Type 0 where
   pub from : (rest : List ℕ) → IsKept old.kept.items rest → Passed answers old rest bytes new held held'
   pub few : new.lines ≤ old.lines + length bytes
+  pub place : new.place ≡ 0
   pub sent : new.out.items ≡ []
 
 -- the run went on over the first of these bytes, and a beginning of the answers was appended to the sink
@@ -119,10 +201,9 @@ pub record EndedLast {S : Type 0} (answers : Answering S) (old : Progress S) (re
   pub refusal : new.refused ≡ old.refused || again
   pub appended : new.out.items ≡ old.out.items ++ said
 
--- the same, whatever the bytes since the last line feed were of which the head is held; no line feed came
+-- the same, whatever the bytes since the last line feed were of which the head is held
 pub record EndsLast {S : Type 0} (answers : Answering S) (old : Progress S) (new : Progress S) : Type 0 where
   pub from : (rest : List ℕ) → IsKept old.kept.items rest → EndedLast answers old rest new
-  pub counted : new.lines ≡ old.lines
 
 -- the line that no line feed ended was answered, and then the end of the script
 pub record Closed {S : Type 0} (answers : Answering S) (ends : Closing S) (old : Progress S) (rest : List ℕ) (new : Progress S) : Type 0 where
@@ -135,7 +216,6 @@ pub record Closed {S : Type 0} (answers : Answering S) (ends : Closing S) (old :
   pub end : ends last tail new.session
   pub appended : new.out.items ≡ old.out.items ++ (said ++ tail)
 
--- the same, whatever the bytes since the last line feed were of which the head is held; no line feed came
+-- the same, whatever the bytes since the last line feed were of which the head is held
 pub record Closes {S : Type 0} (answers : Answering S) (ends : Closing S) (old : Progress S) (new : Progress S) : Type 0 where
   pub from : (rest : List ℕ) → IsKept old.kept.items rest → Closed answers ends old rest new
-  pub counted : new.lines ≡ old.lines

@@ -26,6 +26,7 @@ pub record Going {S : Type 0} (answers : Answering S) (opening : S) (left left' 
   pub said : List ℕ
   pub appended : Appends held held' said
   pub goes : Goes answers opening taken said progress
+  pub place : progress.place ≡ 0
   pub sent : progress.out.items ≡ []
 
 -- this answers the line that no line feed ended and the end of the script

@@ -10,7 +10,7 @@ mod session;
 pub use laws::lines_are_determined;
 pub use output::write_all;
 pub use run::{End, run_script};
-pub use session::Session;
+pub use session::{Reply, Session};
 
 #[cfg(test)]
 mod tests;

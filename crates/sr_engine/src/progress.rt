@@ -1,9 +1,12 @@
 //! Where a run stands: what it has answered so far, and what is held of the line that goes on.
 ghost use Rattle.std.specs.Prelude.{◌≡◌, ◌+◌, ◌<◌, ◌^◌, ℕ, List, [], ◌∷◌, ◌++◌, length, false, IfOk, OnOk};
 ghost use Rattle.sr_engine.specs.Lines.{IsUnbroken, head_of};
-ghost use Rattle.sr_engine.specs.Moments.{Advances, AnswersLine, CarriesOn, Closes, EndsLast};
+ghost use Rattle.sr_engine.specs.Replies.{whole};
+ghost use Rattle.sr_engine.specs.Moments.{
+    Advances, CarriesOn, Closes, EndsLast, GoesOn, Owing, RepliesLine
+};
 
-use crate::session::Session;
+use crate::session::{Reply, Session};
 use memchr::memchr;
 use std::alloc::{AllocError, Global};
 use std::thread::Threads;
@@ -21,8 +24,11 @@ pub struct Progress<T> {
     pub lines: u32,
     /// Was a line refused?
     pub refused: bool,
-    /// The first bytes since the last line feed, as far as a session is handed them.
+    /// The first bytes since the last line feed, as far as a session is handed them; while an answer goes on, those of
+    /// its line.
     pub kept: Vec<u8>,
+    /// From which place the answer to the line that came last goes on; 0 where it is whole.
+    pub place: u32,
     /// The answers that are still to be written.
     pub out: Vec<u8>,
 }
@@ -37,7 +43,7 @@ fn keep(kept: &mut Vec<u8>, more: &[u8]) -> Result<(), AllocError>
     Ok(())
 }
 
-/// Answers the line that these bytes end, and holds nothing of it any more.
+/// Answers the line that these bytes end. It holds nothing of the line then, or its head where the answer goes on.
 fn answer_line<T: Session>(
     rt: &(impl Threads + Sync),
     session: &mut T,
@@ -45,19 +51,27 @@ fn answer_line<T: Session>(
     kept: &mut Vec<u8>,
     line: &[u8],
     out: &mut Vec<u8>,
-) -> Result<bool, AllocError>
-    ensures answered { IfOk result (λ refused. AnswersLine T.answers session.old number kept.old.items line.now out.old.items out.new.items refused session.new) }
-    ensures kept { OnOk result (kept.new.items ≡ []) }
+) -> Result<Reply, AllocError>
+    ensures { IfOk result (λ reply. RepliesLine T.answers session.old number kept.old.items line.now kept.new.items out.old.items out.new.items reply session.new) }
 {
     if kept.as_slice().is_empty() {
         let count = line.len().min(LONGEST_LINE + 1);
-        let refused = session.answer(rt, number, &line[..count], out)?;
-        return Ok(refused);
+        match session.answer(rt, number, &line[..count], 0, out)? {
+            Reply::Whole(refused) => return Ok(Reply::Whole(refused)),
+            Reply::Part(next) => {
+                keep(kept, line)?;
+                return Ok(Reply::Part(next));
+            }
+        }
     }
     keep(kept, line)?;
-    let refused = session.answer(rt, number, kept.as_slice(), out)?;
-    kept.clear();
-    Ok(refused)
+    match session.answer(rt, number, kept.as_slice(), 0, out)? {
+        Reply::Whole(refused) => {
+            kept.clear();
+            Ok(Reply::Whole(refused))
+        }
+        Reply::Part(next) => Ok(Reply::Part(next)),
+    }
 }
 
 impl<T: Session> Progress<T> {
@@ -67,6 +81,7 @@ impl<T: Session> Progress<T> {
         ensures lines { result.lines ≡ 0 }
         ensures refused { result.refused ≡ false }
         ensures kept { result.kept.items ≡ [] }
+        ensures place { result.place ≡ 0 }
         ensures out { result.out.items ≡ [] }
     {
         Progress {
@@ -74,6 +89,7 @@ impl<T: Session> Progress<T> {
             lines: 0,
             refused: false,
             kept: Vec::new(alloc),
+            place: 0,
             out: Vec::new(alloc),
         }
     }
@@ -87,19 +103,21 @@ impl<T: Session> Progress<T> {
             lines: _lines,
             refused: _refused,
             kept: _kept,
+            place: _place,
             out: _out,
         } = self;
         session
     }
 
-    /// Answers the line that these bytes and a line feed end.
+    /// Answers the line that these bytes and a line feed end, or begins its answer.
     fn end_line(&mut self, rt: &(impl Threads + Sync), line: &[u8]) -> Result<(), AllocError>
         requires room { self.old.lines + 1 < 2 ^ 32 }
+        requires settled { self.old.place ≡ 0 }
         requires line { IsUnbroken line.now }
         ensures { OnOk result (CarriesOn T.answers self.old (line.now ++ 10 ∷ []) self.new) }
     {
         let number = self.lines + 1;
-        let refused = answer_line(
+        let reply = answer_line(
             rt,
             &mut self.session,
             number,
@@ -108,13 +126,41 @@ impl<T: Session> Progress<T> {
             &mut self.out,
         )?;
         self.lines = number;
-        self.refused |= refused;
+        match reply {
+            Reply::Whole(refused) => self.refused |= refused,
+            Reply::Part(next) => self.place = next,
+        }
+        Ok(())
+    }
+
+    /// Goes on with the answer to the line that came last.
+    pub fn go_on(&mut self, rt: &(impl Threads + Sync)) -> Result<(), AllocError>
+        requires goes { 0 < self.old.place }
+        requires owing { Owing T.answers self.old }
+        ensures { OnOk result (GoesOn T.answers self.old self.new) }
+    {
+        let reply = self.session.answer(
+            rt,
+            self.lines,
+            self.kept.as_slice(),
+            self.place,
+            &mut self.out,
+        )?;
+        match reply {
+            Reply::Whole(refused) => {
+                self.kept.clear();
+                self.place = 0;
+                self.refused |= refused;
+            }
+            Reply::Part(next) => self.place = next,
+        }
         Ok(())
     }
 
     /// Holds bytes of a line that goes on.
     fn hold(&mut self, bytes: &[u8]) -> Result<(), AllocError>
-        requires { IsUnbroken bytes.now }
+        requires settled { self.old.place ≡ 0 }
+        requires bytes { IsUnbroken bytes.now }
         ensures { OnOk result (CarriesOn T.answers self.old bytes.now self.new) }
     {
         keep(&mut self.kept, bytes)?;
@@ -122,7 +168,7 @@ impl<T: Session> Progress<T> {
     }
 
     /// Answers the lines that end within the next bytes, and says how many of these bytes it took: all, or where many
-    /// answers are gathered only those up to a line feed.
+    /// answers are gathered or an answer goes on only those up to a line feed.
     pub fn carry_on(
         &mut self,
         rt: &(impl Threads + Sync),
@@ -130,12 +176,16 @@ impl<T: Session> Progress<T> {
     ) -> Result<usize, AllocError>
         requires room { self.old.lines + length piece.now < 2 ^ 32 }
         requires some { 0 < length piece.now }
+        requires settled { self.old.place ≡ 0 }
         ensures { IfOk result (λ count. Advances T.answers self.old piece.now count self.new) }
     {
         let mut at = 0;
         'lines: while let Some(count) = memchr(b'\n', &piece[at..]) {
             self.end_line(rt, &piece[at..at + count])?;
             at += count + 1;
+            if self.place > 0 {
+                return Ok(at);
+            }
             if self.out.len() > GATHERED {
                 return Ok(at);
             }
@@ -144,31 +194,27 @@ impl<T: Session> Progress<T> {
         Ok(piece.len())
     }
 
-    /// Answers the line that no line feed ends, where there is one.
+    /// Answers the line that no line feed ends whole, where there is one.
     fn end_last_line(&mut self, rt: &(impl Threads + Sync)) -> Result<(), AllocError>
-        requires { self.old.lines + 1 < 2 ^ 32 }
-        ensures { OnOk result (EndsLast T.answers self.old self.new) }
+        requires room { self.old.lines + 1 < 2 ^ 32 }
+        requires settled { self.old.place ≡ 0 }
+        ensures { OnOk result (EndsLast (whole T.answers) self.old self.new) }
     {
         if self.kept.as_slice().is_empty() {
             return Ok(());
         }
-        let number = self.lines + 1;
-        let refused = answer_line(
-            rt,
-            &mut self.session,
-            number,
-            &mut self.kept,
-            &[],
-            &mut self.out,
-        )?;
-        self.refused |= refused;
+        self.end_line(rt, &[])?;
+        'parts: while self.place > 0 {
+            self.go_on(rt)?;
+        }
         Ok(())
     }
 
     /// Answers the line that no line feed ends, and the end of the script.
     pub fn finish(&mut self, rt: &(impl Threads + Sync)) -> Result<(), AllocError>
-        requires { self.old.lines + 1 < 2 ^ 32 }
-        ensures { OnOk result (Closes T.answers T.ends self.old self.new) }
+        requires room { self.old.lines + 1 < 2 ^ 32 }
+        requires settled { self.old.place ≡ 0 }
+        ensures { OnOk result (Closes (whole T.answers) T.ends self.old self.new) }
     {
         self.end_last_line(rt)?;
         self.session.finish(&mut self.out)?;

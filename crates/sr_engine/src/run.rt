@@ -2,7 +2,8 @@
 ghost use Rattle.std.specs.Prelude.{◌≡◌, ◌<◌, ◌+◌, ◌^◌, [], length};
 ghost use Rattle.sr_engine.specs.Endings.{CountsShow, Ran, ending_of};
 ghost use Rattle.sr_engine.specs.Statuses.{status_of};
-ghost use Rattle.sr_engine.specs.Moments.{IsFresh, Passes};
+ghost use Rattle.sr_engine.specs.Moments.{IsFresh, Owing, Passes, Settles};
+ghost use Rattle.sr_engine.specs.Replies.{whole};
 ghost use Rattle.sr_engine.specs.Turns.{Finishes};
 
 use crate::output::write_all;
@@ -60,6 +61,31 @@ fn ending(fault: SinkFault) -> End
     }
 }
 
+/// Writes what is gathered, and what remains of an answer that goes on, part after part: each is written before the next
+/// is asked for. A fault is the sink's, or want of memory.
+fn settle<T: Session, K: Sink>(
+    rt: &(impl Threads + Sync),
+    progress: &mut Progress<T>,
+    sink: &mut K,
+) -> Result<(), SinkFault>
+    requires { Owing T.answers progress.old }
+    ensures { Settles T.answers progress.old progress.new (K.held sink.old) (K.held sink.new) (K.faults sink.old) (K.faults sink.new) result }
+{
+    'parts: loop {
+        match write_all(sink, progress.out.as_slice()) {
+            Ok(()) => progress.out.clear(),
+            Err(fault) => return Err(fault),
+        }
+        if progress.place == 0 {
+            return Ok(());
+        }
+        match progress.go_on(rt) {
+            Ok(()) => {}
+            Err(error) => return Err(SinkFault::Memory(error)),
+        }
+    }
+}
+
 /// Answers the lines that end within the next bytes, and writes the answers. A fault is the sink's, or want of memory.
 fn answer_piece<T: Session, K: Sink>(
     rt: &(impl Threads + Sync),
@@ -68,8 +94,9 @@ fn answer_piece<T: Session, K: Sink>(
     sink: &mut K,
 ) -> Result<(), SinkFault>
     requires room { progress.old.lines + length piece.now < 2 ^ 32 }
+    requires settled { progress.old.place ≡ 0 }
     requires sent { progress.old.out.items ≡ [] }
-    ensures { Passes T.answers progress.old piece.now progress.new (K.held sink.old) (K.held sink.new) (K.faults sink.old) (K.faults sink.new) result }
+    ensures { Passes (whole T.answers) progress.old piece.now progress.new (K.held sink.old) (K.held sink.new) (K.faults sink.old) (K.faults sink.new) result }
 {
     let mut at = 0;
     'stretches: while at < piece.len() {
@@ -77,8 +104,8 @@ fn answer_piece<T: Session, K: Sink>(
             Ok(count) => at += count,
             Err(error) => return Err(SinkFault::Memory(error)),
         }
-        match write_all(sink, progress.out.as_slice()) {
-            Ok(()) => progress.out.clear(),
+        match settle(rt, progress, sink) {
+            Ok(()) => {}
             Err(fault) => return Err(fault),
         }
     }
@@ -91,8 +118,9 @@ fn end_script<T: Session, K: Sink>(
     progress: &mut Progress<T>,
     sink: &mut K,
 ) -> End
-    requires { progress.old.lines + 1 < 2 ^ 32 }
-    ensures { Finishes T.answers T.ends progress.old progress.new (K.held sink.old) (K.held sink.new) (K.faults sink.old) (K.faults sink.new) result }
+    requires room { progress.old.lines + 1 < 2 ^ 32 }
+    requires settled { progress.old.place ≡ 0 }
+    ensures { Finishes (whole T.answers) T.ends progress.old progress.new (K.held sink.old) (K.held sink.new) (K.faults sink.old) (K.faults sink.new) result }
 {
     match progress.finish(rt) {
         Ok(()) => {}
@@ -114,7 +142,7 @@ fn read_all<T: Session, S: Source, K: Sink>(
 ) -> End
     requires room { 0 < length buffer.old }
     requires fresh { IsFresh progress.old }
-    ensures ran { Ran T.answers T.ends progress.old.session (S.left source.old) (S.left source.new) (K.held sink.old) (K.held sink.new) result progress.new.session }
+    ensures ran { Ran (whole T.answers) T.ends progress.old.session (S.left source.old) (S.left source.new) (K.held sink.old) (K.held sink.new) result progress.new.session }
     ensures counts { CountsShow (S.faults source.old) (S.faults source.new) (K.faults sink.old) (K.faults sink.new) result }
 {
     let mut taken = 0u32;
@@ -142,8 +170,9 @@ fn read_all<T: Session, S: Source, K: Sink>(
 /// a line feed, the last one also with the script. The answers to all lines that end within a piece are written before
 /// the source is read again: no clause says so, and a test shows it.
 ///
-/// Beside the session the run takes memory for one piece, for the first 140,001 bytes of a line that goes on, and for
-/// answers: those of one line and 65,536 bytes more, since answers are written as soon as more than that is gathered.
+/// Beside the session the run takes memory for one piece, for the first 140,001 bytes of a line, and for answers: a part
+/// of one and 65,536 bytes more, since answers are written as soon as more than that is gathered, and a part before the
+/// answer goes on. The answer to a last line without a line feed is gathered whole.
 ///
 /// The run-time handle is for the session, which may split its work among threads: the run itself starts none.
 pub fn run_script<R: Threads + Sync, T: Session, S: Source, K: Sink>(
@@ -153,7 +182,7 @@ pub fn run_script<R: Threads + Sync, T: Session, S: Source, K: Sink>(
     source: &mut S,
     sink: &mut K,
 ) -> (End, T)
-    ensures ran { Ran T.answers T.ends session (S.left source.old) (S.left source.new) (K.held sink.old) (K.held sink.new) result.0 result.1 }
+    ensures ran { Ran (whole T.answers) T.ends session (S.left source.old) (S.left source.new) (K.held sink.old) (K.held sink.new) result.0 result.1 }
     ensures counts { CountsShow (S.faults source.old) (S.faults source.new) (K.faults sink.old) (K.faults sink.new) result.0 }
 {
     let mut buffer = match vec![in alloc; 0u8; PIECE] {

@@ -1,7 +1,10 @@
 //! Runs of a session that says its lines again.
-ghost use Rattle.std.specs.Prelude.{◌≡◌, ◌++◌, ◌∷◌, [], ◌+◌, ◌%◌, OnOk, None};
+ghost use Rattle.std.specs.Prelude.{
+    ◌≡◌, ◌++◌, ◌∷◌, [], ◌+◌, ◌<◌, ◌%◌, ℕ, List, length, Ok, OnOk, None
+};
+ghost use Rattle.sr_engine.specs.declared.session.Reply.TheVariants.{Part};
 
-use crate::session::Session;
+use crate::session::{Reply, Session};
 use crate::{End, run_script};
 use sr_base::{
     Failed, MemorySink, MemorySource, Sink, SinkFault, Source, SteadySink, SteadySource,
@@ -11,7 +14,8 @@ use std::cell::Cell;
 use std::thread::Threads;
 
 /// Answers a line by the last digit of its number and itself, and the end by `end`. An empty line and one with `#`
-/// are answered by nothing, one with `*` by 70,000 bytes more, and one with `!` is refused. At `?` memory is wanted.
+/// are answered by nothing, one with `*` by 70,000 bytes more, and one with `!` is refused. At `?` memory is wanted. A
+/// line with `+` is answered in parts.
 #[derive(Drop)]
 struct Echo {
     alloc: Global,
@@ -26,8 +30,36 @@ fn say(out: &mut Vec<u8>, number: u32, line: &[u8]) -> Result<(), AllocError>
     Ok(())
 }
 
+/// Says the line byte by byte: the last digit of its number comes in place of the `+`, nothing for `~`, and at the end
+/// that digit again with a line feed. It is refused where it ends with `!`, and at `?` memory is wanted.
+fn say_part(
+    out: &mut Vec<u8>,
+    number: u32,
+    line: &[u8],
+    place: u32,
+) -> Result<Reply, AllocError>
+    requires { 0 < length line.now }
+    ensures appends { OnOk result ((part : List ℕ) × (out.new.items ≡ out.old.items ++ part)) }
+    ensures later { (next : ℕ) → result ≡ Ok (Part next) → place < next }
+{
+    let digit = 48 + (number % 10) as u8;
+    let at = place as usize;
+    if at >= line.len().min(1_000_000) {
+        out.push(digit)?;
+        out.push(b'\n')?;
+        return Ok(Reply::Whole(line[line.len() - 1] == b'!'));
+    }
+    match line[at] {
+        b'?' => return Err(AllocError),
+        b'~' => {}
+        b'+' => out.push(digit)?,
+        byte => out.push(byte)?,
+    }
+    Ok(Reply::Part(place + 1))
+}
+
 impl Session for Echo {
-    ghost answers = { λ state number line said refused next. Unit {0} };
+    ghost answers = { λ state number line place said refused next. Unit {0} };
 
     ghost ends = { λ state said next. Unit {0} };
 
@@ -36,13 +68,17 @@ impl Session for Echo {
         rt: &R,
         number: u32,
         line: &[u8],
+        place: u32,
         out: &mut Vec<u8>,
-    ) -> Result<bool, AllocError> {
+    ) -> Result<Reply, AllocError> {
         if line.is_empty() {
-            return Ok(false);
+            return Ok(Reply::Whole(false));
         }
         if line[0] == b'#' {
-            return Ok(false);
+            return Ok(Reply::Whole(false));
+        }
+        if line[0] == b'+' {
+            return say_part(out, number, line, place);
         }
         if line[0] == b'?' {
             return Err(AllocError);
@@ -50,15 +86,35 @@ impl Session for Echo {
         if line[0] == b'*' {
             let much = vec![in self.alloc; b'*'; 70_000]?;
             say(out, number, much.as_slice())?;
-            return Ok(false);
+            return Ok(Reply::Whole(false));
         }
         say(out, number, line)?;
-        Ok(line[0] == b'!')
+        Ok(Reply::Whole(line[0] == b'!'))
     }
 
     fn finish(&mut self, out: &mut Vec<u8>) -> Result<(), AllocError> {
         out.extend_from_slice(b"end\n")?;
         Ok(())
+    }
+}
+
+/// Takes at most two bytes at a call.
+#[derive(Drop)]
+struct Drip {
+    bytes: Vec<u8>,
+}
+
+impl Sink for Drip {
+    ghost held = { λ s. None };
+
+    ghost faults = { λ s. 0 };
+
+    fn write(&mut self, piece: &[u8]) -> Result<usize, SinkFault> {
+        let count = piece.len().min(2);
+        match self.bytes.extend_from_slice(&piece[..count]) {
+            Ok(()) => Ok(count),
+            Err(error) => Err(SinkFault::Memory(error)),
+        }
     }
 }
 
@@ -195,6 +251,61 @@ fn a_write_fails(rt: HostRuntime) -> Result<(), AllocError> {
     assert_eq!(rt; end.status(), 4);
     assert_eq!(rt; sink.bytes(), b"1one\n".as_slice());
     assert_eq!(rt; sink.calls(), 2);
+    Ok(())
+}
+
+const PARTS: [(&[u8], u8, &[u8]); 7] = [
+    (b"one\n+ab~c\nthree\n", 0, b"1one\n2abc2\n3three\nend\n"),
+    (b"+~~~\n+!\n\n", 1, b"11\n2!2\nend\n"),
+    (b"+a\n+b\n+c\nd", 0, b"1a1\n2b2\n3c3\n4d\nend\n"),
+    (b"+\n+", 0, b"11\n22\nend\n"),
+    (b"one\n+ab~!", 1, b"1one\n2ab!2\nend\n"),
+    (b"one\n+a?b\nthree\n", 5, b"1one\n2a"),
+    (b"one\n+a\n+a?", 5, b"1one\n2a2\n"),
+];
+
+// All bytes at a read, or one; and a sink that takes all at a write, or two.
+#[test]
+fn answers_come_in_parts(rt: HostRuntime) -> Result<(), AllocError> {
+    let alloc = rt.alloc();
+    for (script, status, answers) in PARTS {
+        let mut source = SteadySource::new(listed(alloc, script)?);
+        let mut sink = SteadySink::new(alloc);
+        let (end, _session) = run_script(&rt, alloc, Echo { alloc }, &mut source, &mut sink);
+        assert_eq!(rt; end.status(), status);
+        assert_eq!(rt; sink.bytes(), answers);
+        let ones = vec![in alloc; 1usize; 20]?;
+        let mut slow = MemorySource::new(listed(alloc, script)?, ones, Vec::new(alloc));
+        let mut drip = Drip {
+            bytes: Vec::new(alloc),
+        };
+        let (again, _session) = run_script(&rt, alloc, Echo { alloc }, &mut slow, &mut drip);
+        assert_eq!(rt; again.status(), status);
+        assert_eq!(rt; drip.bytes.as_slice(), answers);
+    }
+    Ok(())
+}
+
+// Each part is written by a call of its own, and one of no bytes by none.
+#[test]
+fn a_write_fails_within_an_answer(rt: HostRuntime) -> Result<(), AllocError> {
+    let alloc = rt.alloc();
+    let cases: [(u64, u8, u64, &[u8]); 6] = [
+        (0, 4, 1, b""),
+        (1, 4, 2, b"1one\n2"),
+        (2, 4, 3, b"1one\n2a"),
+        (3, 4, 4, b"1one\n2ab"),
+        (4, 4, 5, b"1one\n2ab2\n"),
+        (6, 0, 6, b"1one\n2ab2\n3three\nend\n"),
+    ];
+    for (failing, status, calls, written) in cases {
+        let mut source = SteadySource::new(listed(alloc, b"one\n+a~b\nthree\n")?);
+        let mut sink = MemorySink::new(alloc, listed(alloc, &[failing])?);
+        let (end, _session) = run_script(&rt, alloc, Echo { alloc }, &mut source, &mut sink);
+        assert_eq!(rt; end.status(), status);
+        assert_eq!(rt; sink.calls(), calls);
+        assert_eq!(rt; sink.bytes(), written);
+    }
     Ok(())
 }
 
