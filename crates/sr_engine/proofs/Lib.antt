@@ -1,3 +1,5 @@
+pub mod Carrying
+pub mod Debts
 pub mod Determined
 pub mod Heads
 pub mod Statuses

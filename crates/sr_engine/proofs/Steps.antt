@@ -14,9 +14,10 @@ use Rattle.std.proofs.Math.Seq.{take-append-add}
 use Rattle.std.proofs.lemmas.Bool.{cases_lt}
 use Rattle.std.proofs.lemmas.Grind.{flat_map-append}
 use Rattle.sr_engine.specs.Lines.{Splits, IsUnbroken, AreUnbroken, with_feed, last_line, head_of}
-use Rattle.sr_engine.specs.Replies.{Answering, Replies, AnswersHead}
-use Rattle.sr_engine.specs.Moments.{Moment, Carries, Carried, CarriesOn, IsKept, EndedLast, AnswersLine, moment_of}
-use Rattle.sr_engine.specs.declared.progress.Progress.{Progress}
+use Rattle.sr_engine.specs.Replies.{Answering, Partly, Replies, AnswersHead, AnswersPart, Gives, from_place, whole}
+use Rattle.sr_engine.specs.declared.session.Reply.{Reply}
+use Rattle.sr_engine.specs.declared.session.Reply.TheVariants.{Whole, Part}
+use Rattle.sr_engine.specs.Moments.{Moment, Carries, AnswersLine, BeginsLine, RepliesLine}
 
 -- ---- lists
 
@@ -176,105 +177,15 @@ head-short line count is =
     let other : count ≡ min 140001 (length line) = omega (arith, is) in
     ap (λ n. take n line) other ∙ take_min 140001 line
 
--- ---- the run goes on
+-- ---- what a session's call gave
 
--- a line feed came
-pub line-carried : {S : Type 0} (answers : Answering S) (old new : Progress S) (line said : List ℕ) (again : Bool)
-    → IsUnbroken line → (rest : List ℕ) → IsKept old.kept.items rest
-    → answers old.session (old.lines + 1) (rest ++ line) said again new.session
-    → new.lines ≡ old.lines + 1 → new.refused ≡ old.refused || again → new.kept.items ≡ [] → new.out.items ≡ old.out.items ++ said
-    → Carried answers old rest (line ++ 10 ∷ []) new
-line-carried answers old new line said again q rest p a count refusal none appended = record {
-  rest = [];
-  kept = record { head = none ∙ kept-nothing; unbroken = tt };
-  carries = record {
-    lines = (rest ++ line) ∷ [];
-    splits = record {
-      whole = sym (append_assoc rest line (10 ∷ [])) ∙ sym (append-nil ((rest ++ line) ++ 10 ∷ [])) ∙ sym (append-nil (((rest ++ line) ++ 10 ∷ []) ++ []));
-      each = (unbroken_append rest line p.unbroken q, tt);
-      last = tt;
-    };
-    said = said;
-    again = again;
-    replies = replies-one answers old.session (old.lines + 1) (rest ++ line) said again new.session a;
-    counted = count;
-    appended = appended;
-    refusal = refusal;
-  };
-}
+pub gives-whole : {S : Type 0} (answers : Partly S) (old : S) (number : ℕ) (head : List ℕ) (place : ℕ) (before after : List ℕ) (reply : Reply) (refused : Bool) (new : S)
+    → reply ≡ Whole refused → Gives answers old number head place before after reply new → AnswersHead (from_place answers place) old number head before after refused new
+gives-whole answers old number head place before after reply refused new is h = subst (λ r. Gives answers old number head place before after r new) is h
 
--- bytes without a line feed came
-pub rest-carried : {S : Type 0} (answers : Answering S) (old new : Progress S) (bytes rest : List ℕ)
-    → IsUnbroken bytes → IsKept old.kept.items rest
-    → new.session ≡ old.session → new.lines ≡ old.lines → new.refused ≡ old.refused → new.kept.items ≡ head_of (rest ++ bytes) → new.out.items ≡ old.out.items
-    → Carried answers old rest bytes new
-rest-carried answers old new bytes rest q p state lines refused kept out = record {
-  rest = rest ++ bytes;
-  kept = record { head = kept; unbroken = unbroken_append rest bytes p.unbroken q };
-  carries = record {
-    lines = [];
-    splits = record { whole = refl; each = tt; last = unbroken_append rest bytes p.unbroken q };
-    said = [];
-    again = false;
-    replies = (refl, refl, state);
-    counted = omega (arith, lines);
-    appended = out ∙ sym (append-nil old.out.items);
-    refusal = refused ∙ sym (or_false old.refused);
-  };
-}
-
--- one after the other
-pub carries-on : {S : Type 0} (answers : Answering S) (a b c : Progress S) (x y : List ℕ) → CarriesOn answers a x b → CarriesOn answers b y c → CarriesOn answers a (x ++ y) c
-carries-on answers a b c x y p q = record {
-  from = λ rest k.
-      let first : Carried answers a rest x b = p.from rest k in
-      let second : Carried answers b first.rest y c = q.from first.rest first.kept in
-      record {
-        rest = second.rest;
-        kept = second.kept;
-        carries = carries-then answers (moment_of a rest) (moment_of b first.rest) (moment_of c second.rest) x y first.carries second.carries;
-      };
-  few = omega (arith, p.few, q.few, length-append x y);
-}
-
-pub carries-nothing : {S : Type 0} (answers : Answering S) (a : Progress S) → CarriesOn answers a [] a
-carries-nothing answers a = record {
-  from = λ rest k. rest-carried answers a a [] rest tt k refl refl refl (k.head ∙ ap head_of (sym (append-nil rest))) refl;
-  few = omega arith;
-}
-
--- ---- the end of the script
-
-pub last_line-is : (rest : List ℕ) → (rest ≡ [] → ⊥) → last_line rest ≡ rest ∷ []
-last_line-is [] h = absurd (h refl)
-last_line-is (byte ∷ rest) h = refl
-
--- nothing is held, so no line is left
-pub ends-none : {S : Type 0} (answers : Answering S) (old : Progress S) (rest : List ℕ) → old.kept.items ≡ [] → IsKept old.kept.items rest → EndedLast answers old rest old
-ends-none answers old rest none k =
-    let e : rest ≡ [] = kept-none old.kept.items rest none k.head in
-    record {
-      said = [];
-      again = false;
-      replies = subst (λ r. Replies answers old.session (old.lines + 1) (last_line r) [] false old.session) (sym e) (refl, refl, refl);
-      refusal = sym (or_false old.refused);
-      appended = sym (append-nil old.out.items);
-    }
-
-pub ends-one : {S : Type 0} (answers : Answering S) (old new : Progress S) (rest said : List ℕ) (again : Bool) → (old.kept.items ≡ [] → ⊥) → IsKept old.kept.items rest
-    → answers old.session (old.lines + 1) (rest ++ []) said again new.session → new.refused ≡ old.refused || again → new.out.items ≡ old.out.items ++ said
-    → EndedLast answers old rest new
-ends-one answers old new rest said again some k a refusal appended =
-    let more : rest ≡ [] → ⊥ = λ e. some (k.head ∙ ap head_of e ∙ sym kept-nothing) in
-    let whole : answers old.session (old.lines + 1) rest said again new.session = subst (λ l. answers old.session (old.lines + 1) l said again new.session) (append-nil rest) a in
-    record {
-      said = said;
-      again = again;
-      replies = subst (λ ls. Replies answers old.session (old.lines + 1) ls said again new.session) (sym (last_line-is rest more))
-          (replies-one answers old.session (old.lines + 1) rest said again new.session whole);
-      refusal = refusal;
-      appended = appended;
-    }
+pub gives-part : {S : Type 0} (answers : Partly S) (old : S) (number : ℕ) (head : List ℕ) (place : ℕ) (before after : List ℕ) (reply : Reply) (next : ℕ) (new : S)
+    → reply ≡ Part next → Gives answers old number head place before after reply new → AnswersPart answers old number head place before after next new
+gives-part answers old number head place before after reply next new is h = subst (λ r. Gives answers old number head place before after r new) is h
 
 -- ---- a line's two parts
 
@@ -297,6 +208,30 @@ line-joined answers old number kept line before after refused new head joined a 
   appended = a.appended;
   from = λ rest k. a.line (rest ++ line) (joined rest k);
 }
+
+-- nothing was held, and now the line's head is
+pub line-begun-alone : {S : Type 0} (answers : Partly S) (old : S) (number : ℕ) (kept line kept' before after : List ℕ) (next : ℕ) (new : S) (count : ℕ)
+    → kept ≡ [] → count ≡ min (length line) 140001 → ((rest : List ℕ) → kept ≡ head_of rest → kept' ≡ head_of (rest ++ line)) → AnswersPart answers old number (take count line) 0 before after next new
+    → BeginsLine answers old number kept line kept' before after next new
+line-begun-alone answers old number kept line kept' before after next new count none is head a =
+    let same : take count line ≡ kept' = head-short line count is ∙ sym (head [] (none ∙ kept-nothing)) in
+    record { head = head; part = subst (λ l. AnswersPart answers old number l 0 before after next new) same a }
+
+pub line-begun-joined : {S : Type 0} (answers : Partly S) (old : S) (number : ℕ) (kept line kept' before after : List ℕ) (next : ℕ) (new : S) (head : List ℕ)
+    → head ≡ kept' → ((rest : List ℕ) → kept ≡ head_of rest → kept' ≡ head_of (rest ++ line)) → AnswersPart answers old number head 0 before after next new
+    → BeginsLine answers old number kept line kept' before after next new
+line-begun-joined answers old number kept line kept' before after next new head is joined a =
+    record { head = joined; part = subst (λ l. AnswersPart answers old number l 0 before after next new) is a }
+
+pub replied-whole : {S : Type 0} (answers : Partly S) (old : S) (number : ℕ) (kept line kept' before after : List ℕ) (reply : Reply) (refused : Bool) (new : S)
+    → reply ≡ Whole refused → RepliesLine answers old number kept line kept' before after reply new
+    → AnswersLine (whole answers) old number kept line before after refused new × (kept' ≡ [])
+replied-whole answers old number kept line kept' before after reply refused new is h = subst (λ r. RepliesLine answers old number kept line kept' before after r new) is h
+
+pub replied-part : {S : Type 0} (answers : Partly S) (old : S) (number : ℕ) (kept line kept' before after : List ℕ) (reply : Reply) (next : ℕ) (new : S)
+    → reply ≡ Part next → RepliesLine answers old number kept line kept' before after reply new
+    → BeginsLine answers old number kept line kept' before after next new
+replied-part answers old number kept line kept' before after reply next new is h = subst (λ r. RepliesLine answers old number kept line kept' before after r new) is h
 
 -- ---- the next line feed
 

@@ -11,13 +11,14 @@ use Rattle.sr_base.specs.declared.SinkFault.TheVariants as fault
 use Rattle.sr_base.specs.Writing.{TakesAny, CauseOf}
 use Rattle.sr_engine.specs.Output.{WritesAll}
 use Rattle.sr_engine.specs.Lines.{Splits, script_of, last_line}
-use Rattle.sr_engine.specs.Replies.{Answering, Closing, Replies, Answered, Script}
-use Rattle.sr_engine.specs.Moments.{Moment, Carries, Carried, CarriesOn, Closed, Closes, IsFresh, IsKept, Passed, PassesAll, Stopped, Stops, Passes, Advances, opening_of, moment_with}
+use Rattle.sr_engine.specs.Replies.{Answering, Closing, Partly, Replies, Answered, Script, whole}
+use Rattle.sr_engine.specs.Moments.{Moment, Carries, Carried, CarriesOn, Closed, Closes, IsFresh, IsKept, Owes, Settled, BeginsOwed, Passed, PassesAll, Stopped, Stops, Passes, Advances, opening_of, moment_with, moment_of, moment_then}
 use Rattle.sr_engine.specs.Endings.{Ran, CountsShow, BeginsAnswers, BeginsScript, ending_of}
 use Rattle.sr_engine.specs.Turns.{Goes, Going, SaysLast, BeginsLast, EndsSo, Finishes}
 use Rattle.sr_engine.specs.declared.progress.Progress.{Progress}
 use Rattle.sr_engine.specs.declared.run.End.{End}
 use Rattle.sr_engine.specs.declared.run.End.TheVariants.{Done, ReadFailed, WriteFailed, Memory, TooMuch}
+use Rattle.sr_engine.proofs.Debts.{owes-now}
 use Rattle.sr_engine.proofs.Steps.{kept-nothing, carries-then, carries-behind, replies-then, or_false, take_further}
 
 -- ---- the script within the bytes taken
@@ -69,6 +70,7 @@ going-start answers progress left held fresh = record {
   said = [];
   appended = Appends-nil held;
   goes = goes-start answers progress fresh;
+  place = fresh.place;
   sent = fresh.out;
 }
 
@@ -104,6 +106,7 @@ going-on answers opening left left' left'' held held' held'' old new count piece
       appended = Appends-trans held held' held'' p.said d.said p.appended d.appended;
       goes = goes-on answers opening p.taken p.said old new piece within held' held'' p.goes (omega (arith, p.counted))
           (is ∙ ap (λ n. take (33554432 - n) piece) p.counted) short q.few d;
+      place = q.place;
       sent = q.sent;
     }
 
@@ -212,8 +215,8 @@ counts-stopped source source' sink sink' sink'' cause end kept same h ending =
 
 -- ---- the stretches of a piece
 
-pub passes-none : {S : Type 0} (answers : Answering S) (progress : Progress S) (held : Option (List ℕ)) → progress.out.items ≡ [] → PassesAll answers progress [] progress held held
-passes-none answers progress held sent = record {
+pub passes-none : {S : Type 0} (answers : Answering S) (progress : Progress S) (held : Option (List ℕ)) → progress.place ≡ 0 → progress.out.items ≡ [] → PassesAll answers progress [] progress held held
+passes-none answers progress held settled sent = record {
   from = λ rest k. record {
     rest = rest;
     kept = k;
@@ -231,58 +234,43 @@ passes-none answers progress held sent = record {
     };
   };
   few = omega arith;
+  place = settled;
   sent = sent;
 }
 
--- a stretch was passed, and the next one was answered
-pub record Reached {S : Type 0} (answers : Answering S) (old mid new : Progress S) (before bytes more : List ℕ) (held held' : Option (List ℕ)) : Type 0 where
-  pub rest : List ℕ
-  pub kept : IsKept new.kept.items rest
-  pub said : List ℕ
-  pub appended : Appends held held' said
-  pub carries : Carries answers (moment_with old before []) (bytes ++ more) (moment_with new rest (said ++ new.out.items))
-
-pub reached : {S : Type 0} (answers : Answering S) (old mid new : Progress S) (before bytes more : List ℕ) (held held' : Option (List ℕ))
-    → IsKept old.kept.items before → PassesAll answers old bytes mid held held' → CarriesOn answers mid more new
-    → Reached answers old mid new before bytes more held held'
-reached answers old mid new before bytes more held held' k p q =
-    let d : Passed answers old before bytes mid held held' = p.from before k in
-    let e : Carried answers mid d.rest more new = q.from d.rest d.kept in
-    record {
-      rest = e.rest;
-      kept = e.kept;
-      said = d.said;
-      appended = d.appended;
-      carries = carries-then answers (moment_with old before []) (moment_with mid d.rest d.said) (moment_with new e.rest (d.said ++ new.out.items)) bytes more d.carries
-          (carries-behind answers (moment_with mid d.rest mid.out.items) (moment_with new e.rest new.out.items) more d.said p.sent e.carries);
-    }
-
--- the answers to the next stretch were written
-pub passes-on : {S : Type 0} (answers : Answering S) (old mid new sent : Progress S) (bytes more : List ℕ) (held held' held'' : Option (List ℕ))
-    → PassesAll answers old bytes mid held held' → CarriesOn answers mid more new → Appends held' held'' new.out.items
-    → sent.session ≡ new.session → sent.lines ≡ new.lines → sent.refused ≡ new.refused → sent.kept.items ≡ new.kept.items → sent.out.items ≡ []
-    → PassesAll answers old (bytes ++ more) sent held held''
-passes-on answers old mid new sent bytes more held held' held'' p q sends session lines refused kept none = record {
+-- a stretch was passed, and what the next one owes was written
+pub passes-on : {S : Type 0} (answers : Partly S) (old mid new sent : Progress S) (bytes more : List ℕ) (held held' held'' : Option (List ℕ))
+    → PassesAll (whole answers) old bytes mid held held' → CarriesOn answers mid more new → Settled answers new sent held' held''
+    → PassesAll (whole answers) old (bytes ++ more) sent held held''
+passes-on answers old mid new sent bytes more held held' held'' p q s = record {
   from = λ rest k.
-      let r : Reached answers old mid new rest bytes more held held' = reached answers old mid new rest bytes more held held' k p q in
+      let given : List ℕ = s.paid.given in
+      let d : Passed (whole answers) old rest bytes mid held held' = p.from rest k in
+      let e : Carried answers mid d.rest more new = q.from d.rest d.kept in
+      let all : given ++ sent.out.items ≡ given = ap (λ l. given ++ l) s.sent ∙ append-nil given in
+      let o = subst (λ l. Owes answers new l sent.refused sent.session) all (s.paid.pays.owes sent.out.items sent.refused sent.session (owes-now answers sent s.place)) in
+      let c = e.carries given sent.refused sent.session o in
+      let counted : Carries (whole answers) (moment_of mid d.rest) more (moment_with sent e.rest given) = record {
+        lines = c.lines;
+        splits = c.splits;
+        said = c.said;
+        again = c.again;
+        replies = c.replies;
+        counted = s.paid.pays.lines ∙ c.counted;
+        appended = c.appended;
+        refusal = c.refusal;
+      } in
       record {
-        rest = r.rest;
-        kept = record { head = kept ∙ r.kept.head; unbroken = r.kept.unbroken };
-        said = r.said ++ new.out.items;
-        appended = Appends-trans held held' held'' r.said new.out.items r.appended sends;
-        carries = record {
-          lines = r.carries.lines;
-          splits = r.carries.splits;
-          said = r.carries.said;
-          again = r.carries.again;
-          replies = subst (λ s. Replies answers old.session (old.lines + 1) r.carries.lines r.carries.said r.carries.again s) (sym session) r.carries.replies;
-          counted = lines ∙ r.carries.counted;
-          appended = r.carries.appended;
-          refusal = refused ∙ r.carries.refusal;
-        };
+        rest = e.rest;
+        kept = (s.paid.pays.since e.rest e.since).held s.place;
+        said = d.said ++ given;
+        appended = Appends-trans held held' held'' d.said given d.appended s.paid.appended;
+        carries = carries-then (whole answers) (moment_with old rest []) (moment_with mid d.rest d.said) (moment_with sent e.rest (d.said ++ given)) bytes more d.carries
+            (carries-behind (whole answers) (moment_of mid d.rest) (moment_with sent e.rest given) more d.said p.sent counted);
       };
-  few = omega (arith, p.few, q.few, lines, length-append bytes more);
-  sent = none;
+  few = omega (arith, p.few, q.few, s.paid.pays.lines, length-append bytes more);
+  place = s.place;
+  sent = s.sent;
 }
 
 -- memory was wanted for the next stretch
@@ -302,22 +290,25 @@ stops-before answers old mid bytes more held held' p = λ rest k.
       carries = d.carries;
     }
 
--- the answers to the next stretch were not written whole
-pub stops-within : {S : Type 0} (answers : Answering S) (old mid new : Progress S) (bytes more after : List ℕ) (held held' held'' : Option (List ℕ))
-    → PassesAll answers old bytes mid held held' → CarriesOn answers mid more new → TakesAny held' held'' new.out.items
-    → Stops answers old ((bytes ++ more) ++ after) held held''
-stops-within answers old mid new bytes more after held held' held'' p q sends = λ rest k.
-    let r : Reached answers old mid new rest bytes more held held' = reached answers old mid new rest bytes more held held' k p q in
+-- what the next stretch owes was not written whole
+pub stops-within : {S : Type 0} (answers : Partly S) (old mid new : Progress S) (bytes more after : List ℕ) (held held' held'' : Option (List ℕ))
+    → PassesAll (whole answers) old bytes mid held held' → CarriesOn answers mid more new → BeginsOwed answers new held' held''
+    → Stops (whole answers) old ((bytes ++ more) ++ after) held held''
+stops-within answers old mid new bytes more after held held' held'' p q b = λ rest k.
+    let d : Passed (whole answers) old rest bytes mid held held' = p.from rest k in
+    let e : Carried answers mid d.rest more new = q.from d.rest d.kept in
     record {
       front = bytes ++ more;
       back = after;
       bytes_are = refl;
-      said = r.said ++ take sends.0 new.out.items;
-      more = drop sends.0 new.out.items;
-      appended = Appends-trans held held' held'' r.said (take sends.0 new.out.items) r.appended sends.2;
-      next = moment_with new r.rest (r.said ++ new.out.items);
-      next_is = ap (λ l. r.said ++ l) (sym (take-append-drop sends.0 new.out.items)) ∙ sym (append_assoc r.said (take sends.0 new.out.items) (drop sends.0 new.out.items));
-      carries = r.carries;
+      said = d.said ++ b.given;
+      more = b.more;
+      appended = Appends-trans held held' held'' d.said b.given d.appended b.appended;
+      next = moment_then new e.rest (d.said ++ (b.given ++ b.more)) b.refused b.next;
+      next_is = sym (append_assoc d.said b.given b.more);
+      carries = carries-then (whole answers) (moment_with old rest []) (moment_with mid d.rest d.said) (moment_then new e.rest (d.said ++ (b.given ++ b.more)) b.refused b.next) bytes more d.carries
+          (carries-behind (whole answers) (moment_of mid d.rest) (moment_then new e.rest (b.given ++ b.more) b.refused b.next) more d.said p.sent
+          (e.carries (b.given ++ b.more) b.refused b.next b.owes));
     }
 
 -- ---- the loop over the stretches
@@ -335,18 +326,17 @@ stretch-of piece at count rest within is few =
       within = omega (arith, few, length-take rest (drop at piece), length-drop at piece);
     }
 
-pub passed-within : {S : Type 0} (answers : Answering S) (mid new : Progress S) (piece : List ℕ) (at count rest : ℕ) → at ≤ length piece → rest ≡ length piece - at
+pub passed-within : {S : Type 0} (answers : Partly S) (mid new : Progress S) (piece : List ℕ) (at count rest : ℕ) → at ≤ length piece → rest ≡ length piece - at
     → Advances answers mid (take rest (drop at piece)) count new → at + count ≤ length piece
 passed-within answers mid new piece at count rest within is q = (stretch-of piece at count rest within is q.within).within
 
 -- the next stretch was answered, and the answers were written
-pub passes-further : {S : Type 0} (answers : Answering S) (old mid new sent : Progress S) (piece : List ℕ) (at count rest : ℕ) (held held' held'' : Option (List ℕ)) → at ≤ length piece → rest ≡ length piece - at
-    → PassesAll answers old (take at piece) mid held held' → Advances answers mid (take rest (drop at piece)) count new → Appends held' held'' new.out.items
-    → sent.session ≡ new.session → sent.lines ≡ new.lines → sent.refused ≡ new.refused → sent.kept.items ≡ new.kept.items → sent.out.items ≡ []
-    → PassesAll answers old (take (at + count) piece) sent held held''
-passes-further answers old mid new sent piece at count rest held held' held'' within is p q sends session lines refused kept none =
-    subst (λ l. PassesAll answers old l sent held held'') (stretch-of piece at count rest within is q.within).joined
-    (passes-on answers old mid new sent (take at piece) (take count (take rest (drop at piece))) held held' held'' p q.carries sends session lines refused kept none)
+pub passes-further : {S : Type 0} (answers : Partly S) (old mid new sent : Progress S) (piece : List ℕ) (at count rest : ℕ) (held held' held'' : Option (List ℕ)) → at ≤ length piece → rest ≡ length piece - at
+    → PassesAll (whole answers) old (take at piece) mid held held' → Advances answers mid (take rest (drop at piece)) count new → Settled answers new sent held' held''
+    → PassesAll (whole answers) old (take (at + count) piece) sent held held''
+passes-further answers old mid new sent piece at count rest held held' held'' within is p q s =
+    subst (λ l. PassesAll (whole answers) old l sent held held'') (stretch-of piece at count rest within is q.within).joined
+    (passes-on answers old mid new sent (take at piece) (take count (take rest (drop at piece))) held held' held'' p q.carries s)
 
 -- memory was wanted for the next stretch
 pub passes-refused : {S : Type 0} (answers : Answering S) (old mid new : Progress S) (piece : List ℕ) (at : ℕ) (held held' : Option (List ℕ)) (faults faults' : ℕ) (error : AllocError)
@@ -356,17 +346,17 @@ passes-refused answers old mid new piece at held held' faults faults' error p sa
   cause = same;
 }
 
--- the answers to the next stretch were not written whole
-pub passes-stopped : {S : Type 0} (answers : Answering S) (old mid new : Progress S) (piece : List ℕ) (at count rest : ℕ) (held held' held'' : Option (List ℕ)) (faults faults' : ℕ) (cause : SinkFault) → at ≤ length piece → rest ≡ length piece - at
-    → PassesAll answers old (take at piece) mid held held' → Advances answers mid (take rest (drop at piece)) count new → TakesAny held' held'' new.out.items → CauseOf faults faults' cause
-    → Passes answers old piece new held held'' faults faults' (Err cause)
-passes-stopped answers old mid new piece at count rest held held' held'' faults faults' cause within is p q sends h =
+-- what the next stretch owes was not written whole
+pub passes-stopped : {S : Type 0} (answers : Partly S) (old mid new last : Progress S) (piece : List ℕ) (at count rest : ℕ) (held held' held'' : Option (List ℕ)) (faults faults' : ℕ) (cause : SinkFault) → at ≤ length piece → rest ≡ length piece - at
+    → PassesAll (whole answers) old (take at piece) mid held held' → Advances answers mid (take rest (drop at piece)) count new → BeginsOwed answers new held' held'' → CauseOf faults faults' cause
+    → Passes (whole answers) old piece last held held'' faults faults' (Err cause)
+passes-stopped answers old mid new last piece at count rest held held' held'' faults faults' cause within is p q b h =
     let f = stretch-of piece at count rest within is q.within in
-    let whole : (take at piece ++ take count (take rest (drop at piece))) ++ drop (at + count) piece ≡ piece =
+    let all : (take at piece ++ take count (take rest (drop at piece))) ++ drop (at + count) piece ≡ piece =
     ap (λ l. l ++ drop (at + count) piece) f.joined ∙ take-append-drop (at + count) piece in
     record {
-      bytes = subst (λ l. Stops answers old l held held'') whole
-          (stops-within answers old mid new (take at piece) (take count (take rest (drop at piece))) (drop (at + count) piece) held held' held'' p q.carries sends);
+      bytes = subst (λ l. Stops (whole answers) old l held held'') all
+          (stops-within answers old mid new (take at piece) (take count (take rest (drop at piece))) (drop (at + count) piece) held held' held'' p q.carries b);
       cause = h;
     }
 

@@ -183,10 +183,7 @@ impl<T: Session> Progress<T> {
         'lines: while let Some(count) = memchr(b'\n', &piece[at..]) {
             self.end_line(rt, &piece[at..at + count])?;
             at += count + 1;
-            if self.place > 0 {
-                return Ok(at);
-            }
-            if self.out.len() > GATHERED {
+            if self.place > 0 || self.out.len() > GATHERED {
                 return Ok(at);
             }
         }
