@@ -152,6 +152,22 @@ carries-nothing answers a settled = record {
   owing = owing-now answers a settled;
 }
 
+-- the answer that goes on was gathered further
+pub carries-further : {S : Type 0} (answers : Partly S) (a b c : Progress S) (x : List ℕ) → CarriesOn answers a x b → Pays answers b [] c → CarriesOn answers a x c
+carries-further answers a b c x p q = record {
+  from = λ rest k.
+      let first : Carried answers a rest x b = p.from rest k in
+      record {
+        rest = first.rest;
+        since = q.since first.rest first.since;
+        carries = λ said refused next o.
+            let d = first.carries said refused next (q.owes said refused next o) in
+            record { lines = d.lines; splits = d.splits; said = d.said; again = d.again; replies = d.replies; counted = q.lines ∙ d.counted; appended = d.appended; refusal = d.refusal };
+      };
+  few = omega (arith, p.few, q.lines);
+  owing = q.owing;
+}
+
 -- ---- the end of the script
 
 last_line-is : (rest : List ℕ) → (rest ≡ [] → ⊥) → last_line rest ≡ rest ∷ []
@@ -171,12 +187,12 @@ ends-none answers old rest none k =
     }
 
 -- the line that is held was answered as if a line feed had come
-pub ends-one : {S : Type 0} (answers : Partly S) (old mid new : Progress S) (rest : List ℕ) → (old.kept.items ≡ [] → ⊥) → IsKept old.kept.items rest
-    → CarriesOn answers old (10 ∷ []) mid → Pays answers mid [] new → new.place ≡ 0 → EndedLast (whole answers) old rest new
-ends-one answers old mid new rest some k p q settled =
+pub ends-one : {S : Type 0} (answers : Partly S) (old new : Progress S) (rest : List ℕ) → (old.kept.items ≡ [] → ⊥) → IsKept old.kept.items rest
+    → CarriesOn answers old (10 ∷ []) new → new.place ≡ 0 → EndedLast (whole answers) old rest new
+ends-one answers old new rest some k p settled =
     let more : rest ≡ [] → ⊥ = λ e. some (k.head ∙ ap head_of e ∙ sym kept-nothing) in
-    let d : Carried answers old rest (10 ∷ []) mid = p.from rest k in
-    let c = d.carries new.out.items new.refused new.session (q.owes new.out.items new.refused new.session (owes-now answers new settled)) in
+    let d : Carried answers old rest (10 ∷ []) new = p.from rest k in
+    let c = d.carries new.out.items new.refused new.session (owes-now answers new settled) in
     let one : Splits (rest ++ 10 ∷ []) (rest ∷ []) [] = record {
       whole = sym (append-nil (rest ++ 10 ∷ [])) ∙ sym (append-nil ((rest ++ 10 ∷ []) ++ []));
       each = (k.unbroken, tt);

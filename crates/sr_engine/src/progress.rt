@@ -137,7 +137,8 @@ impl<T: Session> Progress<T> {
     pub fn go_on(&mut self, rt: &(impl Threads + Sync)) -> Result<(), AllocError>
         requires goes { 0 < self.old.place }
         requires owing { Owing T.answers self.old }
-        ensures { OnOk result (GoesOn T.answers self.old self.new) }
+        ensures goes { OnOk result (GoesOn T.answers self.old self.new) }
+        ensures few { self.old.place < 2 ^ 32 }
     {
         let reply = self.session.answer(
             rt,
