@@ -5,7 +5,7 @@ use Rattle.std.specs.Io.KnownBytes.{Appends}
 use Rattle.std.proofs.KnownBytes.{Appends-trans, Appends-nil}
 use Rattle.sr_base.specs.Writing.{TakesAny}
 use Rattle.sr_engine.specs.Lines.{head_of, IsUnbroken}
-use Rattle.sr_engine.specs.Replies.{Partly, AnswersHead, AnswersPart, HasAnswer, IsPlace, from_place}
+use Rattle.sr_engine.specs.Replies.{Partly, AnswersHead, AnswersPart, from_place}
 use Rattle.sr_engine.specs.Moments.{Remains, Owes, Owing, IsSince, IsKept, Pays, GoesOn, Paid, Settled, BeginsOwed}
 use Rattle.sr_engine.specs.declared.progress.Progress.{Progress}
 use Rattle.sr_engine.proofs.Steps.{or_false, or_assoc, kept-nothing}
@@ -49,15 +49,6 @@ remains-same answers a b more again next session lines kept place r = record {
       let p1 = subst (λ s. answers s b.lines line b.place more again next) session p0 in
       let p2 = subst (λ n. answers a.session n line b.place more again next) lines p1 in
       subst (λ n. answers a.session a.lines line n more again next) place p2;
-}
-
--- what is owed shows that the session has an answer
-pub place-known : {S : Type 0} (answers : Partly S) (p : Progress S) (head : List ℕ) → Owing answers p → head ≡ p.kept.items → IsPlace answers p.session p.lines head p.place
-place-known answers p head w is = λ goes. record {
-  said = w.owes.more;
-  refused = w.owes.again;
-  new = w.next;
-  line = λ line h. w.owes.remains.some goes line (sym is ∙ h);
 }
 
 -- what the session gave of an answer was gathered, and where the answer goes on, what remains of it then was to come after that

@@ -200,15 +200,6 @@ line-alone answers old number kept line before after refused new count none is a
       subst (λ l. answers old number l a.said refused new) (ap (λ r. r ++ line) (sym e)) (a.line line (head-short line count is));
 }
 
-pub line-joined : {S : Type 0} (answers : Answering S) (old : S) (number : ℕ) (kept line before after : List ℕ) (refused : Bool) (new : S) (head : List ℕ)
-    → ((rest : List ℕ) → kept ≡ head_of rest → head ≡ head_of (rest ++ line)) → AnswersHead answers old number head before after refused new
-    → AnswersLine answers old number kept line before after refused new
-line-joined answers old number kept line before after refused new head joined a = record {
-  said = a.said;
-  appended = a.appended;
-  from = λ rest k. a.line (rest ++ line) (joined rest k);
-}
-
 -- nothing was held, and now the line's head is
 pub line-begun-alone : {S : Type 0} (answers : Partly S) (old : S) (number : ℕ) (kept line kept' before after : List ℕ) (next : ℕ) (new : S) (count : ℕ)
     → kept ≡ [] → count ≡ min (length line) 140001 → ((rest : List ℕ) → kept ≡ head_of rest → kept' ≡ head_of (rest ++ line)) → AnswersPart answers old number (take count line) 0 before after next new
@@ -216,12 +207,6 @@ pub line-begun-alone : {S : Type 0} (answers : Partly S) (old : S) (number : ℕ
 line-begun-alone answers old number kept line kept' before after next new count none is head a =
     let same : take count line ≡ kept' = head-short line count is ∙ sym (head [] (none ∙ kept-nothing)) in
     record { head = head; part = subst (λ l. AnswersPart answers old number l 0 before after next new) same a }
-
-pub line-begun-joined : {S : Type 0} (answers : Partly S) (old : S) (number : ℕ) (kept line kept' before after : List ℕ) (next : ℕ) (new : S) (head : List ℕ)
-    → head ≡ kept' → ((rest : List ℕ) → kept ≡ head_of rest → kept' ≡ head_of (rest ++ line)) → AnswersPart answers old number head 0 before after next new
-    → BeginsLine answers old number kept line kept' before after next new
-line-begun-joined answers old number kept line kept' before after next new head is joined a =
-    record { head = joined; part = subst (λ l. AnswersPart answers old number l 0 before after next new) is a }
 
 pub replied-whole : {S : Type 0} (answers : Partly S) (old : S) (number : ℕ) (kept line kept' before after : List ℕ) (reply : Reply) (refused : Bool) (new : S)
     → reply ≡ Whole refused → RepliesLine answers old number kept line kept' before after reply new

@@ -153,7 +153,7 @@ impl<T: Session> Progress<T> {
                 self.place = 0;
                 self.refused |= refused;
             }
-            Reply::Part(next) => self.place = next,
+            Reply::Part(later) => self.place = later,
         }
         Ok(())
     }

@@ -78,7 +78,8 @@ impl Session for Echo {
             return Ok(Reply::Whole(false));
         }
         if line[0] == b'+' {
-            return say_part(out, number, line, place);
+            let reply = say_part(out, number, line, place)?;
+            return Ok(reply);
         }
         if line[0] == b'?' {
             return Err(AllocError);

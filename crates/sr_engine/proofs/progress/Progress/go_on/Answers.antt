@@ -13,6 +13,6 @@ returns-in-Whole-clause-goes g c =
 pub returns-in-Part-clause-goes : goal.returns-in-Part-clause-goes
 returns-in-Part-clause-goes g c =
     let p = c.args.self.now in
-    goes-part g.T.Session.answers p _ c.as_slice.result.now c.in-Part.next
-    (gives-part g.T.Session.answers p.session p.lines c.as_slice.result.now p.place p.out.items c.answer.new.out.items _ c.in-Part.next c.answer.new.self c.in-Part.is c.in_ok-reply.ensures)
+    goes-part g.T.Session.answers p _ c.as_slice.result.now c.in-Part.later
+    (gives-part g.T.Session.answers p.session p.lines c.as_slice.result.now p.place p.out.items c.answer.new.out.items _ c.in-Part.later c.answer.new.self c.in-Part.is c.in_ok-reply.ensures)
     c.as_slice.ensures.value refl refl refl refl c.requires.goes
