@@ -1,7 +1,8 @@
 //! Runs of a session that says its lines again.
 ghost use Rattle.std.specs.Prelude.{
-    ◌≡◌, ◌++◌, ◌∷◌, [], ◌+◌, ◌<◌, ◌%◌, ℕ, List, length, Ok, OnOk, None
+    ◌≡◌, ◌++◌, ◌∷◌, [], ◌+◌, ◌<◌, ◌%◌, ℕ, List, length, drop, false, Ok, OnOk, None
 };
+ghost use Rattle.sr_engine.specs.Lines.{head_of};
 ghost use Rattle.sr_engine.specs.declared.session.Reply.TheVariants.{Part};
 
 use crate::session::{Reply, Session};
@@ -95,6 +96,38 @@ impl Session for Echo {
 
     fn finish(&mut self, out: &mut Vec<u8>) -> Result<(), AllocError> {
         out.extend_from_slice(b"end\n")?;
+        Ok(())
+    }
+}
+
+/// Says a line's head again, two bytes at a time: from place n on it says what follows the head's first n bytes. So
+/// what it may answer is one text, and each part is a piece of it.
+#[derive(Drop)]
+struct Spell {}
+
+impl Session for Spell {
+    ghost answers = { λ state number line place said refused next. (said ≡ drop place (head_of line)) × (refused ≡ false) × (next ≡ state) };
+
+    ghost ends = { λ state said next. (said ≡ []) × (next ≡ state) };
+
+    fn answer<R: Threads + Sync>(
+        &mut self,
+        rt: &R,
+        number: u32,
+        line: &[u8],
+        place: u32,
+        out: &mut Vec<u8>,
+    ) -> Result<Reply, AllocError> {
+        let rest = &line[line.len().min(place as usize)..];
+        if rest.len() <= 2 || place > 1_000_000 {
+            out.extend_from_slice(rest)?;
+            return Ok(Reply::Whole(false));
+        }
+        out.extend_from_slice(&rest[..2])?;
+        Ok(Reply::Part(place + 2))
+    }
+
+    fn finish(&mut self, out: &mut Vec<u8>) -> Result<(), AllocError> {
         Ok(())
     }
 }
@@ -307,6 +340,19 @@ fn a_write_fails_within_an_answer(rt: HostRuntime) -> Result<(), AllocError> {
         assert_eq!(rt; sink.calls(), calls);
         assert_eq!(rt; sink.bytes(), written);
     }
+    Ok(())
+}
+
+// The parts of the first line are written by four calls, and the last line has no line feed, so that one call suffices.
+#[test]
+fn a_line_is_spelled(rt: HostRuntime) -> Result<(), AllocError> {
+    let alloc = rt.alloc();
+    let mut source = SteadySource::new(listed(alloc, b"abcdefg\n\nhijklm")?);
+    let mut sink = MemorySink::new(alloc, Vec::new(alloc));
+    let (end, _session) = run_script(&rt, alloc, Spell {}, &mut source, &mut sink);
+    assert_eq!(rt; end.status(), 0);
+    assert_eq!(rt; sink.bytes(), b"abcdefghijklm".as_slice());
+    assert_eq!(rt; sink.calls(), 5);
     Ok(())
 }
 
