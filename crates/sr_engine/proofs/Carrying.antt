@@ -1,8 +1,8 @@
 -- The run goes on from line to line.
-use Rattle.std.proofs.Common.{◌≡◌, ℕ, ◌+◌, ◌<◌, ◌≤◌, Bool, false, ◌||◌, List, [], ◌∷◌, ◌++◌, length, refl, sym, ap, subst, ◌∙◌, arith, append_assoc, append-nil, length-append}
+use Rattle.std.proofs.Common.{◌≡◌, ℕ, ◌+◌, ◌<◌, Bool, false, ◌||◌, List, [], ◌∷◌, ◌++◌, refl, sym, ap, subst, ◌∙◌, arith, append_assoc, append-nil, length-append}
 use Rattle.sr_engine.specs.Lines.{Splits, IsUnbroken, last_line, head_of}
-use Rattle.sr_engine.specs.Replies.{Answering, Partly, Replies, AnswersPart, whole}
-use Rattle.sr_engine.specs.Moments.{Carries, Carried, CarriesOn, IsKept, IsSince, Owes, Owing, Pays, EndedLast, EndsLast, BeginsLine, moment_of}
+use Rattle.sr_engine.specs.Replies.{Answering, Partly, Replies, whole}
+use Rattle.sr_engine.specs.Moments.{Carries, Carried, CarriesOn, IsKept, Owing, Pays, EndedLast, BeginsLine, moment_of}
 use Rattle.sr_engine.specs.declared.progress.Progress.{Progress}
 use Rattle.sr_engine.proofs.Determined.{splits-one}
 use Rattle.sr_engine.proofs.Steps.{or_false, unbroken_append, replies-one, carries-then, kept-nothing, kept-none}

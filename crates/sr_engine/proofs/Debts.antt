@@ -1,14 +1,14 @@
 -- What a run owes: the answers that are gathered, and what remains of one that goes on.
-use Rattle.std.proofs.Common.{◌≡◌, ℕ, zero, suc, ◌+◌, ◌-◌, ◌<◌, ◌≤◌, Bool, true, false, ◌||◌, ◌⊎◌, inl, inr, ⊎_elim, List, [], ◌++◌, take, drop, refl, sym, ap, subst, ◌∙◌, arith, append_assoc, append-nil, take-append-drop}
+use Rattle.std.proofs.Common.{◌≡◌, ℕ, zero, suc, ◌-◌, ◌<◌, Bool, false, ◌||◌, ◌⊎◌, inl, inr, ⊎_elim, List, [], ◌++◌, take, drop, refl, sym, ap, subst, ◌∙◌, arith, append_assoc, append-nil, take-append-drop}
 use Rattle.std.specs.declared.option.Option.{Option}
 use Rattle.std.specs.Io.KnownBytes.{Appends}
 use Rattle.std.proofs.KnownBytes.{Appends-trans, Appends-nil}
 use Rattle.sr_base.specs.Writing.{TakesAny}
 use Rattle.sr_engine.specs.Lines.{head_of, IsUnbroken}
 use Rattle.sr_engine.specs.Replies.{Partly, AnswersHead, AnswersPart, from_place}
-use Rattle.sr_engine.specs.Moments.{Remains, Owes, Owing, IsSince, IsKept, Pays, GoesOn, Paid, Settled, BeginsOwed}
+use Rattle.sr_engine.specs.Moments.{Remains, Owes, Owing, Pays, GoesOn, Paid, BeginsOwed}
 use Rattle.sr_engine.specs.declared.progress.Progress.{Progress}
-use Rattle.sr_engine.proofs.Steps.{or_false, or_assoc, kept-nothing}
+use Rattle.sr_engine.proofs.Steps.{or_false, kept-nothing}
 
 -- ---- no answer goes on
 

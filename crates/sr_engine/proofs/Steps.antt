@@ -13,7 +13,7 @@ use Rattle.std.proofs.lemmas.List.{take_all, take_min, take-append-le, take_more
 use Rattle.std.proofs.Math.Seq.{take-append-add}
 use Rattle.std.proofs.lemmas.Bool.{cases_lt}
 use Rattle.std.proofs.lemmas.Grind.{flat_map-append}
-use Rattle.sr_engine.specs.Lines.{Splits, IsUnbroken, AreUnbroken, with_feed, last_line, head_of}
+use Rattle.sr_engine.specs.Lines.{Splits, IsUnbroken, AreUnbroken, with_feed, head_of}
 use Rattle.sr_engine.specs.Replies.{Answering, Partly, Replies, AnswersHead, AnswersPart, Gives, from_place, whole}
 use Rattle.sr_engine.specs.declared.session.Reply.{Reply}
 use Rattle.sr_engine.specs.declared.session.Reply.TheVariants.{Whole, Part}

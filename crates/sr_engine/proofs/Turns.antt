@@ -12,7 +12,7 @@ use Rattle.sr_base.specs.Writing.{TakesAny, CauseOf}
 use Rattle.sr_engine.specs.Output.{WritesAll}
 use Rattle.sr_engine.specs.Lines.{Splits, script_of, last_line}
 use Rattle.sr_engine.specs.Replies.{Answering, Closing, Partly, Replies, Answered, Script, whole}
-use Rattle.sr_engine.specs.Moments.{Moment, Carries, Carried, CarriesOn, Closed, Closes, IsFresh, IsKept, Owes, Settled, BeginsOwed, Passed, PassesAll, Stopped, Stops, Passes, Advances, opening_of, moment_with, moment_of, moment_then}
+use Rattle.sr_engine.specs.Moments.{Moment, Carries, Carried, CarriesOn, Closed, Closes, IsFresh, Owes, Settled, BeginsOwed, Passed, PassesAll, Stopped, Stops, Passes, Advances, opening_of, moment_with, moment_of, moment_then}
 use Rattle.sr_engine.specs.Endings.{Ran, CountsShow, BeginsAnswers, BeginsScript, ending_of}
 use Rattle.sr_engine.specs.Turns.{Goes, Going, SaysLast, BeginsLast, EndsSo, Finishes}
 use Rattle.sr_engine.specs.declared.progress.Progress.{Progress}

@@ -7,7 +7,7 @@ use Rattle.std.specs.declared.result.Result.{Result}
 use Rattle.sr_base.specs.declared.SinkFault.{SinkFault}
 use Rattle.sr_base.specs.Writing.{CauseOf}
 use Rattle.sr_engine.specs.Lines.{Splits, IsUnbroken, head_of, last_line}
-use Rattle.sr_engine.specs.Replies.{Answering, Closing, Partly, Replies, AnswersPart, whole, from_place}
+use Rattle.sr_engine.specs.Replies.{Answering, Closing, Partly, Replies, AnswersPart, whole}
 use Rattle.sr_engine.specs.declared.progress.Progress.{Progress}
 use Rattle.sr_engine.specs.declared.session.Reply.{Reply}
 use Rattle.sr_engine.specs.declared.session.Reply.TheVariants.{Whole, Part}

@@ -3,7 +3,13 @@ ghost use Rattle.std.specs.Prelude.{◌≡◌, ◌+◌, ◌<◌, ◌^◌, ℕ, L
 ghost use Rattle.sr_engine.specs.Lines.{IsUnbroken, head_of};
 ghost use Rattle.sr_engine.specs.Replies.{whole};
 ghost use Rattle.sr_engine.specs.Moments.{
-    Advances, CarriesOn, Closes, EndsLast, GoesOn, Owing, RepliesLine
+  Advances,
+  CarriesOn,
+  Closes,
+  EndsLast,
+  GoesOn,
+  Owing,
+  RepliesLine,
 };
 
 use crate::session::{Reply, Session};

@@ -1,6 +1,20 @@
 //! Runs of a session that says its lines again.
 ghost use Rattle.std.specs.Prelude.{
-    ◌≡◌, ◌++◌, ◌∷◌, [], ◌+◌, ◌<◌, ◌%◌, ℕ, List, length, drop, false, Ok, OnOk, None
+  ◌≡◌,
+  ◌++◌,
+  ◌∷◌,
+  [],
+  ◌+◌,
+  ◌<◌,
+  ◌%◌,
+  ℕ,
+  List,
+  length,
+  drop,
+  false,
+  Ok,
+  OnOk,
+  None,
 };
 ghost use Rattle.sr_engine.specs.Lines.{head_of};
 ghost use Rattle.sr_engine.specs.declared.session.Reply.TheVariants.{Part};
@@ -33,12 +47,7 @@ fn say(out: &mut Vec<u8>, number: u32, line: &[u8]) -> Result<(), AllocError>
 
 /// Says the line byte by byte: the last digit of its number comes in place of the `+`, nothing for `~`, and at the end
 /// that digit again with a line feed. It is refused where it ends with `!`, and at `?` memory is wanted.
-fn say_part(
-    out: &mut Vec<u8>,
-    number: u32,
-    line: &[u8],
-    place: u32,
-) -> Result<Reply, AllocError>
+fn say_part(out: &mut Vec<u8>, number: u32, line: &[u8], place: u32) -> Result<Reply, AllocError>
     requires { 0 < length line.now }
     ensures appends { OnOk result ((part : List ℕ) × (out.new.items ≡ out.old.items ++ part)) }
     ensures later { (next : ℕ) → result ≡ Ok (Part next) → place < next }

@@ -6,8 +6,8 @@ pub returns-in-Whole : goal.returns-in-Whole
 returns-in-Whole g c =
     let none : c.args.kept.now.items ≡ [] = sym c.as_slice.ensures.value ∙ empty _ (eqb-true _ _ (sym c.if-is_empty.ensures)) in (
       line-alone _ c.args.session.now c.args.number c.args.kept.now.items c.args.line.now c.args.out.now.items c.answer.new.out.items c.in-Whole.refused c.answer.new.self
-      c.min-count.result none (omega arith)
-      (gives-whole g.T.Session.answers c.args.session.now c.args.number _ 0 c.args.out.now.items c.answer.new.out.items _ c.in-Whole.refused c.answer.new.self c.in-Whole.is c.in_ok-refused.ensures),
+          c.min-count.result none (omega arith)
+          (gives-whole g.T.Session.answers c.args.session.now c.args.number _ 0 c.args.out.now.items c.answer.new.out.items _ c.in-Whole.refused c.answer.new.self c.in-Whole.is c.in_ok-refused.ensures),
       none,
     )
 

@@ -1,7 +1,7 @@
 use Rattle.std.proofs.Common.{◌∙◌, refl, subst, arith}
 use Rattle.std.specs.Io.KnownBytes.{Appends}
 use Rattle.sr_base.specs.Writing.{TakesAny, CauseOf}
-use Rattle.sr_engine.proofs.Debts.{places-fall, paid-none, paid-out, paid-on, begins-refused, begins-cut}
+use Rattle.sr_engine.proofs.Debts.{paid-none, paid-out, paid-on, begins-refused, begins-cut}
 use Rattle.sr_engine.proofs.run.settle.Goals as goal
 
 pub parts-init : goal.parts-init

@@ -1,4 +1,4 @@
-use Rattle.std.proofs.Common.{◌≡◌, ℕ, ◌<◌, Bool, false, List, [], ◌++◌, refl, sym, ap, ◌∙◌, append-nil, Ok}
+use Rattle.std.proofs.Common.{◌≡◌, ℕ, ◌<◌, false, List, [], ◌++◌, refl, sym, ap, ◌∙◌, append-nil, Ok}
 use Rattle.sr_engine.specs.Replies.{Gives}
 use Rattle.sr_engine.specs.declared.session.Reply.{Reply}
 use Rattle.sr_engine.specs.declared.session.Reply.TheVariants.{Whole, Part}
