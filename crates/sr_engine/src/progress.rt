@@ -2,15 +2,8 @@
 ghost use Rattle.std.specs.Prelude.{◌≡◌, ◌+◌, ◌<◌, ◌^◌, ℕ, List, [], ◌∷◌, ◌++◌, length, false, IfOk, OnOk};
 ghost use Rattle.sr_engine.specs.Lines.{IsUnbroken, head_of};
 ghost use Rattle.sr_engine.specs.Replies.{whole};
-ghost use Rattle.sr_engine.specs.Moments.{
-  Advances,
-  CarriesOn,
-  Closes,
-  EndsLast,
-  GoesOn,
-  Owing,
-  RepliesLine,
-};
+ghost use Rattle.sr_engine.specs.Moments.{Advances, CarriesOn, Closes, EndsLast};
+ghost use Rattle.sr_engine.specs.Moments.{GoesOn, Owing, RepliesLine};
 
 use crate::session::{Reply, Session};
 use memchr::memchr;
@@ -26,7 +19,7 @@ const GATHERED: usize = 65_536;
 /// Where a run stands.
 pub struct Progress<T> {
     pub session: T,
-    /// How many line feeds came.
+    /// How many line feeds came; at the end of the script a last line without one counts too.
     pub lines: u32,
     /// Was a line refused?
     pub refused: bool,
@@ -139,7 +132,7 @@ impl<T: Session> Progress<T> {
         Ok(())
     }
 
-    /// Goes on with the answer to the line that came last.
+    /// Goes on with the answer to the line that came last: gathers the next part, or the rest.
     pub fn go_on(&mut self, rt: &(impl Threads + Sync)) -> Result<(), AllocError>
         requires goes { 0 < self.old.place }
         requires owing { Owing T.answers self.old }

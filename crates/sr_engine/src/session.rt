@@ -27,11 +27,14 @@ pub trait Session {
     ghost ends: { Self → List ℕ → Self → Type 0 };
 
     /// Appends the answer to the line of this number, counted from 1, and says whether the line was refused; or appends
-    /// a part of the answer, and says from which place it goes on. Such a part leaves the session as it was, and is
-    /// written before the rest is asked for: a session ends a part where its answer is long, so that the answer is never
-    /// held whole. The session is handed the line's first 140,001 bytes, without the line feed: a line that is longer
-    /// than the 140,000 bytes that it may have shows as such. The run-time handle is there since a session may split its
-    /// work among threads: `shared` says what the bound `Sync` means, which a trait's function has only where it says so.
+    /// a part of the answer, and says from which place it goes on. The first call for a line is for place 0, and each
+    /// further one for the place that the last one said. A part leaves the session as it was, and is written before the
+    /// next one is asked for, except where the line is the script's last and has no line feed. So a session that ends a
+    /// part of a long answer early keeps it from being held whole.
+    ///
+    /// The session is handed the line's first 140,001 bytes, without the line feed: a line that is longer than the
+    /// 140,000 bytes that it may have shows as such. The run-time handle is there since a session may split its work
+    /// among threads: `shared` says what the bound `Sync` means, which a trait's function has only where it says so.
     fn answer<R: Threads + Sync>(
         &mut self,
         rt: &R,

@@ -1,21 +1,6 @@
 //! Runs of a session that says its lines again.
-ghost use Rattle.std.specs.Prelude.{
-  ◌≡◌,
-  ◌++◌,
-  ◌∷◌,
-  [],
-  ◌+◌,
-  ◌<◌,
-  ◌%◌,
-  ℕ,
-  List,
-  length,
-  drop,
-  false,
-  Ok,
-  OnOk,
-  None,
-};
+ghost use Rattle.std.specs.Prelude.{◌≡◌, ◌++◌, ◌∷◌, [], ◌+◌, ◌<◌, ◌%◌, ℕ, List, length, drop, false};
+ghost use Rattle.std.specs.Prelude.{Ok, OnOk, None};
 ghost use Rattle.sr_engine.specs.Lines.{head_of};
 ghost use Rattle.sr_engine.specs.declared.session.Reply.TheVariants.{Part};
 
