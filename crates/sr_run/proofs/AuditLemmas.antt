@@ -20,15 +20,15 @@ use Rattle.sr_run.specs.Session.{AuditsWhole, GivesAnswer, GivesRest, GoesOn, Is
 
 -- the lines of the cases up to the last, and then the counts, are the rest
 pub rest_said : (version : Numbered) (place next : ℕ) (counts : Counts) (before between after : List ℕ)
-    → next ≡ case_count version.net.graph → PutsCases version.net place next before between → AreAuditCounts version.net counts → after ≡ between ++ summary_line version.number counts
+    → place ≤ case_count version.net.graph → next ≡ case_count version.net.graph → PutsCases version.net place next before between → AreAuditCounts version.net counts → after ≡ between ++ summary_line version.number counts
     → GivesRest version place before after (Whole false)
-rest_said version place next counts before between after all puts counted summed =
+rest_said version place next counts before between after within all puts counted summed =
     let lines = item_lines version.net puts.items in
     let summary = summary_line version.number counts in
     (
       lines ++ summary,
       summed ∙ ap (λ (l : List ℕ). l ++ summary) puts.lines ∙ append_assoc before lines summary,
-      record { items = puts.items; next = rw (← all) puts.next; counts = counts; counted = counted; lines = refl },
+      record { within = within; items = puts.items; next = rw (← all) puts.next; counts = counts; counted = counted; lines = refl },
       refl,
     )
 
@@ -45,6 +45,7 @@ part_said version place next before after net answered later within puts =
       part = lines;
       appended = puts.lines;
       goes_on = λ said says. record {
+        within = omega (arith, later, within);
         items = puts.items ++ says.items;
         next = next-joined version.net place next (case_count version.net.graph) puts.items says.items puts.next says.next;
         counts = says.counts;
@@ -55,7 +56,7 @@ part_said version place next before after net answered later within puts =
             ∙ ap (λ (l : List ℕ). l ++ summary_line version.number says.counts) (sym (flat_map-append (item_line version.net) puts.items says.items));
       };
       rest = item_lines version.net rest.0 ++ summary_line version.number counts.0;
-      there = record { items = rest.0; next = rest.1; counts = counts.0; counted = counts.1; lines = refl };
+      there = record { within = within; items = rest.0; next = rest.1; counts = counts.0; counted = counts.1; lines = refl };
     }
 
 -- the rest from the first case on is the whole audit: a net has one, so the counts are those of its items

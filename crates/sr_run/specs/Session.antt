@@ -272,13 +272,14 @@ AuditsWhole (Some version) number old out refused new =
 
 -- what `audit full` says from the case at this place on: the items that come next to those of the cases before it, item by item, and then how many answers of each sort the whole audit has
 pub record SaysRest (version : Numbered) (place : ℕ) (said : List ℕ) : Type 0 where
+  pub within : place ≤ case_count version.net.graph
   pub items : List Item
   pub next : AreNext version.net place (case_count version.net.graph) items
   pub counts : Counts
   pub counted : AreAuditCounts version.net counts
   pub lines : said ≡ item_lines version.net items ++ summary_line version.number counts
 
--- the same of the last version, where there is one that has so many cases
+-- the same of the last version, where there is one
 abbrev pub AuditsOn : Option Numbered → ℕ → State → List ℕ → Bool → State → Type 0
 AuditsOn None place old out refused new = ⊥
 AuditsOn (Some version) place old out refused new = SaysRest version place out × (refused ≡ false) × (new ≡ old)

@@ -2,10 +2,12 @@
 
 use super::words;
 use sr_base::{SteadySink, SteadySource};
-use sr_lsp::{AdjSids, Capability, Lsp, LspId, Part, Parts, Reach, in_range, write_lsp};
+use sr_lsp::{
+    AdjSids, Capability, Lsp, LspId, Part, Parts, Prefix, PrefixSids, Reach, in_range, write_lsp,
+};
 use sr_model::{Range, SystemId};
 use sr_run::tilfa;
-use sr_subtlv::{LinkIds, Msds, Ranges, SrCap};
+use sr_subtlv::{LinkIds, Msds, PrefixSid, Ranges, Sid, SrCap};
 use std::alloc::{AllocError, AllocGlobal, Global};
 use std::thread::Threads;
 
@@ -55,10 +57,27 @@ fn link(alloc: Global, neighbour: u32, number: u32, metric: u32) -> Part {
     })
 }
 
-/// What a node announces: its labels, and its links in the order of the pairs.
+/// A node's prefix, with its number as index of its node SID.
+fn prefix(alloc: Global, node: u32) -> Result<Part, AllocError> {
+    let sid = PrefixSid {
+        flags: 0x40,
+        algorithm: 0,
+        sid: Sid::Index(node),
+    };
+    Ok(Part::Prefix(Prefix {
+        metric: 0,
+        down: false,
+        length: 32,
+        prefix: 0x0a00_0000 | node,
+        sids: PrefixSids::new(vec![in alloc; sid]?),
+    }))
+}
+
+/// What a node announces: its labels, its prefix, and its links in the order of the pairs.
 fn parts_of(alloc: Global, node: u32, pairs: &[Pair]) -> Result<Vec<Part>, AllocError> {
     let mut parts = Vec::new(alloc);
     parts.push(labels(alloc)?)?;
+    parts.push(prefix(alloc, node)?)?;
     let mut number = 0u32;
     for pair in pairs {
         number = number.wrapping_add(1);
@@ -104,8 +123,8 @@ fn put_node(
     Ok(())
 }
 
-/// The last line that the program answers to the nodes' PDUs, a commit, and a question.
-fn last_answer<R: AllocGlobal + Threads + Sync>(
+/// What the program answers to the nodes' PDUs, a commit, and a question.
+fn answers<R: AllocGlobal + Threads + Sync>(
     rt: &R,
     nodes: u32,
     pairs: &[Pair],
@@ -122,7 +141,18 @@ fn last_answer<R: AllocGlobal + Threads + Sync>(
     let mut source = SteadySource::new(script);
     let mut sink = SteadySink::new(alloc);
     let _status = tilfa(rt, words.as_slice(), &mut source, &mut sink);
-    let text = sink.bytes();
+    Vec::from_slice(alloc, sink.bytes())
+}
+
+/// The last line that the program answers to them.
+fn last_answer<R: AllocGlobal + Threads + Sync>(
+    rt: &R,
+    nodes: u32,
+    pairs: &[Pair],
+    question: &[u8],
+) -> Result<Vec<u8>, AllocError> {
+    let alloc = rt.alloc();
+    let text = answers(rt, nodes, pairs, question)?;
     let last = match text.split(|byte| *byte == b'\n').rev().nth(1) {
         Some(line) => line,
         None => return Ok(Vec::new(alloc)),
@@ -182,5 +212,73 @@ fn domains_have_at_most_2_048_links(rt: HostRuntime) -> Result<(), AllocError> {
         refused.as_slice(),
         b"refused 47 19 TooManyLinks 2070".as_slice()
     );
+    Ok(())
+}
+
+/// Appends a node's system id.
+fn put_system(node: u32, text: &mut Vec<u8>) -> Result<(), AllocError> {
+    const DIGITS: &[u8; 16] = b"0123456789abcdef";
+    text.extend_from_slice(b"0000.0000.00")?;
+    text.push(DIGITS[(node / 16 % 16) as usize])?;
+    text.push(DIGITS[(node % 16) as usize])?;
+    Ok(())
+}
+
+/// Appends the lines of the failure of a link of a chain: no way is left to each node behind it. Where the node at its end
+/// fails as well, that is no destination.
+fn put_lost(
+    nodes: u32,
+    kind: &[u8],
+    from: u32,
+    to: u32,
+    text: &mut Vec<u8>,
+) -> Result<(), AllocError> {
+    for lost in 1..=nodes {
+        let behind = if to > from { lost > from } else { lost < from };
+        if !behind || kind == b"node" && lost == to {
+            continue;
+        }
+        text.extend_from_slice(b"repair ")?;
+        text.extend_from_slice(kind)?;
+        text.push(b' ')?;
+        put_system(from, text)?;
+        text.push(b'>')?;
+        put_system(to, text)?;
+        text.extend_from_slice(b"#1 to ")?;
+        put_system(lost, text)?;
+        text.extend_from_slice(b" uncovered nopath\n")?;
+    }
+    Ok(())
+}
+
+/// The lines of the audit of a chain.
+fn lost_lines(alloc: Global, nodes: u32) -> Result<Vec<u8>, AllocError> {
+    let mut text = Vec::new(alloc);
+    for kind in [b"link".as_slice(), b"node".as_slice(), b"risk".as_slice()] {
+        for from in 1..=nodes {
+            if from > 1 {
+                put_lost(nodes, kind, from, from.wrapping_sub(1), &mut text)?;
+            }
+            if from < nodes {
+                put_lost(nodes, kind, from, from.wrapping_add(1), &mut text)?;
+            }
+        }
+    }
+    Ok(text)
+}
+
+/// Such an audit has more than a million bytes, and is answered in parts.
+#[test]
+fn a_long_audit_is_answered_whole(rt: HostRuntime) -> Result<(), AllocError> {
+    let alloc = rt.alloc();
+    let pairs = chain(alloc, 80)?;
+    let before = answers(&rt, 80, &pairs, b"")?;
+    let text = answers(&rt, 80, &pairs, b"audit full\nshow\n")?;
+    let mut expected = before;
+    expected.append(&mut lost_lines(alloc, 80)?)?;
+    expected.extend_from_slice(b"audit version 1 covered 0 nopath 18802 nolist 0 toodeep 0\n")?;
+    expected.extend_from_slice(b"show version 1 nodes 80 links 158 depth 12 staged 0\n")?;
+    assert_eq!(rt; text.len() > 1_048_576, true);
+    assert_eq!(rt; text.as_slice() == expected.as_slice(), true);
     Ok(())
 }
