@@ -6,5 +6,5 @@ use Rattle.sr_run.proofs.session.DomainSession.tell_repair.Goals as goal
 
 pub put_repair-requires-clause-answer : goal.put_repair-requires-clause-answer
 put_repair-requires-clause-answer c =
-    subst (λ (n : Net). IsAnswerWithin n.graph c.in-Some.answer.now) (sym c.net-in-Some-2.ensures.value)
-    (answer-within c.args.version.now.net c.args.failure.case c.args.failure.destination.0 c.in-Some.answer.now c.in-Some.ensures.1)
+    subst (λ (n : Net). IsAnswerWithin n.graph c.in-Some.answer) (sym c.net-in-Some-2.ensures.value)
+    (answer-within c.args.version.now.net c.args.failure.case c.args.failure.destination.0 c.in-Some.answer c.in-Some.ensures.1)
