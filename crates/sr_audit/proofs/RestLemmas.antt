@@ -33,14 +33,16 @@ audit-there : (n : Net) → IsNet n → IsAnswered n → (place : ℕ) → place
 audit-there n net answered place lt =
     let at = case-at n.graph place lt in
     let answers = answered at.0 at.1 in
-    let items = items-there n at.0 answers.0 net answers.1 in
-    (items.0, record {
-      case = at.0;
-      within = at.1;
-      place_is = at.2;
-      audit = items-audit n at.0 answers.0 items.0 at.1 answers.1 items.1;
-      few = items-few n at.0 answers.0 items.0 net answers.1 items.1;
-    })
+    let items = items-there n at.0 answers.0 net answers.1 in (
+      items.0,
+      record {
+        case = at.0;
+        within = at.1;
+        place_is = at.2;
+        audit = items-audit n at.0 answers.0 items.0 at.1 answers.1 items.1;
+        few = items-few n at.0 answers.0 items.0 net answers.1 items.1;
+      },
+    )
 
 -- and so have the k cases from a place on
 next-there : (n : Net) → IsNet n → IsAnswered n → (m k p : ℕ) → m + k ≡ p → p ≤ case_count n.graph → (items : List Item) × AreNext n m p items

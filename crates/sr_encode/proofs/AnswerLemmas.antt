@@ -1,5 +1,5 @@
 -- How the answers of a case are gathered, and what a search by destination finds in them.
-use Rattle.std.proofs.Common.{◌≡◌, ◌≢◌, ℕ, ◌+◌, ◌<◌, ◌≤◌, ⊎_elim, ◌-◌, Bool, true, false, List, [], ◌∷◌, ◌++◌, length, take, drop, map, slice_range, get_or, All, refl, arith, ap, sym, ◌∙◌, subst, Option, Some, None, Ok, Err}
+use Rattle.std.proofs.Common.{◌≡◌, ◌≢◌, ℕ, ◌+◌, ◌<◌, ◌≤◌, ⊎_elim, ◌-◌, Bool, true, false, List, [], ◌∷◌, ◌++◌, length, take, drop, slice_range, get_or, refl, arith, ap, sym, ◌∙◌, subst, Option, Some, None, Ok, Err}
 use Rattle.std.specs.Prelude.{is_some}
 use Rattle.std.specs.List.Sorted.{IsBinarySearchResult, IsNonDecreasingBy}
 use Rattle.std.specs.Ordering.{nat_cmp, ordering_index}
@@ -173,8 +173,7 @@ pub kept-push : (n : Net) (x : List Bool) (s : ℕ) (wanted : List NodeNo) (m : 
 kept-push n x s wanted m before after list kept answered within node k =
     let same : entries after list ≡ entries before list = ap (λ l. entries l list) k.added ∙ entries-kept before k.more list within in
     let joined : entries after (list ++ kept ∷ []) ≡ entries before list ++ entry_from after kept ∷ [] = map-append (entry_from after) list (kept ∷ []) ∙ ap (λ l. l ++ entry_from after kept ∷ []) same in
-    let others : AreWithin after list = subst (λ l. AreWithin l list) (sym k.added) (All-weaker (λ (o : Kept). IsWithin before o.answer) (λ (o : Kept). IsWithin (before ++ k.more) o.answer) (λ (o : Kept) w. within-more before k.more o.answer w) list within) in
-    (
+    let others : AreWithin after list = subst (λ l. AreWithin l list) (sym k.added) (All-weaker (λ (o : Kept). IsWithin before o.answer) (λ (o : Kept). IsWithin (before ++ k.more) o.answer) (λ (o : Kept) w. within-more before k.more o.answer w) list within) in (
       subst (λ l. AreAnswered n x s wanted (m + 1) l) (sym joined) (answered-push n x s wanted m (entries before list) (entry_from after kept) answered node k.answer),
       All-push (λ (o : Kept). IsWithin after o.answer) list kept others k.within,
     )

@@ -1,7 +1,6 @@
 -- The lines of the cases, in order.
 use Rattle.std.proofs.Common.{◌≡◌, ℕ, ◌+◌, List, [], ◌++◌, append_assoc, append-nil, sym}
 use Rattle.std.proofs.lemmas.Grind.{flat_map-append}
-use Rattle.sr_model.specs.declared.audit.Item.{Item}
 use Rattle.sr_model.specs.declared.case.Case.{Case}
 use Rattle.sr_model.specs.Case.{IsCase}
 use Rattle.sr_model.specs.Label.{Net}

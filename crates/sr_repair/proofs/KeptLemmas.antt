@@ -7,7 +7,6 @@ use Rattle.sr_model.specs.declared.case.Kind.TheVariants.{Link as LinkKind, Node
 use Rattle.sr_model.specs.Audit.{rank_of}
 use Rattle.sr_model.specs.Case.{IsCase}
 use Rattle.sr_model.specs.Label.{Net}
-use Rattle.sr_graph.specs.Failed.{FailsAsLink}
 use Rattle.sr_encode.specs.declared.answers.NodeAnswer.{NodeAnswer}
 use Rattle.sr_encode.specs.Answered.{AreAnswers}
 use Rattle.sr_repair.specs.declared.passes.Passed.{Passed}

@@ -1,5 +1,5 @@
 -- What the passes over cases give, slot after slot.
-use Rattle.std.proofs.Common.{◌≡◌, ℕ, ◌+◌, List, [], ◌∷◌, ◌++◌, subst}
+use Rattle.std.proofs.Common.{ℕ, ◌+◌, List, [], ◌∷◌, ◌++◌, subst}
 use Rattle.std.specs.List.{AllZip, range_with_len}
 use Rattle.rayon.proofs.ListFacts.{AllZip-append}
 use Rattle.rayon.specs.Shown.{run-append}

@@ -178,5 +178,13 @@ pub(crate) fn all_passed(
     ensures { IfOk result (λ passed. AreAllPassed net.now (case_count net.now.graph) passed.items) }
 {
     let count = case_count(net.graph());
-    passed_from(rt, alloc, net, trees, 0, count, count.div_ceil(PIECES).max(FEW))
+    passed_from(
+        rt,
+        alloc,
+        net,
+        trees,
+        0,
+        count,
+        count.div_ceil(PIECES).max(FEW),
+    )
 }

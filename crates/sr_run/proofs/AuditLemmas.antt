@@ -24,8 +24,7 @@ pub rest_said : (version : Numbered) (place next : ℕ) (counts : Counts) (befor
     → GivesRest version place before after (Whole false)
 rest_said version place next counts before between after within all puts counted summed =
     let lines = item_lines version.net puts.items in
-    let summary = summary_line version.number counts in
-    (
+    let summary = summary_line version.number counts in (
       lines ++ summary,
       summed ∙ ap (λ (l : List ℕ). l ++ summary) puts.lines ∙ append_assoc before lines summary,
       record { within = within; items = puts.items; next = rw (← all) puts.next; counts = counts; counted = counted; lines = refl },

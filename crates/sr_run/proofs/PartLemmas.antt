@@ -1,16 +1,16 @@
 -- Answers in parts: what a part and the rest answer together.
-use Rattle.std.proofs.Common.{◌≡◌, ℕ, zero, suc, ◌<◌, Bool, true, false, List, ◌++◌, Option, Some, None, refl, arith, sym, subst, inr}
+use Rattle.std.proofs.Common.{◌≡◌, ℕ, zero, suc, ◌<◌, Bool, false, List, ◌++◌, Option, Some, None, refl, arith, sym, subst, inr}
 use Rattle.sr_repair.specs.Version.{Numbered}
 use Rattle.sr_script.specs.declared.command.Command.{Command}
 use Rattle.sr_script.specs.declared.command.Command.TheVariants.{AuditFull}
 use Rattle.sr_script.specs.declared.line.Line.TheVariants.{Word}
 use Rattle.sr_script.specs.LineSays.{LineSays}
 use Rattle.sr_engine.specs.Lines.{head_of}
-use Rattle.sr_engine.specs.Replies.{AnswersHead, AnswersPart, Gives, from_place}
+use Rattle.sr_engine.specs.Replies.{AnswersPart, Gives}
 use Rattle.sr_engine.specs.declared.session.Reply.{Reply}
 use Rattle.sr_engine.specs.declared.session.Reply.TheVariants.{Whole, Part}
 use Rattle.sr_run.specs.State.{State}
-use Rattle.sr_run.specs.Session.{Answers, AnswersFrom, AuditsOn, AuditsWhole, GivesAnswer, GivesRest, GoesOn, SaysPart, SaysRest}
+use Rattle.sr_run.specs.Session.{AnswersFrom, AuditsOn, GivesAnswer, GivesRest, GoesOn, SaysPart, SaysRest}
 use Rattle.sr_run.proofs.AuditLemmas.{whole_rest}
 use Rattle.sr_run.proofs.SessionLemmas.{head_said, line_says}
 

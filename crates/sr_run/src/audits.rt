@@ -53,11 +53,7 @@ impl DomainSession {
     {
         match &self.current {
             Some(version) => put_rest(self.alloc, version, 0, out),
-            None => Ok(Reply::Whole(DomainSession::refuse(
-                number,
-                &Refusal::NoVersion,
-                out,
-            )?)),
+            None => Ok(Reply::Whole(DomainSession::refuse(number, &Refusal::NoVersion, out)?)),
         }
     }
 

@@ -164,9 +164,7 @@ impl Session for DomainSession {
         match read_line(self.alloc, line) {
             Ok(Line::Nothing) => Ok(Reply::Whole(false)),
             Ok(Line::Word(command)) => self.carry_out(rt, number, command, out),
-            Err(fault) => Ok(Reply::Whole(DomainSession::refuse_line(
-                number, &fault, out,
-            )?)),
+            Err(fault) => Ok(Reply::Whole(DomainSession::refuse_line(number, &fault, out)?)),
         }
     }
 

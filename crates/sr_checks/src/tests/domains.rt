@@ -235,7 +235,7 @@ fn put_lost(
 ) -> Result<(), AllocError> {
     for lost in 1..=nodes {
         let behind = if to > from { lost > from } else { lost < from };
-        if !behind || kind == b"node" && lost == to {
+        if !behind || kind == b"node".as_slice() && lost == to {
             continue;
         }
         text.extend_from_slice(b"repair ")?;

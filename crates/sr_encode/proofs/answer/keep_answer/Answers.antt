@@ -1,4 +1,4 @@
-use Rattle.std.proofs.Common.{◌≡◌, ◌≤◌, ◌*◌, ◌+◌, ◌++◌, List, [], length, true, false, sym, ap, ◌∙◌, subst, slice_index, slice_range, arith, refl, rules}
+use Rattle.std.proofs.Common.{◌≡◌, ◌≤◌, ◌*◌, ◌+◌, ◌++◌, List, [], length, true, false, sym, ap, ◌∙◌, subst, slice_index, slice_range, arith}
 use Rattle.std.proofs.lemmas.List.{append-nil, length-append}
 use Rattle.sr_model.specs.declared.repair.Segment.{Segment}
 use Rattle.sr_model.specs.Walk.{IsDistance}

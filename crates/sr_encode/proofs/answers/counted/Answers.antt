@@ -1,4 +1,4 @@
-use Rattle.std.proofs.Common.{◌≡◌, ◌≤◌, ℕ, List, [], Bool, count_by, length, take, arith, ap}
+use Rattle.std.proofs.Common.{◌≤◌, ℕ, List, [], Bool, count_by, length, take, arith, ap}
 use Rattle.std.proofs.lemmas.List.{length-map, length-take}
 use Rattle.std.proofs.lemmas.List.Sums.{count_by-le-length}
 use Rattle.sr_model.specs.declared.audit.Counts.{Counts}

@@ -1,4 +1,4 @@
-use Rattle.std.proofs.Common.{◌≡◌, ◌+◌, ◌-◌, ◌≤◌, [], ◌∷◌, ◌++◌, arith, subst, sym}
+use Rattle.std.proofs.Common.{◌≡◌, ◌+◌, ◌-◌, [], ◌∷◌, ◌++◌, arith, subst, sym}
 use Rattle.sr_repair.specs.Answers.{IsPassedIn, ArePassedFrom}
 use Rattle.sr_repair.proofs.PassedLemmas.{passed-more}
 use Rattle.sr_repair.proofs.passes.passed_in_turn.Goals as goal

@@ -1,4 +1,4 @@
-use Rattle.std.proofs.Common.{ℕ, ◌≡◌, ◌<◌, length, arith, ap, sym, ◌∙◌, subst, rules, Ok, Err}
+use Rattle.std.proofs.Common.{ℕ, ◌≡◌, ◌<◌, length, arith, ap, sym, subst, rules, Ok, Err}
 use Rattle.std.specs.List.Sorted.{IsBinarySearchResult}
 use Rattle.std.specs.Ordering.{nat_cmp}
 use Rattle.std.proofs.lemmas.List.{length-map}
