@@ -277,7 +277,7 @@ fn a_long_audit_is_answered_whole(rt: HostRuntime) -> Result<(), AllocError> {
     let mut expected = before;
     expected.append(&mut lost_lines(alloc, 80)?)?;
     expected.extend_from_slice(b"audit version 1 covered 0 nopath 18802 nolist 0 toodeep 0\n")?;
-    expected.extend_from_slice(b"show version 1 nodes 80 links 158 depth 12 staged 0\n")?;
+    expected.extend_from_slice(b"show version 1 nodes 80 links 158 depth 3 staged 0\n")?;
     assert_eq!(rt; text.len() > 1_048_576, true);
     assert_eq!(rt; text.as_slice() == expected.as_slice(), true);
     Ok(())
