@@ -17,8 +17,8 @@ use std::marker::Model;
 use std::sync::ledger::Ledger;
 use std::thread::Threads;
 
-/// Half as many nodes as are worth a thread: one costs more than a few searches.
-pub(crate) const FEW: usize = 16;
+/// How many nodes are worth a thread: to make one costs as much as the searches from some thirty.
+pub(crate) const FEW: usize = 64;
 
 /// The shortest-path trees of all nodes of a graph: the distances, and the next hops, between all of them.
 #[derive(Debug, Drop)]
