@@ -63,7 +63,7 @@ pub(crate) fn known_distances(
     let count = spaces.graph().node_count();
     let row = spaces.row(source);
     let mut cells = Vec::with_capacity(alloc, count as usize)?;
-    let mut lost = Vec::new(alloc);
+    let mut lost = Vec::with_capacity(alloc, count as usize)?;
     for v in 0..count as u16 {
         if !is_kept(spaces, trees, source, NodeNo(v)) {
             cells.push(FAR)?;
