@@ -36,8 +36,9 @@ fn affected_nodes(
     requires case { IsCase net.now.graph case }
     ensures { IfOk result (λ nodes. AreAffected net.now case (node_count net.now.graph) nodes.items) }
 {
-    let mut nodes = Vec::new(alloc);
-    for v in 0..net.graph().node_count() as u16 {
+    let count = net.graph().node_count();
+    let mut nodes = Vec::with_capacity(alloc, count as usize)?;
+    for v in 0..count as u16 {
         if !affected(net, trees, case, NodeNo(v)) {
             continue;
         }
@@ -69,9 +70,10 @@ fn search(
     requires wanted { AreNodes net.now wanted.now }
     ensures { IfOk result (λ found. AreFound net.now spaces.now.failed source.0 cells.now found.queue.items wanted.now found.places.items) }
 {
-    let mut met = vec![in alloc; false; net.graph().node_count() as usize]?;
+    let count = net.graph().node_count() as usize;
+    let mut met = vec![in alloc; false; count]?;
     let mut places = vec![in alloc; None; wanted.len()]?;
-    let mut queue = Vec::new(alloc);
+    let mut queue = Vec::with_capacity(alloc, count)?;
     begin_all(net, spaces, cells, source, &mut met, &mut queue)?;
     let mut unmet = unmet_nodes(alloc, &met)?;
     let mut unserved = unserved_places(alloc, cells, wanted, &places)?;
@@ -118,7 +120,7 @@ fn answers_of(
     ensures within { IfOk result (λ all. AreWithin all.segments.items all.kept.items) }
 {
     let mut kept = Vec::with_capacity(alloc, wanted.len())?;
-    let mut segments = Vec::new(alloc);
+    let mut segments = Vec::with_capacity(alloc, wanted.len())?;
     let mut list = Vec::new(alloc);
     for j in 0..wanted.len() {
         let destination = wanted[j];

@@ -1,5 +1,4 @@
 pub mod PlaceLemmas
-pub mod PassedLemmas
 pub mod KindLemmas
 pub mod KeptLemmas
 pub mod StackLemmas

@@ -1,6 +1,5 @@
 -- The answers of all cases.
-use Rattle.std.specs.Prelude.{◌≡◌, ℕ, ◌+◌, ◌*◌, ◌<◌, List, [], ◌∷◌, length, slice_index_or}
-use Rattle.std.specs.List.{AllZip, range_with_len}
+use Rattle.std.specs.Prelude.{◌≡◌, ℕ, ◌+◌, ◌*◌, ◌<◌, List, [], ◌∷◌, length, slice_index_or, All, Option, Some, None}
 use Rattle.sr_model.specs.declared.case.Case.{Case}
 use Rattle.sr_model.specs.declared.case.Kind.TheVariants.{Link as LinkKind}
 use Rattle.sr_model.specs.Audit.{rank_of}
@@ -12,6 +11,7 @@ use Rattle.sr_encode.specs.declared.answers.NodeAnswer.{NodeAnswer}
 use Rattle.sr_encode.specs.Answered.{AreAnswers}
 use Rattle.sr_repair.specs.declared.passes.Passed.{Passed}
 use Rattle.sr_repair.specs.declared.passes.Passed.TheVariants.{Nothing, AsLink, Listed}
+use Rattle.sr_repair.specs.declared.shared.Done.{Done}
 use Rattle.sr_repair.specs.declared.answers.Found.{Found}
 use Rattle.sr_repair.specs.declared.answers.Found.TheVariants.{Own, AsLink as AsLinkFound}
 
@@ -54,13 +54,27 @@ IsPassed n case (Listed list search) = AreAnswers n case list
 abbrev pub IsPassedIn : Net → ℕ → Passed → Type 0
 IsPassedIn n = BelongsIn n.graph (IsPassed n)
 
--- what the passes over the cases in k slots from m on give, one by one
-abbrev pub ArePassedFrom : Net → ℕ → ℕ → List Passed → Type 0
-ArePassedFrom n m k all = AllZip (IsPassedIn n) (range_with_len m k) all
-
 -- what the passes over the cases in the first m slots give
 abbrev pub AreAllPassed : Net → ℕ → List Passed → Type 0
 AreAllPassed n = StandInSlots Nothing n.graph (IsPassed n)
+
+-- what a thread says of a case is what the pass over it gives
+abbrev pub IsDone : Net → Done → Type 0
+IsDone n one = (one.slot < case_count n.graph) × IsPassedIn n one.slot one.passed
+
+-- so it is with each of them
+abbrev pub AreDone : Net → List Done → Type 0
+AreDone n = All (IsDone n)
+
+-- in slot i stands nothing, or what the pass over its case gives
+abbrev pub IsInSlot : Net → ℕ → Option Passed → Type 0
+IsInSlot n i None = Unit {0}
+IsInSlot n i (Some passed) = IsPassedIn n i passed
+
+-- so it is with each slot, and each case has one
+pub record AreInSlots (n : Net) (slots : List (Option Passed)) : Type 0 where
+  pub long : length slots ≡ case_count n.graph
+  pub each : (i : ℕ) → i < case_count n.graph → IsInSlot n i (slice_index_or slots i None)
 
 -- how many searches were counted in the pass: one where there are answers
 abbrev pub searches_of : Passed → ℕ

@@ -6,6 +6,7 @@ mod cases;
 mod laws;
 mod made;
 mod passes;
+mod shared;
 mod stack;
 mod version;
 

@@ -3,7 +3,7 @@ use Rattle.sr_encode.proofs.NodeLemmas.{those-none, those-push}
 use Rattle.sr_encode.proofs.repairs.affected_nodes.Goals as goal
 
 pub loop-v-init : goal.loop-v-init
-loop-v-init c = rw c.new-nodes.ensures.items (those-none (IsAffected c.args.net.now c.args.case))
+loop-v-init c = rw c.in_ok-nodes.ensures.items (those-none (IsAffected c.args.net.now c.args.case))
 
 pub loop-v-preserved : goal.loop-v-preserved
 loop-v-preserved c =
