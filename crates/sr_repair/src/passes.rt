@@ -85,7 +85,12 @@ fn pass(alloc: Global, net: &Net, trees: &Trees, case: Case) -> Result<Passed, A
 }
 
 /// What the pass over the case in this slot gives.
-pub(crate) fn pass_in(alloc: Global, net: &Net, trees: &Trees, slot: u32) -> Result<Passed, AllocError>
+pub(crate) fn pass_in(
+    alloc: Global,
+    net: &Net,
+    trees: &Trees,
+    slot: u32,
+) -> Result<Passed, AllocError>
     requires trees { AreTrees net.now.graph trees.now }
     requires slot { slot < case_count net.now.graph }
     ensures { IfOk result (IsPassedIn net.now slot) }
