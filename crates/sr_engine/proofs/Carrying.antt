@@ -1,5 +1,5 @@
 -- The run goes on from line to line.
-use Rattle.std.proofs.Common.{◌≡◌, ℕ, ◌+◌, ◌<◌, Bool, false, ◌||◌, List, [], ◌∷◌, ◌++◌, refl, sym, ap, subst, ◌∙◌, arith, append_assoc, append-nil, length-append}
+use Rattle.std.proofs.Common.{◌≡◌, ℕ, ◌+◌, ◌<◌, Bool, false, ◌||◌, List, [], ◌∷◌, ◌++◌, length, refl, sym, ap, subst, ◌∙◌, arith, append_assoc, append-nil, length-append}
 use Rattle.sr_engine.specs.Lines.{Splits, IsUnbroken, last_line, head_of}
 use Rattle.sr_engine.specs.Replies.{Answering, Partly, Replies, whole}
 use Rattle.sr_engine.specs.Moments.{Carries, Carried, CarriesOn, IsKept, Owing, Pays, EndedLast, BeginsLine, moment_of}
@@ -182,6 +182,7 @@ ends-none answers old rest none k =
       said = [];
       again = false;
       replies = subst (λ r. Replies answers old.session (old.lines + 1) (last_line r) [] false old.session) (sym e) (refl, refl, refl);
+      counted = subst (λ r. old.lines ≡ old.lines + length (last_line r)) (sym e) (omega arith);
       refusal = sym (or_false old.refused);
       appended = sym (append-nil old.out.items);
     }
@@ -203,6 +204,7 @@ ends-one answers old new rest some k p settled =
       said = c.said;
       again = c.again;
       replies = subst (λ ls. Replies (whole answers) old.session (old.lines + 1) ls c.said c.again new.session) lines c.replies;
+      counted = subst (λ ls. new.lines ≡ old.lines + length ls) lines c.counted;
       refusal = c.refusal;
       appended = c.appended;
     }

@@ -193,11 +193,12 @@ pub record Passes {S : Type 0} (answers : Answering S) (old : Progress S) (piece
   pub bytes : MatchResult result (λ _. PassesAll answers old piece new held held') (λ _. Stops answers old piece held held')
   pub cause : MatchResult result (λ _. faults' ≡ faults) (CauseOf faults faults')
 
--- the line that no line feed ended was answered, where there was one
+-- the line that no line feed ended was answered and counted, where there was one
 pub record EndedLast {S : Type 0} (answers : Answering S) (old : Progress S) (rest : List ℕ) (new : Progress S) : Type 0 where
   pub said : List ℕ
   pub again : Bool
   pub replies : Replies answers old.session (old.lines + 1) (last_line rest) said again new.session
+  pub counted : new.lines ≡ old.lines + length (last_line rest)
   pub refusal : new.refused ≡ old.refused || again
   pub appended : new.out.items ≡ old.out.items ++ said
 
@@ -205,12 +206,13 @@ pub record EndedLast {S : Type 0} (answers : Answering S) (old : Progress S) (re
 pub record EndsLast {S : Type 0} (answers : Answering S) (old : Progress S) (new : Progress S) : Type 0 where
   pub from : (rest : List ℕ) → IsKept old.kept.items rest → EndedLast answers old rest new
 
--- the line that no line feed ended was answered, and then the end of the script
+-- the line that no line feed ended was answered and counted, where there was one, and then the end of the script was answered
 pub record Closed {S : Type 0} (answers : Answering S) (ends : Closing S) (old : Progress S) (rest : List ℕ) (new : Progress S) : Type 0 where
   pub said : List ℕ
   pub again : Bool
   pub last : S
   pub replies : Replies answers old.session (old.lines + 1) (last_line rest) said again last
+  pub counted : new.lines ≡ old.lines + length (last_line rest)
   pub refusal : new.refused ≡ old.refused || again
   pub tail : List ℕ
   pub end : ends last tail new.session
