@@ -185,6 +185,7 @@ ends-none answers old rest none k =
       counted = subst (λ r. old.lines ≡ old.lines + length (last_line r)) (sym e) (omega arith);
       refusal = sym (or_false old.refused);
       appended = sym (append-nil old.out.items);
+      kept = none;
     }
 
 -- the line that is held was answered as if a line feed had come
@@ -199,7 +200,8 @@ ends-one answers old new rest some k p settled =
       each = (k.unbroken, tt);
       last = tt;
     } in
-    let lines : c.lines ≡ last_line rest = (splits-one (rest ++ 10 ∷ []) c.lines (rest ∷ []) d.rest [] c.splits one).0 ∙ sym (last_line-is rest more) in
+    let split = splits-one (rest ++ 10 ∷ []) c.lines (rest ∷ []) d.rest [] c.splits one in
+    let lines : c.lines ≡ last_line rest = split.0 ∙ sym (last_line-is rest more) in
     record {
       said = c.said;
       again = c.again;
@@ -207,4 +209,5 @@ ends-one answers old new rest some k p settled =
       counted = subst (λ ls. new.lines ≡ old.lines + length ls) lines c.counted;
       refusal = c.refusal;
       appended = c.appended;
+      kept = (d.since.held settled).head ∙ ap head_of split.1 ∙ sym kept-nothing;
     }

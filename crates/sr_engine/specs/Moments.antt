@@ -193,7 +193,7 @@ pub record Passes {S : Type 0} (answers : Answering S) (old : Progress S) (piece
   pub bytes : MatchResult result (λ _. PassesAll answers old piece new held held') (λ _. Stops answers old piece held held')
   pub cause : MatchResult result (λ _. faults' ≡ faults) (CauseOf faults faults')
 
--- the line that no line feed ended was answered and counted, where there was one
+-- the line that no line feed ended was answered and counted, where there was one, and nothing is held any more
 pub record EndedLast {S : Type 0} (answers : Answering S) (old : Progress S) (rest : List ℕ) (new : Progress S) : Type 0 where
   pub said : List ℕ
   pub again : Bool
@@ -201,12 +201,14 @@ pub record EndedLast {S : Type 0} (answers : Answering S) (old : Progress S) (re
   pub counted : new.lines ≡ old.lines + length (last_line rest)
   pub refusal : new.refused ≡ old.refused || again
   pub appended : new.out.items ≡ old.out.items ++ said
+  pub kept : new.kept.items ≡ []
 
--- the same, whatever the bytes since the last line feed were of which the head is held
+-- the same, whatever the bytes since the last line feed were of which the head is held; no answer goes on
 pub record EndsLast {S : Type 0} (answers : Answering S) (old : Progress S) (new : Progress S) : Type 0 where
   pub from : (rest : List ℕ) → IsKept old.kept.items rest → EndedLast answers old rest new
+  pub place : new.place ≡ 0
 
--- the line that no line feed ended was answered and counted, where there was one, and then the end of the script was answered
+-- the line that no line feed ended was answered and counted, where there was one, and then the end of the script was answered; nothing is held any more
 pub record Closed {S : Type 0} (answers : Answering S) (ends : Closing S) (old : Progress S) (rest : List ℕ) (new : Progress S) : Type 0 where
   pub said : List ℕ
   pub again : Bool
@@ -217,7 +219,9 @@ pub record Closed {S : Type 0} (answers : Answering S) (ends : Closing S) (old :
   pub tail : List ℕ
   pub end : ends last tail new.session
   pub appended : new.out.items ≡ old.out.items ++ (said ++ tail)
+  pub kept : new.kept.items ≡ []
 
--- the same, whatever the bytes since the last line feed were of which the head is held
+-- the same, whatever the bytes since the last line feed were of which the head is held; no answer goes on
 pub record Closes {S : Type 0} (answers : Answering S) (ends : Closing S) (old : Progress S) (new : Progress S) : Type 0 where
   pub from : (rest : List ℕ) → IsKept old.kept.items rest → Closed answers ends old rest new
+  pub place : new.place ≡ 0

@@ -5,7 +5,10 @@ use Rattle.sr_engine.proofs.Debts.{places-fall}
 use Rattle.sr_engine.proofs.progress.Progress.end_last_line.Goals as goal
 
 pub returns-then-is_empty : goal.returns-then-is_empty
-returns-then-is_empty g c = record { from = λ rest k. ends-none _ c.args.self.now rest (sym c.as_slice.ensures.value ∙ empty _ (eqb-true _ _ (sym c.if-is_empty.ensures))) k }
+returns-then-is_empty g c = record {
+  from = λ rest k. ends-none _ c.args.self.now rest (sym c.as_slice.ensures.value ∙ empty _ (eqb-true _ _ (sym c.if-is_empty.ensures))) k;
+  place = c.requires.settled;
+}
 
 pub parts-preserved : goal.parts-preserved
 parts-preserved g c = carries-further g.T.Session.answers c.args.self.now c.parts.self c.go_on.new.self (10 ∷ []) c.parts.invariant c.in_ok-go_on.ensures.goes.pays
@@ -18,4 +21,5 @@ returns g c = record {
   from = λ rest k.
       ends-one g.T.Session.answers c.args.self.now c.parts.self rest
       (λ e. let f : false ≡ true = c.if-is_empty.ensures ∙ eq-eqb _ _ (ap length (c.as_slice.ensures.value ∙ e)) in cc) k c.parts.invariant (omega arith);
+  place = omega arith;
 }
