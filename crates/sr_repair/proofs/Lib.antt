@@ -3,3 +3,4 @@ pub mod KindLemmas
 pub mod KeptLemmas
 pub mod StackLemmas
 pub mod DeliveryLemmas
+pub mod SharedLemmas

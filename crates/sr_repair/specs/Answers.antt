@@ -1,5 +1,5 @@
 -- The answers of all cases.
-use Rattle.std.specs.Prelude.{◌≡◌, ℕ, ◌+◌, ◌*◌, ◌<◌, List, [], ◌∷◌, length, slice_index_or, All, Option, Some, None}
+use Rattle.std.specs.Prelude.{◌≡◌, ℕ, ◌+◌, ◌*◌, ◌<◌, List, [], ◌∷◌, length, map, slice_index_or, All, Option, Some, None}
 use Rattle.sr_model.specs.declared.case.Case.{Case}
 use Rattle.sr_model.specs.declared.case.Kind.TheVariants.{Link as LinkKind}
 use Rattle.sr_model.specs.Audit.{rank_of}
@@ -66,6 +66,10 @@ IsDone n one = (one.slot < case_count n.graph) × IsPassedIn n one.slot one.pass
 abbrev pub AreDone : Net → List Done → Type 0
 AreDone n = All (IsDone n)
 
+-- the slots of which they speak, in order
+abbrev pub slots_of : List Done → List ℕ
+slots_of all = map (λ (one : Done). one.slot) all
+
 -- in slot i stands nothing, or what the pass over its case gives
 abbrev pub IsInSlot : Net → ℕ → Option Passed → Type 0
 IsInSlot n i None = Unit {0}
@@ -75,6 +79,18 @@ IsInSlot n i (Some passed) = IsPassedIn n i passed
 pub record AreInSlots (n : Net) (slots : List (Option Passed)) : Type 0 where
   pub long : length slots ≡ case_count n.graph
   pub each : (i : ℕ) → i < case_count n.graph → IsInSlot n i (slice_index_or slots i None)
+
+-- none of them speaks of slot i
+abbrev pub AreSilentOn : ℕ → List Done → Type 0
+AreSilentOn i = All (λ (one : Done). one.slot ≡ i → ⊥)
+
+-- there is nothing only in slots of which none of them speaks
+abbrev pub AreFilledBy : List Done → List (Option Passed) → Type 0
+AreFilledBy all slots = (i : ℕ) → slice_index_or slots i None ≡ None → AreSilentOn i all
+
+-- where something is in a slot, this stands in its place
+abbrev pub AreTakenFrom : List (Option Passed) → List Passed → Type 0
+AreTakenFrom slots passed = (i : ℕ) (one : Passed) → i < length passed → slice_index_or slots i None ≡ Some one → slice_index_or passed i Nothing ≡ one
 
 -- how many searches were counted in the pass: one where there are answers
 abbrev pub searches_of : Passed → ℕ

@@ -1,8 +1,9 @@
 //! The passes over all cases, shared among threads.
-ghost use Rattle.std.specs.Prelude.{◌≡◌, ◌*◌, ◌<◌, ◌≤◌, IfOk, OnOk};
+ghost use Rattle.std.specs.Prelude.{◌≡◌, ◌*◌, ◌-◌, ◌<◌, ◌≤◌, ◌++◌, Ok, Some, slice_set, IfOk, IfSome, OnOk};
+ghost use Rattle.std.specs.List.{range_with_len};
 ghost use Rattle.std.specs.Thread.{IsSync};
 ghost use Rattle.sr_spf.specs.Trees.{AreTrees};
-ghost use Rattle.sr_repair.specs.Answers.{case_count, IsPassedIn, IsDone, IsInSlot, AreDone, AreInSlots, AreAllPassed};
+ghost use Rattle.sr_repair.specs.Answers.{case_count, IsPassedIn, IsDone, IsInSlot, AreDone, AreInSlots, AreAllPassed, AreFilledBy, AreTakenFrom, slots_of};
 
 use crate::cases::case_count;
 use crate::passes::{Passed, pass_in};
@@ -38,7 +39,8 @@ fn do_some(
     requires trees { AreTrees net.now.graph trees.now }
     requires slots { end ≤ case_count net.now.graph }
     requires done { AreDone net.now done.old.items }
-    ensures { OnOk result (AreDone net.now done.new.items) }
+    ensures done { OnOk result (AreDone net.now done.new.items) }
+    ensures slots { OnOk result (slots_of done.new.items ≡ slots_of done.old.items ++ range_with_len begin (end - begin)) }
 {
     for slot in begin..end {
         let passed = pass_in(alloc, net, trees, slot)?;
@@ -119,7 +121,8 @@ fn empty_slots(alloc: Global, net: &Net) -> Result<Vec<Option<Passed>>, AllocErr
 fn put_in_slot(net: &Net, one: Done, slots: &mut Vec<Option<Passed>>)
     requires one { IsDone net.now one }
     requires slots { AreInSlots net.now slots.old.items }
-    ensures { AreInSlots net.now slots.new.items }
+    ensures slots { AreInSlots net.now slots.new.items }
+    ensures put { slots.new.items ≡ slice_set slots.old.items one.slot (Some one.passed) }
 {
     slots[one.slot as usize] = Some(one.passed);
 }
@@ -127,7 +130,8 @@ fn put_in_slot(net: &Net, one: Done, slots: &mut Vec<Option<Passed>>)
 /// What the threads did, each pass in the slot of its case.
 fn in_slots(alloc: Global, net: &Net, all: Vec<Done>) -> Result<Vec<Option<Passed>>, AllocError>
     requires { AreDone net.now all.items }
-    ensures { IfOk result (λ slots. AreInSlots net.now slots.items) }
+    ensures slots { IfOk result (λ slots. AreInSlots net.now slots.items) }
+    ensures filled { IfOk result (λ slots. AreFilledBy all.items slots.items) }
 {
     let mut slots = empty_slots(alloc, net)?;
     for one in all {
@@ -147,7 +151,8 @@ fn passed_in(
     requires trees { AreTrees net.now.graph trees.now }
     requires slot { slot < case_count net.now.graph }
     requires found { IsInSlot net.now slot found }
-    ensures { IfOk result (IsPassedIn net.now slot) }
+    ensures passed { IfOk result (IsPassedIn net.now slot) }
+    ensures kept { IfSome found (λ passed. result ≡ Ok passed) }
 {
     match found {
         Some(passed) => Ok(passed),
@@ -164,7 +169,8 @@ fn in_order(
 ) -> Result<Vec<Passed>, AllocError>
     requires trees { AreTrees net.now.graph trees.now }
     requires slots { AreInSlots net.now slots.items }
-    ensures { IfOk result (λ passed. AreAllPassed net.now (case_count net.now.graph) passed.items) }
+    ensures passed { IfOk result (λ passed. AreAllPassed net.now (case_count net.now.graph) passed.items) }
+    ensures taken { IfOk result (λ passed. AreTakenFrom slots.items passed.items) }
 {
     let count = case_count(net.graph());
     let mut passed = Vec::with_capacity(alloc, count as usize)?;
