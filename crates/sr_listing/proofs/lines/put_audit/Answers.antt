@@ -14,8 +14,8 @@ loop-at-init c = lines-none c.args.version.now.net c.args.place c.args.out.now.i
 pub loop-at-preserved : goal.loop-at-preserved
 loop-at-preserved c = lines-more c.args.version.now.net c.args.place c.loop-at.at c.args.out.now.items c.loop-at.out.items c.put_case.new.out.items c.loop-at.invariant c.in_ok-put_case.ensures.line
 
-pub returns-then-len-gt-LONG-clause-lines : goal.returns-then-len-gt-LONG-clause-lines
-returns-then-len-gt-LONG-clause-lines c = lines-more c.args.version.now.net c.args.place c.loop-at.at c.args.out.now.items c.loop-at.out.items c.put_case.new.out.items c.loop-at.invariant c.in_ok-put_case.ensures.line
+pub returns-then-written-gt-LONG-clause-lines : goal.returns-then-written-gt-LONG-clause-lines
+returns-then-written-gt-LONG-clause-lines c = lines-more c.args.version.now.net c.args.place c.loop-at.at c.args.out.now.items c.loop-at.out.items c.put_case.new.out.items c.loop-at.invariant c.in_ok-put_case.ensures.line
 
 pub returns-clause-lines : goal.returns-clause-lines
 returns-clause-lines c =
