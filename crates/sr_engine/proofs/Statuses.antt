@@ -41,7 +41,7 @@ row-of Runs answers ends opening left taken out final source source' sink sink' 
   one = λ e. absurd (omega arith);
   two = λ e. absurd (omega arith);
   other = λ n. absurd (n r);
-  three = λ e. (w, s);
+  three = λ e. (w, s.0, s.1);
   four = λ e. absurd (omega arith);
   five = λ e. absurd (omega arith);
   six = λ e. absurd (omega arith);
@@ -53,7 +53,7 @@ row-of Runs answers ends opening left taken out final source source' sink sink' 
   two = λ e. absurd (omega arith);
   other = λ n. absurd (n r);
   three = λ e. absurd (omega arith);
-  four = λ e. (w, s);
+  four = λ e. (w, s.0, s.1);
   five = λ e. absurd (omega arith);
   six = λ e. absurd (omega arith);
 }

@@ -205,7 +205,7 @@ stopped-so answers ends opening left left' left'' held held' held'' old count pi
 
 -- the counts of faults show the fault
 shown : (source source' sink sink' : ℕ) (cause : SinkFault) → source' ≡ source → CauseOf sink sink' cause → CountsShow source source' sink sink' (ending_of cause)
-shown source source' sink sink' fault.Failed kept h = h
+shown source source' sink sink' fault.Failed kept h = (h, kept)
 shown source source' sink sink' (fault.Memory e) kept h = (kept, h)
 
 pub counts-stopped : (source source' sink sink' sink'' : ℕ) (cause : SinkFault) (end : End) → source' ≡ source → sink' ≡ sink → CauseOf sink' sink'' cause → end ≡ ending_of cause

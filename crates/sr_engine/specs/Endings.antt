@@ -46,8 +46,8 @@ OutputIs answers ends opening left taken out final TooMuch = (most_bytes < lengt
 -- what the counts of faults of the source and the sink show where a run ended so
 abbrev pub CountsShow : ℕ → ℕ → ℕ → ℕ → End → Type 0
 CountsShow source source' sink sink' (Done refused) = (source' ≡ source) × (sink' ≡ sink)
-CountsShow source source' sink sink' ReadFailed = Rose source source'
-CountsShow source source' sink sink' WriteFailed = Rose sink sink'
+CountsShow source source' sink sink' ReadFailed = Rose source source' × (sink' ≡ sink)
+CountsShow source source' sink sink' WriteFailed = Rose sink sink' × (source' ≡ source)
 CountsShow source source' sink sink' Memory = (source' ≡ source) × (sink' ≡ sink)
 CountsShow source source' sink sink' TooMuch = (source' ≡ source) × (sink' ≡ sink)
 

@@ -33,8 +33,8 @@ pub record Row {S : Type 0} (Runs : Type 0) (answers : Answering S) (ends : Clos
   pub one : status ≡ 1 → Runs × Whole answers ends opening left taken out true final source source' sink sink'
   pub two : status ≡ 2 → (Runs → ⊥) × (taken ≡ []) × (out ≡ []) × (source' ≡ source) × (sink' ≡ sink)
   pub other : (Runs → ⊥) → status ≡ 2
-  pub three : status ≡ 3 → Answered answers opening taken out × Rose source source'
-  pub four : status ≡ 4 → BeginsOutput answers ends opening left taken out × Rose sink sink'
+  pub three : status ≡ 3 → Answered answers opening taken out × Rose source source' × (sink' ≡ sink)
+  pub four : status ≡ 4 → BeginsOutput answers ends opening left taken out × Rose sink sink' × (source' ≡ source)
   pub five : status ≡ 5 → BeginsOutput answers ends opening left taken out × (source' ≡ source) × (sink' ≡ sink)
   pub six : status ≡ 6 → (most_bytes < length taken) × Answered answers opening (script_of taken) out × (source' ≡ source) × (sink' ≡ sink)
 
