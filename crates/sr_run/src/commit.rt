@@ -1,5 +1,5 @@
 //! `commit`: the tentative facts become the accepted ones, and their net the next version.
-ghost use Rattle.std.specs.Prelude.{◌≡◌, ◌+◌, ◌<◌, ◌≤◌, ◌++◌, Some, IfErr, IfNone, IfOk, IfSome, MatchResult, OnOk};
+ghost use Rattle.std.specs.Prelude.{◌≡◌, ◌+◌, ◌<◌, ◌≤◌, ◌++◌, Some, None, IfErr, IfNone, IfOk, IfSome, MatchResult, OnOk};
 ghost use Rattle.sr_model.specs.Graph.{node_count, link_count};
 ghost use Rattle.sr_lsdb.specs.Editing.{with_accepted};
 ghost use Rattle.sr_domain.specs.Net.{IsNetOf};
@@ -77,6 +77,7 @@ impl DomainSession {
         ensures some { IfSome result (IsNext self.old) }
         ensures editing { self.new.editing ≡ self.old.editing }
         ensures none { IfNone result (self.new ≡ self.old) }
+        ensures taken { self.old.editing.staged ≡ 0 → result ≡ None → self.old.current ≡ None }
     {
         if self.editor.staged() != 0 {
             return None;

@@ -26,8 +26,7 @@ fn ask_run(words: &[String]) -> bool
 /// line was refused; 2: the words aren't a command, and nothing was read; 3: a read failed; 4: a
 /// write failed; 5: memory was wanting; 6: the script has more than 33,554,432 bytes.
 ///
-/// A commit and an audit split their cases among threads where there are any: the answers are the
-/// same without.
+/// A commit splits its cases among threads where there are any: the answers are the same without.
 pub fn tilfa<R: AllocGlobal + Threads + Sync, S: Source, K: Sink>(
     rt: &R,
     words: &[String],
