@@ -1,7 +1,7 @@
 pub mod RelaxLemmas
 pub mod QueueLemmas
 pub mod BegunLemmas
-pub mod CollectLemmas
+pub mod OrderLemmas
 pub mod TreesLemmas
 pub mod HopsLemmas
 pub mod FixtureLemmas

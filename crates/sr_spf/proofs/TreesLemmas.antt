@@ -7,7 +7,7 @@ use Rattle.sr_spf.specs.declared.rows.Counted.{Counted}
 use Rattle.sr_spf.specs.Rows.{rows_in}
 use Rattle.sr_spf.specs.Trees.{AreRows, AreHops, AreTrees}
 use Rattle.sr_spf.specs.Hops.{HopLists, AreHopsFrom}
-use Rattle.sr_spf.proofs.CollectLemmas.{in_order}
+use Rattle.sr_spf.proofs.OrderLemmas.{in_order}
 
 -- a relation to what the items of a list hold, as one to the items
 zip-inside : {X Y Z : Type 0} (f : Y → Z) (P : X → Z → Type 0) (xs : List X) (ys : List Y) → AllZip (λ x y. P x (f y)) xs ys → AllZip P xs (map f ys)

@@ -8,10 +8,10 @@ ghost use Rattle.sr_spf.specs.Rows.{rows_in};
 use crate::cells::Row;
 use crate::dijkstra::row;
 use crate::steps::{Searched, Steps};
-use crate::trees::FEW;
-use rayon::prelude::*;
+use crate::trees::NODES;
 use sr_graph::{Graph, LinkSet};
 use sr_model::NodeNo;
+use sr_threads::made_of_each;
 use std::alloc::{AllocError, Global};
 use std::marker::Brand;
 use std::sync::ledger::{Blank, Ledger};
@@ -67,22 +67,13 @@ fn all_counted(
     ensures { IfOk result (λ all. AreRows graph.now (rows_in all.items) (node_count graph.now)) }
 {
     let nothing = graph.nothing(alloc)?;
-    let collected = (0..graph.node_count())
-        .into_par_iter()
-        .with_min_len(FEW)
-        .map(
-            |node: u32| -> Result<Counted, AllocError>
-                requires nothing { nothing ≡ [] }
-                requires few { node_count graph.now ≤ 256 }
-                requires node { node < node_count graph.now }
-                ensures { IfOk result (λ c. IsRow graph.entry.now [] node c.row) }
-            { measured(alloc, graph, &nothing, NodeNo(node as u16)) },
-        )
-        .collect::<Result<Vec<Counted>, AllocError>>(rt, alloc);
-    match collected {
-        Ok(all) => all,
-        Err(refused) => Err(refused),
-    }
+    let counted = |node: u32| -> Result<Counted, AllocError>
+        requires nothing { nothing ≡ [] }
+        requires few { node_count graph.now ≤ 256 }
+        requires node { node < node_count graph.now }
+        ensures { IfOk result (λ c. IsRow graph.entry.now [] node c.row) }
+    { measured(alloc, graph, &nothing, NodeNo(node as u16)) };
+    made_of_each(rt, alloc, graph.node_count(), NODES, &counted)
 }
 
 /// The distances alone. The search for each is taken in.

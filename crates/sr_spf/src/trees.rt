@@ -9,16 +9,19 @@ use crate::cells::Row;
 use crate::hops::{HopTable, hops_of};
 use crate::rows::rows_of;
 use crate::steps::Steps;
-use rayon::prelude::*;
 use sr_graph::Graph;
 use sr_model::{FAR, LinkNo, NodeNo};
+use sr_threads::{Share, made_of_each};
 use std::alloc::{AllocError, Global};
 use std::marker::Model;
 use std::sync::ledger::Ledger;
 use std::thread::Threads;
 
-/// How many nodes are worth a thread: to make one costs as much as the searches from some thirty.
-pub(crate) const FEW: usize = 64;
+/// How nodes are shared among threads: to make one costs as much as a few searches.
+pub(crate) const NODES: Share = Share {
+    at_once: 4,
+    worth: 16,
+};
 
 /// The shortest-path trees of all nodes of a graph: the distances, and the next hops, between all of them.
 #[derive(Debug, Drop)]
@@ -47,21 +50,12 @@ fn hops_of_all(
     requires { AreRows graph.now rows.now (node_count graph.now) }
     ensures { IfOk result (λ hops. AreHops graph.now hops.items (node_count graph.now)) }
 {
-    let collected = (0..graph.node_count())
-        .into_par_iter()
-        .with_min_len(FEW)
-        .map(
-            |node: u32| -> Result<HopTable, AllocError>
-                requires rows { AreRows graph.now rows.now (node_count graph.now) }
-                requires node { node < node_count graph.now }
-                ensures { IfOk result (AreHopsFrom graph.entry.now node) }
-            { hops_of(alloc, graph, rows, NodeNo(node as u16)) },
-        )
-        .collect::<Result<Vec<HopTable>, AllocError>>(rt, alloc);
-    match collected {
-        Ok(hops) => hops,
-        Err(refused) => Err(refused),
-    }
+    let hops = |node: u32| -> Result<HopTable, AllocError>
+        requires rows { AreRows graph.now rows.now (node_count graph.now) }
+        requires node { node < node_count graph.now }
+        ensures { IfOk result (AreHopsFrom graph.entry.now node) }
+    { hops_of(alloc, graph, rows, NodeNo(node as u16)) };
+    made_of_each(rt, alloc, graph.node_count(), NODES, &hops)
 }
 
 impl Trees {
