@@ -11,13 +11,19 @@ ghost use Rattle.sr_audit.specs.Audited.{Audited};
 ghost use Rattle.sr_audit.specs.Cases.{IsCaseAudit, IsAuditAt, AreAuditsAt};
 
 use crate::report::Report;
-use rayon::prelude::*;
 use sr_encode::{CaseAnswers, NodeAnswer};
 use sr_labels::Net;
 use sr_model::{Case, Item, Stack};
 use sr_repair::{Version, case_at, case_count, labels_of};
+use sr_threads::{Share, made_of_each};
 use std::alloc::{AllocError, Global};
 use std::thread::Threads;
+
+/// How cases are shared among threads: a thread costs more than a few of them.
+const CASES: Share = Share {
+    at_once: 8,
+    worth: 16,
+};
 
 /// The item that stands for an answer of the case.
 fn item_of<'a>(
@@ -101,21 +107,11 @@ fn all_items<'a>(
     ensures audits { IfOk result (λ lists. AreAuditsAt version.now.net 0 count lists.items) }
     ensures few { IfOk result (λ lists. length (flat_map vec_items lists.items) < 2 ^ 32) }
 {
-    // A thread costs more than a few cases.
-    let collected = (0..count)
-        .into_par_iter()
-        .with_min_len(16)
-        .map(
-            |place: u32| -> Result<Vec<Item>, AllocError>
-                requires { place < case_count version.now.net.graph }
-                ensures { IfOk result (λ items. IsAuditAt version.entry.now.net place items.items) }
-            { items_at(alloc, version, place) },
-        )
-        .collect::<Result<Vec<Vec<Item>>, AllocError>>(rt, alloc);
-    match collected {
-        Ok(lists) => lists,
-        Err(refused) => Err(refused),
-    }
+    let items = |place: u32| -> Result<Vec<Item>, AllocError>
+        requires { place < case_count version.now.net.graph }
+        ensures { IfOk result (λ items. IsAuditAt version.entry.now.net place items.items) }
+    { items_at(alloc, version, place) };
+    made_of_each(rt, alloc, count, CASES, &items)
 }
 
 /// How many items the lists have.

@@ -3,4 +3,3 @@ pub mod KindLemmas
 pub mod KeptLemmas
 pub mod StackLemmas
 pub mod DeliveryLemmas
-pub mod SharedLemmas

@@ -1,14 +1,14 @@
 -- The places and slots of cases, and what stands in these.
 use Rattle.std.proofs.Common.{◌≡◌, ◌≢◌, ℕ, ◌+◌, ◌*◌, ◌<◌, List, [], ◌∷◌, ◌++◌, get_or, ⊎_elim, refl, arith, ap, sym, ◌∙◌, subst}
 use Rattle.std.proofs.lemmas.Bool.{cases_eq}
-use Rattle.std.proofs.lemmas.List.{get_or_append_left, length-append}
-use Rattle.std.proofs.Math.Seq.{get_or-append_seam}
+use Rattle.std.specs.List.{AllZip, range_with_len}
 use Rattle.sr_model.specs.declared.case.Case.{Case}
 use Rattle.sr_model.specs.declared.case.Kind.{Kind}
 use Rattle.sr_model.specs.declared.case.Kind.TheVariants.{Link as LinkKind, Node as NodeKind, Risk as RiskKind}
 use Rattle.sr_model.specs.Audit.{rank_of}
 use Rattle.sr_model.specs.Graph.{Graph, link_count}
 use Rattle.sr_model.specs.Case.{IsCase}
+use Rattle.sr_spf.proofs.OrderLemmas.{in_order}
 use Rattle.sr_repair.specs.Answers.{place_of, slot_of, BelongsIn, StandInSlots}
 
 -- a rank and a number below k are told from the place of both
@@ -50,18 +50,8 @@ slot-one a b e = let same = slot-rank a.kind b.kind a.link.0 b.link.0 e in case_
 pub belongs-in : {X : Type 0} (g : Graph) (Belongs : Case → X → Type 0) (case : Case) (i : ℕ) (x : X) → slot_of case ≡ i → Belongs case x → BelongsIn g Belongs i x
 belongs-in g Belongs case i x at here other within there = subst (λ k. Belongs k x) (slot-one case other (at ∙ sym there)) here
 
--- what stands in the first slots, and what belongs in the next one behind it
-pub stand-more : {X : Type 0} (default : X) (g : Graph) (Belongs : Case → X → Type 0) (m : ℕ) (all : List X) (one : X) → StandInSlots default g Belongs m all → BelongsIn g Belongs m one → StandInSlots default g Belongs (m + 1) (all ++ one ∷ [])
-stand-more default g Belongs m all one before here = record {
-  long = omega (arith, length-append all (one ∷ []), before.long);
-  each = λ case within lt.
-      ⊎_elim
-      (λ (at : slot_of case ≡ m).
-      let last : get_or (all ++ one ∷ []) (slot_of case) default ≡ one = ap (λ k. get_or (all ++ one ∷ []) k default) (at ∙ sym before.long) ∙ get_or-append_seam all one [] default in
-      subst (Belongs case) (sym last) (here case within at))
-      (λ (ne : slot_of case ≢ m).
-      let low : slot_of case < m = omega (arith, lt, ne) in
-      let same : get_or (all ++ one ∷ []) (slot_of case) default ≡ get_or all (slot_of case) default = get_or_append_left all (one ∷ []) default (slot_of case) (omega (arith, low, before.long)) in
-      subst (Belongs case) (sym same) (before.each case within low))
-      (cases_eq (slot_of case) m);
-}
+-- what belongs in the first slots, one by one, stands there
+pub stand-each : {X : Type 0} (default : X) (g : Graph) (Belongs : Case → X → Type 0) (m : ℕ) (all : List X) → AllZip (BelongsIn g Belongs) (range_with_len 0 m) all → StandInSlots default g Belongs m all
+stand-each default g Belongs m all zip =
+    let places = in_order (BelongsIn g Belongs) m all default zip in
+    record { long = places.0; each = λ case within lt. places.1 (slot_of case) lt case within refl }

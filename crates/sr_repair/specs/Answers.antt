@@ -1,5 +1,5 @@
 -- The answers of all cases.
-use Rattle.std.specs.Prelude.{◌≡◌, ℕ, ◌+◌, ◌*◌, ◌<◌, List, [], ◌∷◌, length, map, slice_index_or, All, Option, Some, None}
+use Rattle.std.specs.Prelude.{◌≡◌, ℕ, ◌+◌, ◌*◌, ◌<◌, List, [], ◌∷◌, length, slice_index_or}
 use Rattle.sr_model.specs.declared.case.Case.{Case}
 use Rattle.sr_model.specs.declared.case.Kind.TheVariants.{Link as LinkKind}
 use Rattle.sr_model.specs.Audit.{rank_of}
@@ -11,7 +11,6 @@ use Rattle.sr_encode.specs.declared.answers.NodeAnswer.{NodeAnswer}
 use Rattle.sr_encode.specs.Answered.{AreAnswers}
 use Rattle.sr_repair.specs.declared.passes.Passed.{Passed}
 use Rattle.sr_repair.specs.declared.passes.Passed.TheVariants.{Nothing, AsLink, Listed}
-use Rattle.sr_repair.specs.declared.shared.Done.{Done}
 use Rattle.sr_repair.specs.declared.answers.Found.{Found}
 use Rattle.sr_repair.specs.declared.answers.Found.TheVariants.{Own, AsLink as AsLinkFound}
 
@@ -57,40 +56,6 @@ IsPassedIn n = BelongsIn n.graph (IsPassed n)
 -- what the passes over the cases in the first m slots give
 abbrev pub AreAllPassed : Net → ℕ → List Passed → Type 0
 AreAllPassed n = StandInSlots Nothing n.graph (IsPassed n)
-
--- what a thread says of a case is what the pass over it gives
-abbrev pub IsDone : Net → Done → Type 0
-IsDone n one = (one.slot < case_count n.graph) × IsPassedIn n one.slot one.passed
-
--- so it is with each of them
-abbrev pub AreDone : Net → List Done → Type 0
-AreDone n = All (IsDone n)
-
--- the slots of which they speak, in order
-abbrev pub slots_of : List Done → List ℕ
-slots_of all = map (λ (one : Done). one.slot) all
-
--- in slot i stands nothing, or what the pass over its case gives
-abbrev pub IsInSlot : Net → ℕ → Option Passed → Type 0
-IsInSlot n i None = Unit {0}
-IsInSlot n i (Some passed) = IsPassedIn n i passed
-
--- so it is with each slot, and each case has one
-pub record AreInSlots (n : Net) (slots : List (Option Passed)) : Type 0 where
-  pub long : length slots ≡ case_count n.graph
-  pub each : (i : ℕ) → i < case_count n.graph → IsInSlot n i (slice_index_or slots i None)
-
--- none of them speaks of slot i
-abbrev pub AreSilentOn : ℕ → List Done → Type 0
-AreSilentOn i = All (λ (one : Done). one.slot ≡ i → ⊥)
-
--- there is nothing only in slots of which none of them speaks
-abbrev pub AreFilledBy : List Done → List (Option Passed) → Type 0
-AreFilledBy all slots = (i : ℕ) → slice_index_or slots i None ≡ None → AreSilentOn i all
-
--- where something is in a slot, this stands in its place
-abbrev pub AreTakenFrom : List (Option Passed) → List Passed → Type 0
-AreTakenFrom slots passed = (i : ℕ) (one : Passed) → i < length passed → slice_index_or slots i None ≡ Some one → slice_index_or passed i Nothing ≡ one
 
 -- how many searches were counted in the pass: one where there are answers
 abbrev pub searches_of : Passed → ℕ

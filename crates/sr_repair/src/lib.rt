@@ -6,7 +6,6 @@ mod cases;
 mod laws;
 mod made;
 mod passes;
-mod shared;
 mod stack;
 mod version;
 

@@ -5,8 +5,7 @@ ghost use Rattle.sr_fib.specs.Tables.{IsFib};
 ghost use Rattle.sr_repair.specs.Answers.{case_count, AreAllPassed, AreAllFound};
 
 use crate::answers::{Found, all_kept};
-use crate::passes::Passed;
-use crate::shared::all_passed;
+use crate::passes::{Passed, all_passed};
 use sr_fib::Fib;
 use sr_labels::Net;
 use sr_spf::{Steps, Trees};

@@ -1,18 +1,26 @@
-//! The pass over a case: its searches, one for distances and one for lists.
+//! The pass over a case: its searches, one for distances and one for lists; and the passes over all cases, in threads.
 ghost use Rattle.std.specs.Prelude.{◌≡◌, ◌*◌, ◌<◌, ◌↔◌, IsTrue, IfOk};
 ghost use Rattle.sr_model.specs.Case.{IsCase};
 ghost use Rattle.sr_spf.specs.Trees.{AreTrees};
-ghost use Rattle.sr_repair.specs.Answers.{case_count, AffectsSome, IsPassed, IsPassedIn};
+ghost use Rattle.sr_repair.specs.Answers.{case_count, AffectsSome, IsPassed, IsPassedIn, AreAllPassed};
 
-use crate::cases::case_in;
+use crate::cases::{case_count, case_in};
 use sr_encode::{CaseAnswers, lists};
 use sr_labels::Net;
 use sr_model::{Case, NodeNo};
 use sr_post::{affected, post};
 use sr_spf::{Searched, Steps, Trees};
+use sr_threads::{Share, made_of_each};
 use std::alloc::{AllocError, Global};
 use std::marker::Brand;
 use std::sync::ledger::{Blank, Ledger};
+use std::thread::Threads;
+
+/// How cases are shared among threads. They differ in cost, and the threads end with the last of them.
+const CASES: Share = Share {
+    at_once: 8,
+    worth: 16,
+};
 
 /// What the pass over a case gives.
 #[derive(Drop)]
@@ -85,15 +93,28 @@ fn pass(alloc: Global, net: &Net, trees: &Trees, case: Case) -> Result<Passed, A
 }
 
 /// What the pass over the case in this slot gives.
-pub(crate) fn pass_in(
-    alloc: Global,
-    net: &Net,
-    trees: &Trees,
-    slot: u32,
-) -> Result<Passed, AllocError>
+fn pass_in(alloc: Global, net: &Net, trees: &Trees, slot: u32) -> Result<Passed, AllocError>
     requires trees { AreTrees net.now.graph trees.now }
     requires slot { slot < case_count net.now.graph }
     ensures { IfOk result (IsPassedIn net.now slot) }
 {
     pass(alloc, net, trees, case_in(net.graph(), slot))
+}
+
+/// What the pass over each case gives, in order of slot. The cases are split among threads where there are any.
+pub(crate) fn all_passed(
+    rt: &(impl Threads + Sync),
+    alloc: Global,
+    net: &Net,
+    trees: &Trees,
+) -> Result<Vec<Passed>, AllocError>
+    requires { AreTrees net.now.graph trees.now }
+    ensures { IfOk result (λ passed. AreAllPassed net.now (case_count net.now.graph) passed.items) }
+{
+    let passed = |slot: u32| -> Result<Passed, AllocError>
+        requires trees { AreTrees net.now.graph trees.now }
+        requires slot { slot < case_count net.now.graph }
+        ensures { IfOk result (IsPassedIn net.entry.now slot) }
+    { pass_in(alloc, net, trees, slot) };
+    made_of_each(rt, alloc, case_count(net.graph()), CASES, &passed)
 }

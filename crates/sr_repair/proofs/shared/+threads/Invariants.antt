@@ -1,8 +1,0 @@
-use Rattle.std.proofs.Common.{◌+◌, ◌*◌}
-use Rattle.sr_repair.proofs.shared.+threads.Given as goal
-
-abbrev pub decreases-do_by : goal.decreases-do_by
-decreases-do_by g l = 2 * l.threads
-
-abbrev pub decreases-others : goal.decreases-others
-decreases-others g l = 2 * l.fewer + 1
