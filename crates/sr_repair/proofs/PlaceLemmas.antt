@@ -1,6 +1,5 @@
 -- The places and slots of cases, and what stands in these.
-use Rattle.std.proofs.Common.{◌≡◌, ◌≢◌, ℕ, ◌+◌, ◌*◌, ◌<◌, List, [], ◌∷◌, ◌++◌, get_or, ⊎_elim, refl, arith, ap, sym, ◌∙◌, subst}
-use Rattle.std.proofs.lemmas.Bool.{cases_eq}
+use Rattle.std.proofs.Common.{◌≡◌, ℕ, ◌+◌, ◌*◌, ◌<◌, List, refl, arith, sym, ◌∙◌, subst}
 use Rattle.std.specs.List.{AllZip, range_with_len}
 use Rattle.sr_model.specs.declared.case.Case.{Case}
 use Rattle.sr_model.specs.declared.case.Kind.{Kind}
