@@ -267,16 +267,19 @@ fn lost_lines(alloc: Global, nodes: u32) -> Result<Vec<u8>, AllocError> {
     Ok(text)
 }
 
-/// Such an audit has more than eight million bytes, and is answered in parts.
+/// Such an audit has more than eight million bytes, and is answered in parts; also where it is the last line and has no
+/// line feed.
 #[test]
 fn a_long_audit_is_answered_whole(rt: HostRuntime) -> Result<(), AllocError> {
     let alloc = rt.alloc();
     let pairs = chain(alloc, 200)?;
     let before = answers(&rt, 200, &pairs, b"")?;
     let text = answers(&rt, 200, &pairs, b"audit full\nshow\n")?;
+    let last = answers(&rt, 200, &pairs, b"audit full")?;
     let mut expected = before;
     expected.append(&mut lost_lines(alloc, 200)?)?;
     expected.extend_from_slice(b"audit version 1 covered 0 nopath 119002 nolist 0 toodeep 0\n")?;
+    assert_eq!(rt; last.as_slice() == expected.as_slice(), true);
     expected.extend_from_slice(b"show version 1 nodes 200 links 398 depth 3 staged 0\n")?;
     assert_eq!(rt; text.len() > 8_388_608, true);
     assert_eq!(rt; text.as_slice() == expected.as_slice(), true);
