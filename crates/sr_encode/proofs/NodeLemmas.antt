@@ -1,11 +1,11 @@
 -- What lists of nodes keep.
 use Rattle.std.proofs.Common.{◌≡◌, ◌≢◌, ℕ, zero, suc, ◌+◌, ◌<◌, ◌≤◌, ⊎_elim, Bool, true, false, List, [], ◌∷◌, ◌++◌, length, refl, arith, ap, sym, ◌∙◌, subst}
 use Rattle.std.specs.Prelude.{not, filter, slice_index_or}
-use Rattle.std.proofs.lemmas.Bool.{cond_both, cases_eq, cases_lt, false_from_ne_true, not-true}
+use Rattle.std.proofs.lemmas.Bool.{cond_both, cases_eq, cases_lt, false_from_ne_true}
 use Rattle.std.proofs.lemmas.List.{length-append, get_or_push, get_or_append_left}
 use Rattle.sr_model.specs.declared.link.NodeNo.{NodeNo}
 use Rattle.sr_model.specs.Graph.{has}
-use Rattle.sr_encode.specs.Nodes.{listed_at, AreThose, AreUnmet, not_met}
+use Rattle.sr_encode.specs.Nodes.{listed_at, AreThose, HasUnmet, not_met}
 
 -- what stands for a node past the end of a list
 abbrev pub no_node : NodeNo
@@ -120,31 +120,27 @@ filter-keeps test (v ∷ rest) (suc k) lt passes =
     cond_both (test v) (v ∷ filter test rest) (filter test rest) (λ kept. Keeps kept (listed_at rest k))
     (λ _. keeps-behind v (filter test rest) (listed_at rest k) behind) (λ _. behind)
 
-was-apart : (met more : List Bool) (v : ℕ) → ((v : ℕ) → has met v ≡ true → has more v ≡ true) → has more v ≡ false → has met v ≡ false
-was-apart met more v kept apart =
-    false_from_ne_true (has met v) (λ was. let z : true ≡ false = sym (kept v was) ∙ apart in absurd (cc))
+-- the nodes that aren't met
+pub unmet-those : (met : List Bool) (unmet : List NodeNo) → AreThose (λ v. has met v ≡ false) (length met) unmet → HasUnmet met unmet
+unmet-those met unmet r = record { ascending = r.ascending; inside = λ j lt. (r.each j lt).0; all = r.all }
 
--- nodes met since are taken out of the list
-pub unmet-filter : (met more : List Bool) (unmet : List NodeNo) → AreUnmet met unmet → length more ≡ length met → ((v : ℕ) → has met v ≡ true → has more v ≡ true) → AreUnmet more (not_met more unmet)
-unmet-filter met more unmet r long kept =
-    let test : NodeNo → Bool = λ (v : NodeNo). not (has more v.0) in
+-- nodes that are met are taken out of the list
+pub unmet-filter : (met : List Bool) (unmet : List NodeNo) → HasUnmet met unmet → HasUnmet met (not_met met unmet)
+unmet-filter met unmet r =
+    let test : NodeNo → Bool = λ (v : NodeNo). not (has met v.0) in
     record {
       ascending = filter-ascend test unmet r.ascending;
-      each = λ j lt. let q = filter-from test unmet j lt in (
-        (let below : listed_at unmet q.0 < length met = (r.each q.0 q.1).0 in omega (arith, q.2)),
-        subst (λ v. has more v ≡ false) q.2 (not-true (has more (listed_at unmet q.0)) q.3),
-      );
+      inside = λ j lt. let q = filter-from test unmet j lt in let below : listed_at unmet q.0 < length met = r.inside q.0 q.1 in omega (arith, q.2);
       all = λ v lt apart.
-          let before : has met v ≡ false = was-apart met more v kept apart in
-          let q = r.all v (omega arith) before in
-          let here : has more (listed_at unmet q.0) ≡ false = subst (λ u. has more u ≡ false) (sym q.2) apart in
+          let q = r.all v lt apart in
+          let here : has met (listed_at unmet q.0) ≡ false = subst (λ u. has met u ≡ false) (sym q.2) apart in
           subst (λ u. Keeps (filter test unmet) u) q.2 (filter-keeps test unmet q.0 q.1 (ap not here));
     }
 
--- the list stays where no mark changes
-pub unmet-same : (met more : List Bool) (unmet : List NodeNo) → AreUnmet met unmet → length more ≡ length met → ((v : ℕ) → has met v ≡ true → has more v ≡ true) → ((v : ℕ) → has more v ≡ true → has met v ≡ true) → AreUnmet more unmet
-unmet-same met more unmet r long kept back = record {
+-- the list may stay where more nodes are met
+pub unmet-later : (met more : List Bool) (unmet : List NodeNo) → HasUnmet met unmet → length more ≡ length met → ((v : ℕ) → has met v ≡ true → has more v ≡ true) → HasUnmet more unmet
+unmet-later met more unmet r long kept = record {
   ascending = r.ascending;
-  each = λ j lt. ((let below : listed_at unmet j < length met = (r.each j lt).0 in omega arith), was-apart more met (listed_at unmet j) back (r.each j lt).1);
-  all = λ v lt apart. r.all v (omega arith) (was-apart met more v kept apart);
+  inside = λ j lt. let below : listed_at unmet j < length met = r.inside j lt in omega arith;
+  all = λ v lt apart. r.all v (omega arith) (false_from_ne_true (has met v) (λ was. let z : true ≡ false = sym (kept v was) ∙ apart in absurd (cc)));
 }

@@ -96,15 +96,15 @@ module _ (n : Net) (x : List Bool) (s : ℕ) (post : List ℕ) (queue : List Way
             (λ apart. r.offered p (let ne : p ≢ m = λ e. apart (ap (λ q. slice_index unserved q) e) in omega arith));
       }
 
-  -- a destination towards which no list can end there needs no offer
+  -- a destination that is served, or towards which no list can end there, needs no offer
   pub offered-skip : (m : ℕ) → m < length unserved → AreOffered n x s post queue i wanted places unserved m
-      → (EndsAt n x post (node_at queue i) (listed_at wanted (slice_index unserved m)) → ⊥)
+      → (place_at places (slice_index unserved m) ≡ None → EndsAt n x post (node_at queue i) (listed_at wanted (slice_index unserved m)) → ⊥)
       → AreOffered n x s post queue i wanted places unserved (m + 1)
   offered-skip m lt r apart =
       let before : IsServed n x s post queue i (listed_at wanted (slice_index unserved m)) (place_at places (slice_index unserved m)) = r.served.each (slice_index unserved m) (r.has.inside m 0 lt) in
       let here : IsServed n x s post queue (i + 1) (listed_at wanted (slice_index unserved m)) (place_at places (slice_index unserved m)) = record {
         none = λ no near k below. ⊎_elim
-            (λ (at : k ≡ i). subst (λ q. EndsAt n x post (node_at queue q) (listed_at wanted (slice_index unserved m)) → ⊥) (sym at) apart)
+            (λ (at : k ≡ i). subst (λ q. EndsAt n x post (node_at queue q) (listed_at wanted (slice_index unserved m)) → ⊥) (sym at) (apart no))
             (λ (ne : k ≢ i). before.none no near k (omega arith))
             (cases_eq k i);
         some = before.some;

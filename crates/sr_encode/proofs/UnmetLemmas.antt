@@ -11,9 +11,9 @@ use Rattle.sr_model.specs.Walk.{IsDistance, IsRow}
 use Rattle.sr_walks.proofs.Distances.{distance-unique}
 use Rattle.sr_encode.specs.declared.waypoint.Waypoint.{Waypoint}
 use Rattle.sr_encode.specs.Waypoints.{node_at, Extends}
-use Rattle.sr_encode.specs.Nodes.{listed_at, AreUnmet, not_met}
+use Rattle.sr_encode.specs.Nodes.{listed_at, HasUnmet}
 use Rattle.sr_encode.specs.Search.{StepsTo, IsSearching}
-use Rattle.sr_encode.proofs.NodeLemmas.{no_node, unmet-filter, unmet-same}
+use Rattle.sr_encode.proofs.NodeLemmas.{no_node, unmet-later}
 use Rattle.sr_encode.proofs.QueueLemmas.{list-from, step-node, segment-node, searching-known, searching-skip}
 use Rattle.sr_encode.proofs.SearchLemmas.{row-distance}
 
@@ -27,15 +27,15 @@ next-listed unmet count j lt = ap (λ (v : NodeNo). v.0) (get_or_default unmet j
 pub next-past : (unmet : List NodeNo) (count j : ℕ) → length unmet ≤ j → next_at unmet count j ≡ count
 next-past unmet count j past = ap (λ (v : NodeNo). v.0) (get_or_past unmet j (record { 0 = count }) past)
 
-next-within : (met : List Bool) (unmet : List NodeNo) (j : ℕ) → AreUnmet met unmet → next_at unmet (length met) j ≤ length met
+next-within : (met : List Bool) (unmet : List NodeNo) (j : ℕ) → HasUnmet met unmet → next_at unmet (length met) j ≤ length met
 next-within met unmet j r =
     ⊎_elim
-    (λ lt. let below : listed_at unmet j < length met = (r.each j lt).0 in omega (arith, next-listed unmet (length met) j lt))
+    (λ lt. let below : listed_at unmet j < length met = r.inside j lt in omega (arith, next-listed unmet (length met) j lt))
     (λ past. omega (arith, next-past unmet (length met) j past))
     (cases_lt j (length unmet))
 
 -- between two neighbours of the list all nodes are met
-gap-met : (met : List Bool) (unmet : List NodeNo) (j from k : ℕ) → AreUnmet met unmet → ((p : ℕ) → p < j → listed_at unmet p < from) → from ≤ k → k < next_at unmet (length met) j → has met k ≡ true
+gap-met : (met : List Bool) (unmet : List NodeNo) (j from k : ℕ) → HasUnmet met unmet → ((p : ℕ) → p < j → listed_at unmet p < from) → from ≤ k → k < next_at unmet (length met) j → has met k ≡ true
 gap-met met unmet j from k r below low high =
     true_from_ne_false (has met k)
     (λ apart.
@@ -81,7 +81,7 @@ pass-run n x s post queue met i from (suc m) r inside within all =
     (pass-met n x s post queue met i (record { 0 = from + m }) before inside (omega arith) (all (from + m) (omega arith) (omega arith)))
 
 -- on to the next node of the list, which has the nodes that weren't met before
-pub pass-gap : (n : Net) (x : List Bool) (s : ℕ) (post : List ℕ) (queue : List Waypoint) (before met : List Bool) (unmet : List NodeNo) (i from j : ℕ) → IsSearching n x s post queue met i from → i < length queue → AreUnmet before unmet → length before ≡ node_count n.graph → ((v : ℕ) → has before v ≡ true → has met v ≡ true)
+pub pass-gap : (n : Net) (x : List Bool) (s : ℕ) (post : List ℕ) (queue : List Waypoint) (before met : List Bool) (unmet : List NodeNo) (i from j : ℕ) → IsSearching n x s post queue met i from → i < length queue → HasUnmet before unmet → length before ≡ node_count n.graph → ((v : ℕ) → has before v ≡ true → has met v ≡ true)
     → ((p : ℕ) → p < j → listed_at unmet p < from) → from ≤ next_at unmet (node_count n.graph) j → IsSearching n x s post queue met i (next_at unmet (node_count n.graph) j)
 pass-gap n x s post queue before met unmet i from j r inside are long kept below up =
     let next = next_at unmet (node_count n.graph) j in
@@ -92,11 +92,11 @@ pass-gap n x s post queue before met unmet i from j r inside are long kept below
     (pass-run n x s post queue met i from (next - from) r inside (omega (arith, long)) (λ k low high. kept k (gap-met before unmet j from k are below low (omega arith))))
 
 -- the nodes up to place j stand below its next, and so does what is behind
-pub next-above : (met : List Bool) (unmet : List NodeNo) (j : ℕ) → AreUnmet met unmet → j < length unmet → (listed_at unmet j + 1 ≤ next_at unmet (length met) (j + 1)) × ((p : ℕ) → p < j + 1 → listed_at unmet p < listed_at unmet j + 1)
+pub next-above : (met : List Bool) (unmet : List NodeNo) (j : ℕ) → HasUnmet met unmet → j < length unmet → (listed_at unmet j + 1 ≤ next_at unmet (length met) (j + 1)) × ((p : ℕ) → p < j + 1 → listed_at unmet p < listed_at unmet j + 1)
 next-above met unmet j r inside = (
   ⊎_elim
       (λ (more : j + 1 < length unmet). let lt : listed_at unmet j < listed_at unmet (j + 1) = r.ascending j (j + 1) (omega arith) more in omega (arith, next-listed unmet (length met) (j + 1) more))
-      (λ (past : length unmet ≤ j + 1). let lt : listed_at unmet j < length met = (r.each j inside).0 in omega (arith, next-past unmet (length met) (j + 1) past))
+      (λ (past : length unmet ≤ j + 1). let lt : listed_at unmet j < length met = r.inside j inside in omega (arith, next-past unmet (length met) (j + 1) past))
       (cases_lt (j + 1) (length unmet)),
   λ p lt. ⊎_elim
       (λ (same : p ≡ j). let e : listed_at unmet p ≡ listed_at unmet j = ap (λ k. listed_at unmet k) same in omega arith)
@@ -131,13 +131,8 @@ module _ (n : Net) (x : List Bool) (s : ℕ) (post : List ℕ) (queue more : Lis
       let lt : q.0 < length queue = q.1 in
       subst (λ u. has met' u ≡ true) (ap (λ (w : Waypoint). w.node.0) (e.same q.0 lt) ∙ q.2) (marked_at q.0 (omega (arith, e.longer)))
 
--- the list after a look: without the nodes that were met, or as it was where none were
-pub unmet-forgot : (n : Net) (x : List Bool) (s : ℕ) (post : List ℕ) (queue more : List Waypoint) (met met' : List Bool) (i cur j next : ℕ) (unmet : List NodeNo) → IsSearching n x s post queue met i cur → IsSearching n x s post more met' j next → Extends queue more → AreUnmet met unmet → AreUnmet met' (not_met met' unmet)
-unmet-forgot n x s post queue more met met' i cur j next unmet r t e are =
-    unmet-filter met met' unmet are (searching-long n x s post more met' j next t ∙ sym (searching-long n x s post queue met i cur r)) (met-kept n x s post queue more met met' i cur j next r t e)
-
-pub unmet-kept : (n : Net) (x : List Bool) (s : ℕ) (post : List ℕ) (queue more : List Waypoint) (met met' : List Bool) (i cur j next : ℕ) (unmet : List NodeNo) → IsSearching n x s post queue met i cur → IsSearching n x s post more met' j next → Extends queue more → length more ≤ length queue → AreUnmet met unmet → AreUnmet met' unmet
-unmet-kept n x s post queue more met met' i cur j next unmet r t e short are =
-    let back : Extends more queue = record { longer = short; same = λ k lt. sym (e.same k (omega arith)) } in
-    unmet-same met met' unmet are (searching-long n x s post more met' j next t ∙ sym (searching-long n x s post queue met i cur r))
-    (met-kept n x s post queue more met met' i cur j next r t e) (met-kept n x s post more queue met' met j next i cur t r back)
+-- after a look the list may stay
+pub unmet-kept : (n : Net) (x : List Bool) (s : ℕ) (post : List ℕ) (queue more : List Waypoint) (met met' : List Bool) (i cur j next : ℕ) (unmet : List NodeNo) → IsSearching n x s post queue met i cur → IsSearching n x s post more met' j next → Extends queue more → HasUnmet met unmet → HasUnmet met' unmet
+unmet-kept n x s post queue more met met' i cur j next unmet r t e has =
+    unmet-later met met' unmet has (searching-long n x s post more met' j next t ∙ sym (searching-long n x s post queue met i cur r))
+    (met-kept n x s post queue more met met' i cur j next r t e)

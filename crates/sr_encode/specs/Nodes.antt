@@ -13,9 +13,11 @@ pub record AreThose (P : ℕ → Type 0) (m : ℕ) (nodes : List NodeNo) : Type 
   pub each : (j : ℕ) → j < length nodes → (listed_at nodes j < m) × P (listed_at nodes j)
   pub all : (v : ℕ) → v < m → P v → (j : ℕ) × (j < length nodes) × (listed_at nodes j ≡ v)
 
--- the nodes that aren't met, ascending
-abbrev pub AreUnmet : List Bool → List NodeNo → Type 0
-AreUnmet met unmet = AreThose (λ v. has met v ≡ false) (length met) unmet
+-- the list ascends and has each node that isn't met, and it may have some that are
+pub record HasUnmet (met : List Bool) (unmet : List NodeNo) : Type 0 where
+  pub ascending : (i j : ℕ) → i < j → j < length unmet → listed_at unmet i < listed_at unmet j
+  pub inside : (j : ℕ) → j < length unmet → listed_at unmet j < length met
+  pub all : (v : ℕ) → v < length met → has met v ≡ false → (j : ℕ) × (j < length unmet) × (listed_at unmet j ≡ v)
 
 -- those of the nodes that aren't met
 abbrev pub not_met : List Bool → List NodeNo → List NodeNo

@@ -4,10 +4,10 @@ ghost use Rattle.sr_model.specs.declared.repair.Segment.TheVariants.{Node, Adj};
 ghost use Rattle.sr_model.specs.Graph.{node_count, link_count, tail, head, is_overloaded, IsGraph};
 ghost use Rattle.sr_model.specs.Walk.{IsRow};
 ghost use Rattle.sr_encode.specs.Waypoints.{waypoint_at, node_at, met_from, Extends};
-ghost use Rattle.sr_encode.specs.Nodes.{AreUnmet};
+ghost use Rattle.sr_encode.specs.Nodes.{HasUnmet};
 ghost use Rattle.sr_encode.specs.Search.{StepsTo, IsSearching, IsStarting};
 
-use crate::unmet::forget_met;
+use crate::unmet::forget_many;
 use crate::waypoint::Waypoint;
 use sr_graph::LinkRange;
 use sr_labels::Net;
@@ -188,7 +188,7 @@ fn look_at_nodes(
     requires row { IsRow net.now.graph [] w.0 row.now }
     requires cells { IsRow net.now.graph spaces.now.failed source.0 cells.now }
     requires search { IsSearching net.now spaces.now.failed source.0 cells.now queue.old.items met.old i 0 }
-    requires unmet { AreUnmet met.old unmet.now }
+    requires unmet { HasUnmet met.old unmet.now }
     requires i { i < length queue.old.items }
     requires w { node_at queue.old.items i ≡ w.0 }
     requires clear { is_overloaded net.now.graph w.0 ≡ false }
@@ -235,7 +235,8 @@ fn look_over_links(
 }
 
 /// Looks at every segment after the waypoint w at place i: the nodes first, then the links that
-/// begin there. Nothing leads on from an overloaded node. `unmet` has the nodes that aren't met.
+/// begin there. Nothing leads on from an overloaded node. `unmet` has the nodes that aren't met, and
+/// beside them as many that are as `known` says; the answer is how many it has of those then.
 pub(crate) fn expand(
     net: &Net,
     spaces: &Spaces,
@@ -244,32 +245,31 @@ pub(crate) fn expand(
     source: NodeNo,
     met: &mut [bool],
     unmet: &mut Vec<NodeNo>,
+    known: usize,
     queue: &mut Vec<Waypoint>,
     i: usize,
     w: NodeNo,
-) -> Result<(), AllocError>
+) -> Result<usize, AllocError>
     requires graph { IsGraph net.now.graph }
     requires same { spaces.now.graph ≡ net.now.graph }
     requires row { IsRow net.now.graph [] w.0 row.now }
     requires cells { IsRow net.now.graph spaces.now.failed source.0 cells.now }
     requires search { IsSearching net.now spaces.now.failed source.0 cells.now queue.old.items met.old i 0 }
-    requires unmet { AreUnmet met.old unmet.old.items }
+    requires unmet { HasUnmet met.old unmet.old.items }
     requires i { i < length queue.old.items }
     requires w { node_at queue.old.items i ≡ w.0 }
     ensures search { OnOk result (IsSearching net.now spaces.now.failed source.0 cells.now queue.new.items met.new (i + 1) 0) }
-    ensures unmet { OnOk result (AreUnmet met.new unmet.new.items) }
+    ensures unmet { OnOk result (HasUnmet met.new unmet.new.items) }
     ensures longer { OnOk result (Extends queue.old.items queue.new.items) }
 {
     if net.graph().is_overloaded(w) {
-        return Ok(());
+        return Ok(known);
     }
     let count = queue.len();
     look_at_nodes(net, spaces, row, cells, source, met, unmet, queue, i, w)?;
     look_over_links(net, spaces, cells, source, met, queue, i, w)?;
-    if queue.len() > count {
-        forget_met(met, unmet);
-    }
-    Ok(())
+    let more = queue.len().saturating_sub(count);
+    Ok(forget_many(met, unmet, known.saturating_add(more)))
 }
 
 /// Meets the end of a link from the source, where the link alone is a list to it.

@@ -1,11 +1,11 @@
 //! Which waypoint serves which destination.
-ghost use Rattle.std.specs.Prelude.{◌≡◌, ◌+◌, ◌<◌, ◌↔◌, [], length, IsTrue, OnOk};
+ghost use Rattle.std.specs.Prelude.{◌≡◌, ◌+◌, ◌<◌, ◌↔◌, [], length, IsTrue, OnOk, None};
 ghost use Rattle.sr_model.specs.Graph.{node_count, IsGraph};
 ghost use Rattle.sr_model.specs.Walk.{IsRow};
 ghost use Rattle.sr_encode.specs.Waypoints.{node_at};
 ghost use Rattle.sr_encode.specs.Search.{IsSearching};
 ghost use Rattle.sr_encode.specs.Serve.{EndsAt, IsFirstLeast, IsServed, AreNodes, AreServed, HasUnserved, AreFound};
-ghost use Rattle.sr_encode.specs.Nodes.{AreUnmet};
+ghost use Rattle.sr_encode.specs.Nodes.{HasUnmet};
 
 use crate::search::expand;
 use crate::unserved::forget_served;
@@ -42,8 +42,7 @@ fn ends_at(
     spaces.in_p(w, d)
 }
 
-/// The place of the waypoint that serves d, where it is one of those up to place i. `place` has it
-/// where it is one of the earlier ones.
+/// The place of the waypoint w where it serves d, which no waypoint before place i does.
 fn offer(
     net: &Net,
     spaces: &Spaces,
@@ -54,7 +53,6 @@ fn offer(
     i: usize,
     w: NodeNo,
     d: NodeNo,
-    place: Option<u16>,
 ) -> Option<u16>
     requires same { spaces.now.graph ≡ net.now.graph }
     requires row { IsRow net.now.graph [] w.0 row.now }
@@ -65,12 +63,9 @@ fn offer(
     requires w { node_at queue.now i ≡ w.0 }
     requires within { w.0 < node_count net.now.graph }
     requires d { d.0 < node_count net.now.graph }
-    requires served { IsServed net.now spaces.now.failed source.0 cells.now queue.now i d.0 place }
+    requires unserved { IsServed net.now spaces.now.failed source.0 cells.now queue.now i d.0 None }
     ensures { IsServed net.now spaces.now.failed source.0 cells.now queue.now (i + 1) d.0 result }
 {
-    if place.is_some() {
-        return place;
-    }
     if cells[d.0 as usize] >= FAR {
         return None;
     }
@@ -80,7 +75,7 @@ fn offer(
     Some(i as u16)
 }
 
-/// Offers the waypoint w at place i to each destination in the list. Whether it serves one.
+/// Offers the waypoint w at place i to each destination in the list that isn't served yet. How many it serves.
 fn offer_all(
     net: &Net,
     spaces: &Spaces,
@@ -93,7 +88,7 @@ fn offer_all(
     wanted: &[NodeNo],
     unserved: &[usize],
     places: &mut [Option<u16>],
-) -> bool
+) -> usize
     requires same { spaces.now.graph ≡ net.now.graph }
     requires row { IsRow net.now.graph [] w.0 row.now }
     requires cells { IsRow net.now.graph spaces.now.failed source.0 cells.now }
@@ -109,7 +104,7 @@ fn offer_all(
     ensures unserved { HasUnserved cells.now wanted.now places.new unserved.now }
 {
     let ahead = cells[w.0 as usize];
-    let mut serves = false;
+    let mut served = 0;
     for m in 0..unserved.len() {
         let j = unserved[m];
         let d = wanted[j];
@@ -117,15 +112,20 @@ fn offer_all(
         if ahead + row[d.0 as usize] != cells[d.0 as usize] {
             continue;
         }
-        let place = offer(net, spaces, row, cells, source, queue, i, w, d, places[j]);
-        serves = serves || place.is_some();
+        if places[j].is_some() {
+            continue;
+        }
+        let place = offer(net, spaces, row, cells, source, queue, i, w, d);
+        if place.is_some() {
+            served += 1;
+        }
         places[j] = place;
     }
-    serves
+    served
 }
 
-/// Offers the waypoint w at place i to the destinations in the list, and takes out those that it
-/// serves.
+/// Offers the waypoint w at place i to the destinations in the list, of which `served` are served
+/// before, and takes out those that are served where they are many. How many such stay in the list.
 fn serve_all(
     net: &Net,
     spaces: &Spaces,
@@ -137,8 +137,9 @@ fn serve_all(
     w: NodeNo,
     wanted: &[NodeNo],
     unserved: &mut Vec<usize>,
+    served: usize,
     places: &mut [Option<u16>],
-)
+) -> usize
     requires same { spaces.now.graph ≡ net.now.graph }
     requires row { IsRow net.now.graph [] w.0 row.now }
     requires cells { IsRow net.now.graph spaces.now.failed source.0 cells.now }
@@ -153,11 +154,16 @@ fn serve_all(
     ensures served { AreServed net.now spaces.now.failed source.0 cells.now queue.now (i + 1) wanted.now places.new }
     ensures unserved { HasUnserved cells.now wanted.now places.new unserved.new.items }
 {
-    if offer_all(
+    let more = offer_all(
         net, spaces, row, cells, source, queue, i, w, wanted, unserved, places,
-    ) {
-        forget_served(places, unserved);
+    );
+    let served = served.saturating_add(more);
+    // To take out a few costs more than to pass over them.
+    if served <= unserved.len() / 4 {
+        return served;
     }
+    forget_served(places, unserved);
+    0
 }
 
 /// Goes through the queue, which the looks lengthen, until each destination with a walk is served.
@@ -177,23 +183,28 @@ pub(crate) fn explore(
     requires same { spaces.now.graph ≡ net.now.graph }
     requires cells { IsRow net.now.graph spaces.now.failed source.0 cells.now }
     requires search { IsSearching net.now spaces.now.failed source.0 cells.now queue.old.items met.old 0 0 }
-    requires unmet { AreUnmet met.old unmet.old.items }
+    requires unmet { HasUnmet met.old unmet.old.items }
     requires wanted { AreNodes net.now wanted.now }
     requires served { AreServed net.now spaces.now.failed source.0 cells.now queue.old.items 0 wanted.now places.old }
     requires unserved { HasUnserved cells.now wanted.now places.old unserved.old.items }
     ensures { OnOk result (AreFound net.now spaces.now.failed source.0 cells.now queue.new.items wanted.now places.new) }
 {
+    // How many destinations in the one list are served, and how many nodes in the other are met.
+    let mut served = 0;
+    let mut known = 0;
     let mut i = 0;
     'queue: while i < queue.len() {
         let w = queue[i].node;
         let row = spaces.row(w);
-        serve_all(
-            net, spaces, row, cells, source, queue, i, w, wanted, unserved, places,
+        served = serve_all(
+            net, spaces, row, cells, source, queue, i, w, wanted, unserved, served, places,
         );
         if unserved.is_empty() {
             return Ok(());
         }
-        expand(net, spaces, row, cells, source, met, unmet, queue, i, w)?;
+        known = expand(
+            net, spaces, row, cells, source, met, unmet, known, queue, i, w,
+        )?;
         i += 1;
     }
     Ok(())

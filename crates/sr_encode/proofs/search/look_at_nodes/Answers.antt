@@ -27,7 +27,7 @@ loop-j-preserved-then-ahead-row c =
     let long : length c.args.met.now ≡ node_count c.args.net.now.graph = searching-long _ _ _ _ _ _ _ _ c.requires.search in
     let here : node_at c.loop-j.queue.items c.args.i ≡ c.args.w.0 = ap (λ (t : Waypoint). t.node.0) (c.loop-j.invariant.1.same c.args.i c.requires.i) ∙ c.requires.w in
     let inside : c.args.i < length c.loop-j.queue.items = omega (arith, c.loop-j.invariant.1.longer, c.requires.i) in
-    let below : listed_at c.args.unmet.now c.loop-j.j < length c.args.met.now = (c.requires.unmet.each c.loop-j.j c.loop-j-test.true).0 in
+    let below : listed_at c.args.unmet.now c.loop-j.j < length c.args.met.now = c.requires.unmet.inside c.loop-j.j c.loop-j-test.true in
     let at : IsSearching c.args.net.now c.args.spaces.now.failed c.args.source.0 c.args.cells.now c.loop-j.queue.items c.loop-j.met c.args.i (listed_at c.args.unmet.now c.loop-j.j) =
     subst (λ k. IsSearching c.args.net.now c.args.spaces.now.failed c.args.source.0 c.args.cells.now c.loop-j.queue.items c.loop-j.met c.args.i k)
     (next-listed c.args.unmet.now (node_count c.args.net.now.graph) c.loop-j.j c.loop-j-test.true) c.loop-j.invariant.0 in

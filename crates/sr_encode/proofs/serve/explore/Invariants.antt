@@ -1,7 +1,7 @@
 use Rattle.std.proofs.Common.{◌-◌, ◌≤◌, length}
 use Rattle.sr_model.specs.Graph.{node_count}
 use Rattle.sr_encode.specs.Search.{IsSearching}
-use Rattle.sr_encode.specs.Nodes.{AreUnmet}
+use Rattle.sr_encode.specs.Nodes.{HasUnmet}
 use Rattle.sr_encode.specs.Serve.{AreServed, HasUnserved}
 use Rattle.sr_encode.proofs.serve.explore.Given as goal
 
@@ -10,7 +10,7 @@ invariant-queue l =
     IsSearching l.net l.spaces.failed l.source.0 l.cells l.queue.items l.met l.i 0
     × AreServed l.net l.spaces.failed l.source.0 l.cells l.queue.items l.i l.wanted l.places
     × (l.i ≤ length l.queue.items)
-    × AreUnmet l.met l.unmet.items
+    × HasUnmet l.met l.unmet.items
     × HasUnserved l.cells l.wanted l.places l.unserved.items
 
 abbrev pub decreases-queue : goal.decreases-queue
