@@ -24,8 +24,9 @@ use Rattle.sr_encode.specs.declared.kept.KeptAnswer.TheVariants.{Least as KeptLe
 use Rattle.sr_encode.specs.declared.kept.Kept.{Kept}
 use Rattle.sr_encode.specs.Kept.{answer_from, entry_from, entries, IsWithin, AreWithin, IsKeptAnswer}
 use Rattle.sr_encode.specs.Serve.{AreNodes}
-use Rattle.sr_encode.specs.Nodes.{listed_at}
-use Rattle.sr_encode.specs.Answered.{entry_at, destination_at, answer_at, AscendByNode, AreAnswers, AreAffected, AreAnswered}
+use Rattle.sr_post.specs.Nodes.{listed_at}
+use Rattle.sr_post.specs.Nodes.{AreAffected}
+use Rattle.sr_encode.specs.Answered.{entry_at, destination_at, answer_at, AscendByNode, AreAnswers, AreAnswered}
 
 -- what stands for an entry past the end of a list
 abbrev pub no_entry : NodeAnswer
@@ -83,15 +84,6 @@ answers-over n case x wanted list long set r a = record {
   all = λ d is.
       let q = r.all d (affected-within n case d long is) is in
       (q.0, (let below : q.0 < length wanted = q.1 in omega (arith, a.long)), a.nodes q.0 q.1 ∙ q.2);
-}
-
--- a case that affects no destination has no answers
-pub answers-none : (n : Net) (case : Case) (wanted : List NodeNo) → length n.labels ≡ node_count n.graph → AreAffected n case (node_count n.graph) wanted → length wanted ≡ 0 → AreAnswers n case []
-answers-none n case wanted long r none = record {
-  ascending = λ i j up lt. absurd (omega arith);
-  affected = λ i lt. absurd (omega arith);
-  answers = λ i lt. absurd (omega arith);
-  all = λ d is. let q = r.all d (affected-within n case d long is) is in let lt : q.0 < length wanted = q.1 in absurd (omega arith);
 }
 
 -- what stands for an answer past the end of those that are kept

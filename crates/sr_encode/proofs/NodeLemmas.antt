@@ -1,66 +1,13 @@
--- What lists of nodes keep.
+-- What the list of the nodes that aren't met keeps.
 use Rattle.std.proofs.Common.{◌≡◌, ◌≢◌, ℕ, zero, suc, ◌+◌, ◌<◌, ◌≤◌, ⊎_elim, Bool, true, false, List, [], ◌∷◌, ◌++◌, length, refl, arith, ap, sym, ◌∙◌, subst}
 use Rattle.std.specs.Prelude.{not, filter, slice_index_or}
 use Rattle.std.proofs.lemmas.Bool.{cond_both, cases_eq, cases_lt, false_from_ne_true}
 use Rattle.std.proofs.lemmas.List.{length-append, get_or_push, get_or_append_left}
 use Rattle.sr_model.specs.declared.link.NodeNo.{NodeNo}
 use Rattle.sr_model.specs.Graph.{has}
-use Rattle.sr_encode.specs.Nodes.{listed_at, AreThose, HasUnmet, not_met}
-
--- what stands for a node past the end of a list
-abbrev pub no_node : NodeNo
-no_node = record { 0 = 0 }
-
--- there is none below 0
-pub those-none : (P : ℕ → Type 0) → AreThose P 0 []
-those-none P = record { ascending = λ i j up lt. absurd (omega arith); each = λ i lt. absurd (omega arith); all = λ d lt a. absurd (omega arith) }
-
--- one more, which has the property
-pub those-push : (P : ℕ → Type 0) (v : NodeNo) (nodes : List NodeNo) → AreThose P v.0 nodes → P v.0 → AreThose P (v.0 + 1) (nodes ++ v ∷ [])
-those-push P v nodes r is =
-    let long : length (nodes ++ v ∷ []) ≡ length nodes + 1 = length-append nodes (v ∷ []) in
-    let old : (i : ℕ) → i < length nodes → listed_at (nodes ++ v ∷ []) i ≡ listed_at nodes i = λ i lt. ap (λ (k : NodeNo). k.0) (get_or_append_left nodes (v ∷ []) no_node i lt) in
-    let last : listed_at (nodes ++ v ∷ []) (length nodes) ≡ v.0 = ap (λ (k : NodeNo). k.0) (get_or_push nodes v no_node (length nodes) refl) in
-    record {
-      ascending = λ i j up lt. ⊎_elim
-          (λ (early : j < length nodes). let low : listed_at nodes i < listed_at nodes j = r.ascending i j up early in omega (arith, old i (omega arith), old j early))
-          (λ (late : length nodes ≤ j).
-          let at : j ≡ length nodes = omega arith in
-          let low : listed_at nodes i < v.0 = (r.each i (omega arith)).0 in
-          let here : listed_at (nodes ++ v ∷ []) j ≡ v.0 = ap (λ k. listed_at (nodes ++ v ∷ []) k) at ∙ last in
-          omega (arith, old i (omega arith)))
-          (cases_lt j (length nodes));
-      each = λ i lt. ⊎_elim
-          (λ (early : i < length nodes). (
-            (let low : listed_at nodes i < v.0 = (r.each i early).0 in omega (arith, old i early)),
-            subst P (sym (old i early)) (r.each i early).1,
-          ))
-          (λ (late : length nodes ≤ i).
-          let at : i ≡ length nodes = omega arith in
-          let here : listed_at (nodes ++ v ∷ []) i ≡ v.0 = ap (λ k. listed_at (nodes ++ v ∷ []) k) at ∙ last in
-          (omega arith, subst P (sym here) is))
-          (cases_lt i (length nodes));
-      all = λ d lt a. ⊎_elim
-          (λ (here : d ≡ v.0). (length nodes, omega arith, last ∙ sym here))
-          (λ (ne : d ≢ v.0). let q = r.all d (omega arith) a in (q.0, (let below : q.0 < length nodes = q.1 in omega arith), old q.0 q.1 ∙ q.2))
-          (cases_eq d v.0);
-    }
-
--- each stands no lower than its place
-those-above : (P : ℕ → Type 0) (m : ℕ) (nodes : List NodeNo) → AreThose P m nodes → (j : ℕ) → j < length nodes → j ≤ listed_at nodes j
-those-above P m nodes r zero lt = omega arith
-those-above P m nodes r (suc j) lt =
-    let before : j ≤ listed_at nodes j = those-above P m nodes r j (omega arith) in
-    let up : listed_at nodes j < listed_at nodes (suc j) = r.ascending j (suc j) (omega arith) lt in
-    omega arith
-
--- so there are no more than m
-pub those-few : (P : ℕ → Type 0) (m : ℕ) (nodes : List NodeNo) → AreThose P m nodes → length nodes ≤ m
-those-few P m nodes r =
-    ⊎_elim
-    (λ (more : m < length nodes). let above : m ≤ listed_at nodes m = those-above P m nodes r m more in let below : listed_at nodes m < m = (r.each m more).0 in absurd (omega arith))
-    (λ (few : length nodes ≤ m). few)
-    (cases_lt m (length nodes))
+use Rattle.sr_post.specs.Nodes.{listed_at, AreThose}
+use Rattle.sr_post.proofs.NodeLemmas.{no_node}
+use Rattle.sr_encode.specs.Nodes.{HasUnmet, not_met}
 
 -- the node at place j of the kept ones is one of the nodes, and passes
 abbrev Passes : (NodeNo → Bool) → List NodeNo → List NodeNo → ℕ → Type 0

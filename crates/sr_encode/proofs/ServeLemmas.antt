@@ -14,7 +14,7 @@ use Rattle.sr_encode.specs.declared.waypoint.Waypoint.{Waypoint}
 use Rattle.sr_encode.specs.Waypoints.{AreParents, Extends, node_at}
 use Rattle.sr_encode.specs.Search.{IsSearching}
 use Rattle.sr_encode.specs.Serve.{EndsAt, place_at, AreNodes, IsServed, AreServed, HasUnserved, not_served, AreFound}
-use Rattle.sr_encode.specs.Nodes.{listed_at}
+use Rattle.sr_post.specs.Nodes.{listed_at}
 use Rattle.sr_encode.proofs.QueueLemmas.{path-kept}
 use Rattle.sr_encode.proofs.SearchLemmas.{row-distance}
 use Rattle.sr_encode.proofs.StopLemmas.{none-sound}

@@ -11,9 +11,11 @@ use Rattle.sr_model.specs.Walk.{IsDistance, IsRow}
 use Rattle.sr_walks.proofs.Distances.{distance-unique}
 use Rattle.sr_encode.specs.declared.waypoint.Waypoint.{Waypoint}
 use Rattle.sr_encode.specs.Waypoints.{node_at, Extends}
-use Rattle.sr_encode.specs.Nodes.{listed_at, HasUnmet}
+use Rattle.sr_post.specs.Nodes.{listed_at}
+use Rattle.sr_encode.specs.Nodes.{HasUnmet}
 use Rattle.sr_encode.specs.Search.{StepsTo, IsSearching}
-use Rattle.sr_encode.proofs.NodeLemmas.{no_node, unmet-later}
+use Rattle.sr_post.proofs.NodeLemmas.{no_node}
+use Rattle.sr_encode.proofs.NodeLemmas.{unmet-later}
 use Rattle.sr_encode.proofs.QueueLemmas.{list-from, step-node, segment-node, searching-known, searching-skip}
 use Rattle.sr_encode.proofs.SearchLemmas.{row-distance}
 

@@ -10,7 +10,7 @@ use Rattle.sr_model.specs.Label.{Net}
 use Rattle.sr_model.specs.Case.{IsAffected}
 use Rattle.sr_model.specs.Repair.{IsAnswer, IsCaseAnswer}
 use Rattle.sr_encode.specs.declared.answers.NodeAnswer.{NodeAnswer}
-use Rattle.sr_encode.specs.Nodes.{listed_at, AreThose}
+use Rattle.sr_post.specs.Nodes.{listed_at}
 
 -- the answer at place i, with its destination
 abbrev pub entry_at : List NodeAnswer → ℕ → NodeAnswer
@@ -51,10 +51,6 @@ pub record AreAnswers (n : Net) (case : Case) (list : List NodeAnswer) : Type 0 
   pub affected : (i : ℕ) → i < length list → IsAffected n case (destination_at list i)
   pub answers : (i : ℕ) → i < length list → IsCaseAnswer n case (destination_at list i) (answer_at list i)
   pub all : (d : ℕ) → IsAffected n case d → (i : ℕ) × (i < length list) × (destination_at list i ≡ d)
-
--- the nodes are the affected destinations below m, ascending
-abbrev pub AreAffected : Net → Case → ℕ → List NodeNo → Type 0
-AreAffected n case m wanted = AreThose (IsAffected n case) m wanted
 
 -- the list has the first m destinations, each with its answer
 pub record AreAnswered (n : Net) (x : List Bool) (s : ℕ) (wanted : List NodeNo) (m : ℕ) (list : List NodeAnswer) : Type 0 where

@@ -1,17 +1,8 @@
--- Lists of nodes.
-use Rattle.std.specs.Prelude.{◌≡◌, ℕ, ◌<◌, Bool, false, List, length, not, filter, slice_index_or}
+-- The list of the nodes that a search hasn't met.
+use Rattle.std.specs.Prelude.{◌≡◌, ℕ, ◌<◌, Bool, false, List, length, not, filter}
 use Rattle.sr_model.specs.declared.link.NodeNo.{NodeNo}
 use Rattle.sr_model.specs.Graph.{has}
-
--- the node at place j
-abbrev pub listed_at : List NodeNo → ℕ → ℕ
-listed_at nodes j = (slice_index_or nodes j (record { 0 = 0 })).0
-
--- the nodes are those below m that have the property, ascending
-pub record AreThose (P : ℕ → Type 0) (m : ℕ) (nodes : List NodeNo) : Type 0 where
-  pub ascending : (i j : ℕ) → i < j → j < length nodes → listed_at nodes i < listed_at nodes j
-  pub each : (j : ℕ) → j < length nodes → (listed_at nodes j < m) × P (listed_at nodes j)
-  pub all : (v : ℕ) → v < m → P v → (j : ℕ) × (j < length nodes) × (listed_at nodes j ≡ v)
+use Rattle.sr_post.specs.Nodes.{listed_at}
 
 -- the list ascends and has each node that isn't met, and it may have some that are
 pub record HasUnmet (met : List Bool) (unmet : List NodeNo) : Type 0 where

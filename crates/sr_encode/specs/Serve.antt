@@ -9,7 +9,7 @@ use Rattle.sr_model.specs.Walk.{IsDistance}
 use Rattle.sr_model.specs.Repair.{Path, IsSound, IsLeast}
 use Rattle.sr_encode.specs.declared.waypoint.Waypoint.{Waypoint}
 use Rattle.sr_encode.specs.Waypoints.{node_at, path_to, AreParents}
-use Rattle.sr_encode.specs.Nodes.{listed_at}
+use Rattle.sr_post.specs.Nodes.{listed_at}
 
 -- lists to w can end there towards d: w is d or isn't overloaded, has d in its P, and keeps to the distances in post as far as d
 pub record EndsAt (n : Net) (x : List Bool) (post : List ℕ) (w d : ℕ) : Type 0 where

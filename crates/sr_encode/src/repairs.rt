@@ -6,7 +6,8 @@ ghost use Rattle.sr_model.specs.Case.{IsCase, IsFailedSet, source_of};
 ghost use Rattle.sr_spf.specs.Trees.{AreTrees};
 ghost use Rattle.sr_post.specs.Post.{IsPost};
 ghost use Rattle.sr_encode.specs.Serve.{AreNodes, AreFound};
-ghost use Rattle.sr_encode.specs.Answered.{AreAffected, AreAnswered, AreAnswers};
+ghost use Rattle.sr_post.specs.Nodes.{AreAffected};
+ghost use Rattle.sr_encode.specs.Answered.{AreAnswered, AreAnswers};
 ghost use Rattle.sr_encode.specs.Kept.{AreWithin, entries};
 
 use crate::answer::keep_answer;
@@ -20,32 +21,10 @@ use crate::waypoint::Waypoint;
 use sr_graph::LinkSet;
 use sr_labels::Net;
 use sr_model::{Case, NodeNo, Segment};
-use sr_post::{Post, affected, spaces_of};
+use sr_post::{Post, spaces_of};
 use sr_spaces::Spaces;
 use sr_spf::Trees;
 use std::alloc::{AllocError, Global};
-
-/// The affected destinations, ascending.
-fn affected_nodes(
-    alloc: Global,
-    net: &Net,
-    trees: &Trees,
-    case: Case,
-) -> Result<Vec<NodeNo>, AllocError>
-    requires trees { AreTrees net.now.graph trees.now }
-    requires case { IsCase net.now.graph case }
-    ensures { IfOk result (λ nodes. AreAffected net.now case (node_count net.now.graph) nodes.items) }
-{
-    let count = net.graph().node_count();
-    let mut nodes = Vec::with_capacity(alloc, count as usize)?;
-    for v in 0..count as u16 {
-        if !affected(net, trees, case, NodeNo(v)) {
-            continue;
-        }
-        nodes.push(NodeNo(v))?;
-    }
-    Ok(nodes)
-}
 
 /// The queue of a search, and the place in it of the waypoint that serves each destination, if one
 /// does.
@@ -176,24 +155,21 @@ fn answers_for(
 }
 
 /// The answer of the case for each affected destination, ascending: the least sound list, or why
-/// there is none. `post` is what the case leaves.
+/// there is none. `post` is what the case leaves, and `wanted` has the affected destinations.
 pub fn lists(
     alloc: Global,
     net: &Net,
     trees: &Trees,
     post: &Post,
     case: Case,
+    wanted: &[NodeNo],
 ) -> Result<CaseAnswers, AllocError>
     requires trees { AreTrees net.now.graph trees.now }
     requires case { IsCase net.now.graph case }
     requires post { IsPost net.now case post.now }
+    requires wanted { AreAffected net.now case (node_count net.now.graph) wanted.now }
     ensures { IfOk result (AreAnswers net.now case) }
 {
-    let graph = net.graph();
-    let wanted = affected_nodes(alloc, net, trees, case)?;
-    if wanted.is_empty() {
-        return Ok(CaseAnswers::none(alloc));
-    }
-    let spaces = spaces_of(graph, trees, post.failed(), case);
-    answers_for(alloc, net, &spaces, post.cells(), case, &wanted)
+    let spaces = spaces_of(net.graph(), trees, post.failed(), case);
+    answers_for(alloc, net, &spaces, post.cells(), case, wanted)
 }

@@ -1,6 +1,6 @@
 //! The destinations that a search still has to serve, to which alone it offers its waypoints.
 ghost use Rattle.std.specs.Prelude.{◌≡◌, ◌<◌, ◌↔◌, ℕ, length, is_none, IsTrue, IfOk};
-ghost use Rattle.sr_encode.specs.Nodes.{listed_at};
+ghost use Rattle.sr_post.specs.Nodes.{listed_at};
 ghost use Rattle.sr_encode.specs.Serve.{place_at, IsUnserved, HasUnserved, not_served};
 
 use sr_model::{FAR, NodeNo};

@@ -1,3 +1,4 @@
+pub mod NodeLemmas
 pub mod HopLemmas
 pub mod WayLemmas
 pub mod OrderLemmas

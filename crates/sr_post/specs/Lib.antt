@@ -1,3 +1,4 @@
+pub mod Nodes
 pub mod Post
 pub mod Marks
 pub mod Order

@@ -11,7 +11,7 @@ mod on_walks;
 mod order;
 mod spaces;
 
-pub use destinations::affected;
+pub use destinations::{affected, affected_nodes};
 pub use failure::post;
 pub use left::Post;
 pub use marks::walks;

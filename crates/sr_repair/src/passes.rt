@@ -1,14 +1,16 @@
 //! The pass over a case: its searches, one for distances and one for lists; and the passes over all cases, in threads.
-ghost use Rattle.std.specs.Prelude.{◌≡◌, ◌*◌, ◌<◌, ◌↔◌, IsTrue, IfOk};
+ghost use Rattle.std.specs.Prelude.{◌≡◌, ◌*◌, ◌<◌, IfOk};
+ghost use Rattle.sr_model.specs.Graph.{node_count};
 ghost use Rattle.sr_model.specs.Case.{IsCase};
 ghost use Rattle.sr_spf.specs.Trees.{AreTrees};
-ghost use Rattle.sr_repair.specs.Answers.{case_count, AffectsSome, IsPassed, IsPassedIn, AreAllPassed};
+ghost use Rattle.sr_post.specs.Nodes.{AreAffected};
+ghost use Rattle.sr_repair.specs.Answers.{case_count, IsPassed, IsPassedIn, AreAllPassed};
 
 use crate::cases::{case_count, case_in};
 use sr_encode::{CaseAnswers, lists};
 use sr_labels::Net;
 use sr_model::{Case, NodeNo};
-use sr_post::{affected, post};
+use sr_post::{affected_nodes, post};
 use sr_spf::{Searched, Steps, Trees};
 use sr_threads::{Share, made_of_each};
 use std::alloc::{AllocError, Global};
@@ -33,47 +35,42 @@ pub(crate) enum Passed {
     Listed(CaseAnswers, Searched),
 }
 
-/// Whether the case affects some destination. In many domains half of the cases affect none.
-fn affects_some(net: &Net, trees: &Trees, case: Case) -> bool
-    requires trees { AreTrees net.now.graph trees.now }
-    requires case { IsCase net.now.graph case }
-    ensures { IsTrue result ↔ AffectsSome net.now case }
-{
-    for v in 0..net.graph().node_count() as u16 {
-        if affected(net, trees, case, NodeNo(v)) {
-            return true;
-        }
-    }
-    false
-}
-
-/// The answers of the case, counted from nothing: by one search for distances.
+/// The answers of the case, whose affected destinations these are, counted from nothing: by one search for distances.
 fn listed_from<L: Ledger>(
     alloc: Global,
     net: &Net,
     trees: &Trees,
     case: Case,
+    wanted: &[NodeNo],
     blank: Blank,
 ) -> Result<Passed, AllocError>
     requires name { blank.name ≡ L.name }
     requires parts { (blank.parts ≡ L.parts) × (0 < L.parts) }
     requires trees { AreTrees net.now.graph trees.now }
     requires case { IsCase net.now.graph case }
+    requires wanted { AreAffected net.now case (node_count net.now.graph) wanted.now }
     ensures { IfOk result (IsPassed net.now case) }
 {
     let mut steps = Steps::<L>::new(blank);
     let post = post(alloc, net, trees, case, &mut steps)?;
-    let answers = lists(alloc, net, trees, &post, case)?;
+    let answers = lists(alloc, net, trees, &post, case, wanted)?;
     Ok(Passed::Listed(answers, steps.give_up()))
 }
 
-/// The answers of the case, by searches.
-fn listed(alloc: Global, net: &Net, trees: &Trees, case: Case) -> Result<Passed, AllocError>
+/// The answers of the case, whose affected destinations these are, by searches.
+fn listed(
+    alloc: Global,
+    net: &Net,
+    trees: &Trees,
+    case: Case,
+    wanted: &[NodeNo],
+) -> Result<Passed, AllocError>
     requires trees { AreTrees net.now.graph trees.now }
     requires case { IsCase net.now.graph case }
+    requires wanted { AreAffected net.now case (node_count net.now.graph) wanted.now }
     ensures { IfOk result (IsPassed net.now case) }
 {
-    listed_from::<Brand>(alloc, net, trees, case, Blank::new(1))
+    listed_from::<Brand>(alloc, net, trees, case, wanted, Blank::new(1))
 }
 
 /// What the pass over the case gives.
@@ -86,10 +83,12 @@ fn pass(alloc: Global, net: &Net, trees: &Trees, case: Case) -> Result<Passed, A
     if net.graph().fails_as_link(case) {
         return Ok(Passed::AsLink);
     }
-    if !affects_some(net, trees, case) {
+    let wanted = affected_nodes(alloc, net, trees, case)?;
+    // In many domains half of the cases affect no destination.
+    if wanted.is_empty() {
         return Ok(Passed::Nothing);
     }
-    listed(alloc, net, trees, case)
+    listed(alloc, net, trees, case, &wanted)
 }
 
 /// What the pass over the case in this slot gives.

@@ -5,7 +5,7 @@ use Rattle.sr_model.specs.Graph.{tail, node_count, IsGraph}
 use Rattle.sr_model.specs.Case.{source_of, IsAffected}
 use Rattle.sr_encode.specs.Answered.{AreAnswered, AreAnswers}
 use Rattle.sr_encode.specs.Kept.{entries, entry_from}
-use Rattle.sr_encode.proofs.NodeLemmas.{those-few}
+use Rattle.sr_post.proofs.NodeLemmas.{those-few}
 use Rattle.sr_encode.proofs.AnswerLemmas.{answers-over}
 use Rattle.sr_encode.proofs.repairs.answers_for.Goals as goal
 

@@ -4,7 +4,7 @@ use Rattle.sr_model.specs.Graph.{node_count}
 use Rattle.sr_model.specs.Walk.{IsRow}
 use Rattle.sr_encode.specs.declared.waypoint.Waypoint.{Waypoint}
 use Rattle.sr_encode.specs.Waypoints.{node_at, Extends}
-use Rattle.sr_encode.specs.Nodes.{listed_at}
+use Rattle.sr_post.specs.Nodes.{listed_at}
 use Rattle.sr_encode.specs.Search.{IsSearching}
 use Rattle.sr_encode.proofs.QueueLemmas.{extends-same, extends-trans}
 use Rattle.sr_encode.proofs.UnmetLemmas.{next_at, next-listed, next-past, next-above, pass-gap, pass-elsewhere, searching-long, met-kept}

@@ -1,6 +1,6 @@
 use Rattle.std.proofs.Common.{◌≡◌, ◌<◌, ◌≤◌, true, false, length, arith, ap, sym, ◌∙◌, subst}
 use Rattle.std.specs.Prelude.{is_some, slice_index}
-use Rattle.sr_encode.specs.Nodes.{listed_at}
+use Rattle.sr_post.specs.Nodes.{listed_at}
 use Rattle.sr_encode.specs.Serve.{EndsAt}
 use Rattle.sr_encode.proofs.ServeLemmas.{offered-start, offered-set, offered-skip, all-offered, ends-sum}
 use Rattle.sr_encode.proofs.serve.offer_all.Goals as goal

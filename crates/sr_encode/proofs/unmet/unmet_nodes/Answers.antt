@@ -1,7 +1,8 @@
 use Rattle.std.proofs.Common.{◌≡◌, false, length, sym, ◌∙◌, rules}
 use Rattle.sr_model.specs.Graph.{has}
-use Rattle.sr_encode.specs.Nodes.{AreThose}
-use Rattle.sr_encode.proofs.NodeLemmas.{those-none, those-push, unmet-those}
+use Rattle.sr_post.specs.Nodes.{AreThose}
+use Rattle.sr_post.proofs.NodeLemmas.{those-none, those-push}
+use Rattle.sr_encode.proofs.NodeLemmas.{unmet-those}
 use Rattle.sr_encode.proofs.unmet.unmet_nodes.Goals as goal
 
 pub loop-v-init : goal.loop-v-init
