@@ -24,8 +24,7 @@ use Rattle.sr_encode.specs.declared.kept.KeptAnswer.TheVariants.{Least as KeptLe
 use Rattle.sr_encode.specs.declared.kept.Kept.{Kept}
 use Rattle.sr_encode.specs.Kept.{answer_from, entry_from, entries, IsWithin, AreWithin, IsKeptAnswer}
 use Rattle.sr_encode.specs.Serve.{AreNodes}
-use Rattle.sr_post.specs.Nodes.{listed_at}
-use Rattle.sr_post.specs.Nodes.{AreAffected}
+use Rattle.sr_post.specs.Nodes.{listed_at, AreAffected}
 use Rattle.sr_encode.specs.Answered.{entry_at, destination_at, answer_at, AscendByNode, AreAnswers, AreAnswered}
 
 -- what stands for an entry past the end of a list
