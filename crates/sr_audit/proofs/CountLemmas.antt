@@ -13,8 +13,8 @@ use Rattle.sr_encode.specs.Answered.{counts_in}
 use Rattle.sr_repair.specs.Answers.{case_count}
 use Rattle.sr_repair.specs.Items.{IsItemFor}
 use Rattle.sr_audit.specs.Counted.{counts_sum, AreCountsAt, AreAuditCounts}
-use Rattle.sr_audit.specs.Cases.{AreFirst}
-use Rattle.sr_audit.proofs.JoinLemmas.{first-more, first-audit}
+use Rattle.sr_audit.specs.Cases.{AreBetween}
+use Rattle.sr_audit.proofs.JoinLemmas.{between-more, between-audit}
 
 -- 1 where the answer passes the test
 abbrev pass : (Answer → Bool) → Answer → ℕ
@@ -57,7 +57,7 @@ counts-append xs ys = counts-one (counts_of (xs ++ ys)) (counts_sum (counts_of x
 -- these are the counts of the audit of the cases at the first m places
 pub record AreFirstCounts (n : Net) (m : ℕ) (counts : Counts) : Type 0 where
   pub items : List Item
-  pub first : AreFirst n m items
+  pub between : AreBetween n 0 m items
   pub few : length items ≤ m * 256
   pub counted : counts ≡ counts_of items
 
@@ -65,11 +65,11 @@ pub record AreFirstCounts (n : Net) (m : ℕ) (counts : Counts) : Type 0 where
 pub counts-more : (n : Net) (m : ℕ) (so_far more : Counts) → AreFirstCounts n m so_far → AreCountsAt n m more → AreFirstCounts n (m + 1) (counts_sum so_far more)
 counts-more n m so_far more r at = record {
   items = r.items ++ at.items;
-  first = first-more n m r.items at.items r.first at.audit;
+  between = between-more n 0 m r.items at.items (omega arith) r.between at.audit;
   few = omega (arith, length-append r.items at.items, r.few, at.audit.few);
   counted = rw (r.counted, at.counted) (sym (counts-append r.items at.items));
 }
 
 -- the counts of all cases are those of an audit
 pub counts-all : (n : Net) (counts : Counts) → AreFirstCounts n (case_count n.graph) counts → AreAuditCounts n counts
-counts-all n counts r = record { items = r.items; audit = first-audit n r.items r.first; counted = r.counted }
+counts-all n counts r = record { items = r.items; audit = between-audit n r.items r.between; counted = r.counted }

@@ -1,5 +1,5 @@
 -- The audits of the cases, joined in order.
-use Rattle.std.proofs.Common.{◌≡◌, ℕ, zero, suc, ◌+◌, ◌*◌, ◌<◌, ◌≤◌, ◌⊎◌, inl, inr, ⊎_elim, List, [], ◌∷◌, ◌++◌, length, Some, slice_get, refl, sym, ◌∙◌, subst, arith, append_assoc, append-nil, length-append, flat_map, vec_items}
+use Rattle.std.proofs.Common.{◌≡◌, ℕ, zero, suc, ◌+◌, ◌*◌, ◌<◌, ◌≤◌, ◌⊎◌, inl, inr, ⊎_elim, List, [], ◌∷◌, ◌++◌, length, Some, slice_get, refl, sym, ◌∙◌, subst, arith, length-append, flat_map, vec_items}
 use Rattle.std.specs.Global.{Vec}
 use Rattle.std.proofs.lemmas.Bool.{cases_lt}
 use Rattle.sr_model.specs.declared.case.Case.{Case}
@@ -12,7 +12,7 @@ use Rattle.sr_model.specs.Case.{IsCase, IsAffected}
 use Rattle.sr_model.specs.Audit.{rank_of, CaseLt, ItemLt, IsItem, IsAudit}
 use Rattle.sr_repair.specs.Answers.{place_of, case_count}
 use Rattle.sr_repair.proofs.PlaceLemmas.{place-one}
-use Rattle.sr_audit.specs.Cases.{HasItem, AreFirst, AreNext, IsAuditAt, AreAuditsAt}
+use Rattle.sr_audit.specs.Cases.{HasItem, AreBetween, IsAuditAt, AreAuditsAt}
 use Rattle.sr_audit.proofs.AppendLemmas.{IsIn, get-append, get-left, get-right}
 
 -- of two ranks and numbers below k, what stands at the lower place has the lower rank, or the same and the lower number
@@ -41,79 +41,92 @@ place-lt g a b p q lt = rank-lt (link_count g) a.kind b.kind a.link.0 b.link.0 p
 place-is : (n : Net) (m : ℕ) (list : List Item) (at : IsAuditAt n m list) (k : ℕ) (item : Item) → slice_get list k ≡ Some item → place_of n.graph item.case ≡ m
 place-is n m list at k item e = subst (λ c. place_of n.graph c ≡ m) (sym (at.audit.each k item e).1) at.place_is
 
--- each item of either list is one of the first m + 1 cases
-each-more : (n : Net) (m : ℕ) (items list : List Item) → AreFirst n m items → IsAuditAt n m list → (k : ℕ) (item : Item) → IsIn items list k item → IsItem n item × (place_of n.graph item.case < m + 1)
-each-more n m items list r at k item (inl h) = let old = r.each k item h.1 in (old.0, omega (arith, old.1))
-each-more n m items list r at k item (inr h) = ((at.audit.each h.0 item h.2).0, omega (arith, place-is n m list at h.0 item h.2))
+-- no items are the audit of no cases
+pub between-none : (n : Net) (m : ℕ) → AreBetween n m m []
+between-none n m = record {
+  each = λ i item e. absurd (cc);
+  ascending = λ i j a b lt ea eb. absurd (cc);
+  all = λ case d within above below affected. absurd (omega arith);
+}
 
--- the items of the next case come after those so far
-later : (n : Net) (m : ℕ) (items list : List Item) → AreFirst n m items → IsAuditAt n m list → (j k : ℕ) (a b : Item) → slice_get items j ≡ Some a → slice_get list k ≡ Some b → ItemLt a b
-later n m items list r at j k a b ea eb =
-    let first = r.each j a ea in
-    let place = place-is n m list at k b eb in
-    inl (place-lt n.graph a.case b.case first.0.within (at.audit.each k b eb).0.within (omega (arith, first.1, place)))
-
--- the items of both lists ascend
-ascending-more : (n : Net) (m : ℕ) (items list : List Item) → AreFirst n m items → IsAuditAt n m list → (j k : ℕ) (a b : Item) → j < k → IsIn items list j a → IsIn items list k b → ItemLt a b
-ascending-more n m items list r at j k a b lt (inl h) (inl i) = r.ascending j k a b lt h.1 i.1
-ascending-more n m items list r at j k a b lt (inl h) (inr i) = later n m items list r at j i.0 a b h.1 i.2
-ascending-more n m items list r at j k a b lt (inr h) (inl i) = absurd (omega (arith, h.1, i.0))
-ascending-more n m items list r at j k a b lt (inr h) (inr i) =
-    let same = (at.audit.each h.0 a h.2).1 ∙ sym (at.audit.each i.0 b i.2).1 in
-    inr (same, at.audit.ascending h.0 i.0 a b (omega (arith, h.1, i.1)) h.2 i.2)
-
--- what the items so far have
-has-left : (items list : List Item) (case : Case) (d : ℕ) → HasItem items case d → HasItem (items ++ list) case d
-has-left items list case d h = (h.0, h.1, get-left items list h.0 h.1 h.2, h.3, h.4)
-
--- what the next case affects is there
-has-right : (n : Net) (m : ℕ) (items list : List Item) → IsAuditAt n m list → (case : Case) (d : ℕ) → IsCase n.graph case → place_of n.graph case ≡ m → IsAffected n case d → HasItem (items ++ list) case d
-has-right n m items list at case d within place affected =
+-- what the case at place m affects is there
+has-own : (n : Net) (m : ℕ) (list : List Item) → IsAuditAt n m list → (case : Case) (d : ℕ) → IsCase n.graph case → place_of n.graph case ≡ m → IsAffected n case d → HasItem list case d
+has-own n m list at case d within place affected =
     let same : case ≡ at.case = place-one n.graph case at.case within at.within (place ∙ sym at.place_is) in
     let h = at.audit.all d (subst (λ c. IsAffected n c d) same affected) in
-    (length items + h.0, h.1, get-right items list h.0 (length items + h.0) h.1 refl h.2, (at.audit.each h.0 h.1 h.2).1 ∙ sym same, h.3)
+    (h.0, h.1, h.2, (at.audit.each h.0 h.1 h.2).1 ∙ sym same, h.3)
 
--- no items are the audit of no cases
-pub first-none : (n : Net) → AreFirst n 0 []
-first-none n = record {
-  each = λ k item e. absurd (cc);
-  ascending = λ j k a b lt ea eb. absurd (cc);
-  all = λ case d within lt affected. absurd (omega arith);
+-- the audit of the case at place m is that of the cases from m on, before m + 1
+pub between-case : (n : Net) (m : ℕ) (list : List Item) → IsAuditAt n m list → AreBetween n m (m + 1) list
+between-case n m list at = record {
+  each = λ i item e. let place = place-is n m list at i item e in ((at.audit.each i item e).0, omega (arith, place), omega (arith, place));
+  ascending = λ i j a b lt ea eb. inr ((at.audit.each i a ea).1 ∙ sym (at.audit.each j b eb).1, at.audit.ascending i j a b lt ea eb);
+  all = λ case d within above below affected. has-own n m list at case d within (omega (arith, above, below)) affected;
 }
 
--- the items of the next case
-pub first-more : (n : Net) (m : ℕ) (items list : List Item) → AreFirst n m items → IsAuditAt n m list → AreFirst n (m + 1) (items ++ list)
-first-more n m items list r at = record {
-  each = λ k item e. each-more n m items list r at k item (get-append items list k item e);
-  ascending = λ j k a b lt ea eb. ascending-more n m items list r at j k a b lt (get-append items list j a ea) (get-append items list k b eb);
-  all = λ case d within lt affected. ⊎_elim
-      (λ (early : place_of n.graph case < m). has-left items list case d (r.all case d within early affected))
-      (λ (late : m ≤ place_of n.graph case). has-right n m items list at case d within (omega (arith, late, lt)) affected)
-      (cases_lt (place_of n.graph case) m);
-}
+module _ (n : Net) (m k l : ℕ) (items more : List Item) (up : m ≤ k) (on : k ≤ l) (r : AreBetween n m k items) (next : AreBetween n k l more) where
+  -- each item of either list is of one of the cases
+  each-both : (i : ℕ) (item : Item) → IsIn items more i item → IsItem n item × (m ≤ place_of n.graph item.case) × (place_of n.graph item.case < l)
+  each-both i item (inl h) = let one = r.each i item h.1 in (one.0, one.1, omega (arith, one.2))
+  each-both i item (inr h) = let one = next.each h.0 item h.2 in (one.0, omega (arith, one.1), one.2)
 
--- the items of k more cases
-first-lists : (n : Net) (m k p : ℕ) (items : List Item) (lists : List (Vec Item)) → m + k ≡ p → AreFirst n m items → AreAuditsAt n m k lists → AreFirst n p (items ++ flat_map vec_items lists)
-first-lists n m zero p items [] e r zip =
-    let here : m ≡ p = omega (arith, e) in
-    subst (λ q. AreFirst n q (items ++ [])) here (subst (AreFirst n m) (sym (append-nil items)) r)
-first-lists n m zero p items (list ∷ lists) e r zip = absurd zip
-first-lists n m (suc k) p items [] e r zip = absurd zip
-first-lists n m (suc k) p items (list ∷ lists) e r zip =
-    let more = first-lists n (m + 1) k p (items ++ list.items) lists (omega (arith, e)) (first-more n m items list.items r zip.0) zip.1 in
-    subst (AreFirst n p) (append_assoc items list.items (flat_map vec_items lists)) more
+  -- an item of the first list comes before one of the second
+  before-next : (i j : ℕ) (a b : Item) → slice_get items i ≡ Some a → slice_get more j ≡ Some b → ItemLt a b
+  before-next i j a b ea eb =
+      let one = r.each i a ea in
+      let two = next.each j b eb in
+      inl (place-lt n.graph a.case b.case one.0.within two.0.within (omega (arith, one.2, two.1)))
+
+  -- the items of both lists ascend
+  ascending-both : (i j : ℕ) (a b : Item) → i < j → IsIn items more i a → IsIn items more j b → ItemLt a b
+  ascending-both i j a b lt (inl h) (inl h') = r.ascending i j a b lt h.1 h'.1
+  ascending-both i j a b lt (inl h) (inr h') = before-next i h'.0 a b h.1 h'.2
+  ascending-both i j a b lt (inr h) (inl h') = absurd (omega (arith, h.1, h'.0))
+  ascending-both i j a b lt (inr h) (inr h') = next.ascending h.0 h'.0 a b (omega (arith, h.1, h'.1)) h.2 h'.2
+
+  -- what the first list has
+  has-left : (case : Case) (d : ℕ) → HasItem items case d → HasItem (items ++ more) case d
+  has-left case d h = (h.0, h.1, get-left items more h.0 h.1 h.2, h.3, h.4)
+
+  -- what the second list has
+  has-right : (case : Case) (d : ℕ) → HasItem more case d → HasItem (items ++ more) case d
+  has-right case d h = (length items + h.0, h.1, get-right items more h.0 (length items + h.0) h.1 refl h.2, h.3, h.4)
+
+  -- the cases up to a place, and those from there on
+  pub between-append : AreBetween n m l (items ++ more)
+  between-append = record {
+    each = λ i item e. each-both i item (get-append items more i item e);
+    ascending = λ i j a b lt ea eb. ascending-both i j a b lt (get-append items more i a ea) (get-append items more j b eb);
+    all = λ case d within above below affected. ⊎_elim
+        (λ (early : place_of n.graph case < k). has-left case d (r.all case d within above early affected))
+        (λ (late : k ≤ place_of n.graph case). has-right case d (next.all case d within late below affected))
+        (cases_lt (place_of n.graph case) k);
+  }
+
+-- the items of one case more
+pub between-more : (n : Net) (m k : ℕ) (items list : List Item) → m ≤ k → AreBetween n m k items → IsAuditAt n k list → AreBetween n m (k + 1) (items ++ list)
+between-more n m k items list up r at = between-append n m k (k + 1) items list up (omega arith) r (between-case n k list at)
+
+-- the items of k cases
+between-lists : (n : Net) (m k p : ℕ) (lists : List (Vec Item)) → m + k ≡ p → AreAuditsAt n m k lists → AreBetween n m p (flat_map vec_items lists)
+between-lists n m zero p [] e zip = let here : m ≡ p = omega (arith, e) in subst (λ q. AreBetween n m q []) here (between-none n m)
+between-lists n m zero p (list ∷ lists) e zip = absurd zip
+between-lists n m (suc k) p [] e zip = absurd zip
+between-lists n m (suc k) p (list ∷ lists) e zip =
+    let more = between-lists n (m + 1) k p lists (omega (arith, e)) zip.1 in
+    between-append n m (m + 1) p list.items (flat_map vec_items lists) (omega arith) (omega (arith, e)) (between-case n m list.items zip.0) more
 
 -- the audit of the cases at all places is the audit
-pub first-audit : (n : Net) (items : List Item) → AreFirst n (case_count n.graph) items → IsAudit n items
-first-audit n items r = record {
-  each = λ k item e. (r.each k item e).0;
+pub between-audit : (n : Net) (items : List Item) → AreBetween n 0 (case_count n.graph) items → IsAudit n items
+between-audit n items r = record {
+  each = λ i item e. (r.each i item e).0;
   ascending = r.ascending;
-  all = λ case d within affected. r.all case d within (rank-within (link_count n.graph) case.kind case.link.0 within) affected;
+  all = λ case d within affected. r.all case d within (omega arith) (rank-within (link_count n.graph) case.kind case.link.0 within) affected;
 }
 
 -- the joined lists of all cases are the audit
 pub audit-joined : (n : Net) (lists : List (Vec Item)) → AreAuditsAt n 0 (case_count n.graph) lists → IsAudit n (flat_map vec_items lists)
-audit-joined n lists zip = first-audit n (flat_map vec_items lists) (first-lists n 0 (case_count n.graph) (case_count n.graph) [] lists (omega arith) (first-none n) zip)
+audit-joined n lists zip = between-audit n (flat_map vec_items lists) (between-lists n 0 (case_count n.graph) (case_count n.graph) lists (omega arith) zip)
 
 -- the lists of k cases have few items
 pub few-joined : (n : Net) (m k : ℕ) (lists : List (Vec Item)) → AreAuditsAt n m k lists → length (flat_map vec_items lists) ≤ k * 256
@@ -121,19 +134,3 @@ few-joined n m zero [] zip = omega arith
 few-joined n m zero (list ∷ lists) zip = absurd zip
 few-joined n m (suc k) [] zip = absurd zip
 few-joined n m (suc k) (list ∷ lists) zip = omega (arith, length-append list.items (flat_map vec_items lists), zip.0.few, few-joined n (m + 1) k lists zip.1)
-
--- the items of one case more come next
-pub next-more : (n : Net) (m k : ℕ) (items list : List Item) → AreNext n m k items → IsAuditAt n k list → AreNext n m (k + 1) (items ++ list)
-next-more n m k items list r at first before = subst (AreFirst n (k + 1)) (append_assoc first items list) (first-more n k (first ++ items) list (r first before) at)
-
--- the items of no cases are none
-pub next-none : (n : Net) (m : ℕ) → AreNext n m m []
-next-none n m first before = subst (AreFirst n m) (sym (append-nil first)) before
-
--- what comes next, and what comes next to that
-pub next-joined : (n : Net) (m k p : ℕ) (items more : List Item) → AreNext n m k items → AreNext n k p more → AreNext n m p (items ++ more)
-next-joined n m k p items more r next first before = subst (AreFirst n p) (append_assoc first items more) (next (first ++ items) (r first before))
-
--- what comes next to nothing are the first items
-pub next-first : (n : Net) (m : ℕ) (items : List Item) → AreNext n 0 m items → AreFirst n m items
-next-first n m items r = r [] (first-none n)

@@ -11,10 +11,10 @@ use Rattle.sr_model.specs.Graph.{Graph, link_count}
 use Rattle.sr_model.specs.Label.{Net}
 use Rattle.sr_model.specs.Rule.{IsNet}
 use Rattle.sr_repair.specs.Answers.{place_of, case_count, IsAnswered}
-use Rattle.sr_audit.specs.Cases.{AreNext, IsAuditAt}
+use Rattle.sr_audit.specs.Cases.{AreBetween, IsAuditAt}
 use Rattle.sr_audit.specs.Counted.{AreAuditCounts}
 use Rattle.sr_audit.proofs.CaseLemmas.{items-audit, items-few, items-there}
-use Rattle.sr_audit.proofs.JoinLemmas.{next-more, next-none, next-first, first-audit}
+use Rattle.sr_audit.proofs.JoinLemmas.{between-more, between-none, between-audit}
 
 -- the case at a place
 case-at : (g : Graph) (place : ℕ) → place < case_count g → (case : Case) × IsCase g case × (place_of g case ≡ place)
@@ -45,20 +45,20 @@ audit-there n net answered place lt =
     )
 
 -- and so have the k cases from a place on
-next-there : (n : Net) → IsNet n → IsAnswered n → (m k p : ℕ) → m + k ≡ p → p ≤ case_count n.graph → (items : List Item) × AreNext n m p items
-next-there n net answered m zero p e within = let here : m ≡ p = omega (arith, e) in ([], subst (λ q. AreNext n m q []) here (next-none n m))
-next-there n net answered m (suc k) p e within =
-    let r = next-there n net answered m k (m + k) refl (omega (arith, e, within)) in
+between-there : (n : Net) → IsNet n → IsAnswered n → (m k p : ℕ) → m + k ≡ p → p ≤ case_count n.graph → (items : List Item) × AreBetween n m p items
+between-there n net answered m zero p e within = let here : m ≡ p = omega (arith, e) in ([], subst (λ q. AreBetween n m q []) here (between-none n m))
+between-there n net answered m (suc k) p e within =
+    let r = between-there n net answered m k (m + k) refl (omega (arith, e, within)) in
     let at = audit-there n net answered (m + k) (omega (arith, e, within)) in
     let here : m + k + 1 ≡ p = omega (arith, e) in
-    (r.0 ++ at.0, subst (λ q. AreNext n m q (r.0 ++ at.0)) here (next-more n m (m + k) r.0 at.0 r.1 at.1))
+    (r.0 ++ at.0, subst (λ q. AreBetween n m q (r.0 ++ at.0)) here (between-more n m (m + k) r.0 at.0 (omega arith) r.1 at.1))
 
--- what comes next to the cases before a place
-pub rest-there : (n : Net) → IsNet n → IsAnswered n → (m : ℕ) → m ≤ case_count n.graph → (items : List Item) × AreNext n m (case_count n.graph) items
-rest-there n net answered m within = next-there n net answered m (case_count n.graph - m) (case_count n.graph) (omega (arith, within)) (omega arith)
+-- the items of the cases from a place on
+pub rest-there : (n : Net) → IsNet n → IsAnswered n → (m : ℕ) → m ≤ case_count n.graph → (items : List Item) × AreBetween n m (case_count n.graph) items
+rest-there n net answered m within = between-there n net answered m (case_count n.graph - m) (case_count n.graph) (omega (arith, within)) (omega arith)
 
 -- and the counts of all
 pub counts-there : (n : Net) → IsNet n → IsAnswered n → (counts : Counts) × AreAuditCounts n counts
 counts-there n net answered =
     let all = rest-there n net answered 0 (omega arith) in
-    (counts_of all.0, record { items = all.0; audit = first-audit n all.0 (next-first n (case_count n.graph) all.0 all.1); counted = refl })
+    (counts_of all.0, record { items = all.0; audit = between-audit n all.0 all.1; counted = refl })

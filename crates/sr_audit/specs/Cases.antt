@@ -1,5 +1,5 @@
 -- The items of one case.
-use Rattle.std.specs.Prelude.{◌≡◌, ℕ, ◌<◌, ◌≤◌, List, ◌++◌, length, Some, slice_get}
+use Rattle.std.specs.Prelude.{◌≡◌, ℕ, ◌<◌, ◌≤◌, List, length, Some, slice_get}
 use Rattle.std.specs.List.{AllZip, range_with_len}
 use Rattle.std.specs.Global.{Vec}
 use Rattle.sr_model.specs.declared.case.Case.{Case}
@@ -31,15 +31,11 @@ pub record IsAuditAt (n : Net) (place : ℕ) (items : List Item) : Type 0 where
 abbrev pub HasItem : List Item → Case → ℕ → Type 0
 HasItem items case d = (k : ℕ) × (item : Item) × (slice_get items k ≡ Some item) × (item.case ≡ case) × (item.dest.0 ≡ d)
 
--- the audit of the cases at the first m places
-pub record AreFirst (n : Net) (m : ℕ) (items : List Item) : Type 0 where
-  pub each : (k : ℕ) (item : Item) → slice_get items k ≡ Some item → IsItem n item × (place_of n.graph item.case < m)
-  pub ascending : (j k : ℕ) (a b : Item) → j < k → slice_get items j ≡ Some a → slice_get items k ≡ Some b → ItemLt a b
-  pub all : (case : Case) (d : ℕ) → IsCase n.graph case → place_of n.graph case < m → IsAffected n case d → HasItem items case d
-
--- behind the items of the cases before place m these make those of the cases before place k
-abbrev pub AreNext : Net → ℕ → ℕ → List Item → Type 0
-AreNext n m k items = (first : List Item) → AreFirst n m first → AreFirst n k (first ++ items)
+-- the audit of the cases from place m on, before place k
+pub record AreBetween (n : Net) (m k : ℕ) (items : List Item) : Type 0 where
+  pub each : (i : ℕ) (item : Item) → slice_get items i ≡ Some item → IsItem n item × (m ≤ place_of n.graph item.case) × (place_of n.graph item.case < k)
+  pub ascending : (i j : ℕ) (a b : Item) → i < j → slice_get items i ≡ Some a → slice_get items j ≡ Some b → ItemLt a b
+  pub all : (case : Case) (d : ℕ) → IsCase n.graph case → m ≤ place_of n.graph case → place_of n.graph case < k → IsAffected n case d → HasItem items case d
 
 -- the lists are the audits of the cases at k places from m on
 abbrev pub AreAuditsAt : Net → ℕ → ℕ → List (Vec Item) → Type 0

@@ -1,4 +1,5 @@
-//! Where bytes come from and where they go: sources and sinks that count their faults.
+//! What the program stands on: where bytes come from and where they go, as sources and sinks that count their faults,
+//! and the runtime.
 //!
 //! A source may tell what it has left, and a sink what it holds. Those in memory do. Those over a reader or a writer of
 //! std tell what it tells, which of standard input and standard output is nothing.
@@ -16,10 +17,12 @@ use std::alloc::AllocError;
 mod adapters;
 mod give;
 mod memory;
+mod runtime;
 mod steady;
 
 pub use adapters::{StdSink, StdSource};
 pub use memory::{MemorySink, MemorySource};
+pub use runtime::Runtime;
 pub use steady::{SteadySink, SteadySource};
 
 /// A read failed.

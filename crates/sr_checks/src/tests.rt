@@ -21,10 +21,9 @@ use edits::EDITS;
 use field::FIELD;
 use pairs::PAIRS;
 use rings::RINGS;
-use sr_base::{SteadySink, SteadySource};
+use sr_base::{Runtime, SteadySink, SteadySource};
 use sr_run::tilfa;
 use std::alloc::{AllocError, AllocGlobal, Global};
-use std::thread::Threads;
 
 /// The command words that are these, split at spaces.
 fn words(alloc: Global, text: &str) -> Result<Vec<String>, AllocError> {
@@ -36,7 +35,7 @@ fn words(alloc: Global, text: &str) -> Result<Vec<String>, AllocError> {
 }
 
 /// Whether the script is answered as the case says, with its status.
-fn agrees<R: AllocGlobal + Threads + Sync>(rt: &R, case: &Case) -> Result<bool, AllocError> {
+fn agrees<R: AllocGlobal + Runtime>(rt: &R, case: &Case) -> Result<bool, AllocError> {
     let alloc = rt.alloc();
     let run = words(alloc, "run")?;
     let mut source = SteadySource::new(Vec::from_slice(alloc, case.script.as_bytes())?);

@@ -4,11 +4,11 @@ use Rattle.std.specs.Prelude.{slice_get}
 use Rattle.sr_model.specs.declared.label.AdjLabel.{AdjLabel}
 use Rattle.sr_model.specs.declared.label.LabelRule.{LabelRule}
 use Rattle.sr_model.specs.declared.label.LabelRule.TheVariants.{DuplicateIndex, IndexOutside, AdjLabelClash}
+use Rattle.sr_model.specs.declared.rule.DomainRule.{DomainRule}
 use Rattle.sr_model.specs.Label.{Labels}
 use Rattle.sr_model.specs.Rule.{IsFirstBroken as IsFirstClash}
 use Rattle.sr_labels.specs.Rules.{AreOfNodes}
 use Rattle.sr_lsdb.specs.declared.facts.Facts.{Facts}
-use Rattle.sr_domain.specs.declared.fault.DomainRule.{DomainRule}
 use Rattle.sr_domain.specs.Nodes.{nodes_of, all_labels}
 use Rattle.sr_domain.specs.Links.{found_adj_labels}
 use Rattle.sr_domain.specs.Rules.{AreKept, IsFirstBroken}

@@ -5,12 +5,12 @@ use Rattle.std.specs.Option.{unwrap_or}
 use Rattle.std.specs.List.Sorted.{IsStrictlyIncreasing}
 use Rattle.std.proofs.lemmas.List.{take_more, length-append, take_all, map-append}
 use Rattle.sr_model.specs.declared.label.Range.{Range}
+use Rattle.sr_model.specs.declared.rule.DomainRule.TheVariants.{NoSrgb, SrgbBad as BadSrgb}
 use Rattle.sr_model.specs.Label.{Labels, IsSrgb}
 use Rattle.sr_labels.specs.declared.srgb.SrgbBad.{SrgbBad}
 use Rattle.sr_labels.specs.declared.srgb.SrgbBad.TheVariants.{Bad}
 use Rattle.sr_labels.specs.Ranges.{IsRefusal}
 use Rattle.sr_lsdb.specs.declared.facts.Facts.{Facts}
-use Rattle.sr_domain.specs.declared.fault.DomainRule.TheVariants.{NoSrgb, SrgbBad as BadSrgb}
 use Rattle.sr_domain.specs.Nodes.{nodes_of, srgb_of, ranges_of, labels_of, labels_with, node_sid_of}
 use Rattle.sr_domain.specs.Rules.{AreKept, IsFirstBroken, LacksSrgb, HasBadSrgb, NoNode, IsLeastNode}
 use Rattle.sr_domain.proofs.LeastLemmas.{NoneBelow, none-yet, none-more, none-all, least-at}

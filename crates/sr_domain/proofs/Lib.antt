@@ -18,3 +18,6 @@ pub mod AdjLemmas
 pub mod NetLemmas
 pub mod KeyLemmas
 pub mod NamesLemmas
+pub mod DeterminedLists
+pub mod DeterminedNets
+pub mod DeterminedRules

@@ -38,7 +38,8 @@ use Rattle.sr_domain.proofs.AdjLemmas.{clash-moved}
 first-same : (x y : FoundLink) (xs ys : List FoundLink) → x ∷ xs ≡ y ∷ ys → (x ≡ y) × (xs ≡ ys)
 first-same x y xs ys e = (cc, cc)
 
-abbrev found_as : Link → Option ℕ → FoundLink
+-- a link of a graph with its label, as it was found
+abbrev pub found_as : Link → Option ℕ → FoundLink
 found_as link label = record { key = link.key; metric = link.metric; label = label }
 
 -- the adjacency labels of the graph are those of its links as they were found

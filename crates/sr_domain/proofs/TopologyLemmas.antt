@@ -1,18 +1,15 @@
 -- From the links of the facts to their graph.
-use Rattle.std.proofs.Common.{◌≡◌, ◌≢◌, ℕ, ◌+◌, ◌<◌, ◌≤◌, ⊎_elim, Bool, true, false, cond, List, [], ◌∷◌, map, length, refl, arith, ap, sym, ◌∙◌, subst}
-use Rattle.std.specs.Prelude.{Contains, All, count_by, nat_le, if◌then◌else◌}
+use Rattle.std.proofs.Common.{◌≡◌, ◌≢◌, ℕ, ◌+◌, ◌<◌, ◌≤◌, cond, List, [], ◌∷◌, map, length, refl, arith, ap, sym, ◌∙◌, subst}
+use Rattle.std.specs.Prelude.{Contains, All, count_by}
 use Rattle.std.specs.List.Sorted.{IsPermutation, IsStrictlyIncreasing}
-use Rattle.std.proofs.lemmas.Bool.Decides.{nat_tests}
 use Rattle.std.proofs.lemmas.List.{length-map}
 use Rattle.std.proofs.lemmas.List.Elements.{All-map, All-contains}
 use Rattle.std.proofs.lemmas.List.Sums.{sum_by-cons}
 use Rattle.std.proofs.lemmas.List.Sorted.{IsPermutation-sym, Contains-permutation, sum_by-IsPermutation, length_permutation}
 use Rattle.sr_model.specs.declared.name.LinkKey.{LinkKey}
-use Rattle.sr_model.specs.declared.name.PairKey.{PairKey}
-use Rattle.sr_model.specs.declared.name.Ident.{Ident}
-use Rattle.sr_model.specs.declared.name.Ident.TheVariants.{None as NoIdent, Addr, Link as LinkIdent}
-use Rattle.sr_model.specs.Key.{mirror, turned, pair_of, IsSamePair}
+use Rattle.sr_model.specs.Key.{pair_of}
 use Rattle.sr_model.specs.KeyOrder.{same_key}
+use Rattle.sr_laws.proofs.PairKeys.{same-pair}
 use Rattle.sr_graph.specs.declared.draft.DraftLink.{DraftLink}
 use Rattle.sr_graph.specs.Draft.{IsDraft, AreLeast, HasZero, IsTwice}
 use Rattle.sr_domain.specs.declared.links.FoundLink.{FoundLink}
@@ -22,27 +19,6 @@ use Rattle.sr_domain.specs.Links.{HasEnds}
 use Rattle.sr_domain.specs.Rules.{HasZeroMetric, IsRepeated}
 use Rattle.sr_domain.specs.Steps.{IsBelowMaximum}
 use Rattle.sr_domain.proofs.MemberLemmas.{mapped-from, mapped-to}
-
--- two opposite links between two nodes have one pair
-turned-twice : (i : Ident) → turned (turned i) ≡ i
-turned-twice NoIdent = refl
-turned-twice (Addr a b) = refl
-turned-twice (LinkIdent a b) = refl
-
-pair-parts : (low high : ℕ) (i j : Ident) → i ≡ j → (let p : PairKey = record { low = low; high = high; ident = i } in p) ≡ record { low = low; high = high; ident = j }
-pair-parts low high i j e = ap (λ (t : Ident). let p : PairKey = record { low = low; high = high; ident = t } in p) e
-
-pair-turned : (key : LinkKey) → key.from ≢ key.to → pair_of (mirror key) ≡ pair_of key
-pair-turned key differ = by (nat_le key.to key.from) (nat_le key.from key.to) refl refl
-  where
-    by : (a b : Bool) → nat_le key.to key.from ≡ a → nat_le key.from key.to ≡ b → (if a then (let p : PairKey = record { low = key.to; high = key.from; ident = turned key.ident } in p) else record { low = key.from; high = key.to; ident = turned (turned key.ident) }) ≡ (if b then record { low = key.from; high = key.to; ident = key.ident } else record { low = key.to; high = key.from; ident = turned key.ident })
-    by true true e f = absurd (differ (grind (arith, nat_tests)))
-    by true false e f = refl
-    by false true e f = pair-parts key.from key.to (turned (turned key.ident)) key.ident (turned-twice key.ident)
-    by false false e f = absurd (differ (grind (arith, nat_tests)))
-
-pub same-pair : (a b : LinkKey) → b.from ≢ b.to → IsSamePair a b → pair_of a ≡ pair_of b
-same-pair a b differ same = ⊎_elim (λ (e : a ≡ b). ap pair_of e) (λ (e : a ≡ mirror b). ap pair_of e ∙ pair-turned b differ) same
 
 -- what a graph is built from
 pub draft-fits : (m : List PairGroup) (nodes : List ℕ) (links : List FoundLink) (drafts : List DraftLink) → IsStrictlyIncreasing nodes → All (HasEnds nodes) links → All IsBelowMaximum links → drafts ≡ map (draft_link m) links → All (λ (d : DraftLink). IsStrictlyIncreasing d.groups) drafts → IsDraft (record { nodes = nodes; links = drafts })

@@ -6,5 +6,6 @@ pub mod Groups
 pub mod GroupTables
 pub mod Rules
 pub mod Net
+pub mod Determined
 pub mod Named
 pub mod Steps

@@ -2,12 +2,12 @@
 use Rattle.std.specs.Prelude.{◌≡◌, ℕ, ◌<◌, List, Some, slice_get}
 use Rattle.sr_model.specs.declared.label.LabelRule.{LabelRule}
 use Rattle.sr_model.specs.declared.label.LabelRule.TheVariants.{DuplicateIndex as ByPlaces, IndexOutside as AtPlace, AdjLabelClash as ClashAtPlace}
-use Rattle.sr_domain.specs.declared.fault.DomainRule.{DomainRule}
+use Rattle.sr_model.specs.declared.rule.DomainRule.{DomainRule}
+use Rattle.sr_model.specs.declared.rule.DomainRule.TheVariants.{DuplicateIndex, IndexOutside, AdjLabelClash, ZeroMetric, DuplicateLink, TooManyNodes, TooManyLinks}
 use Rattle.sr_graph.specs.declared.fault.GraphFault.{GraphFault}
 use Rattle.sr_graph.specs.declared.fault.GraphFault.TheVariants.{ZeroMetric as Zero, DuplicateLink as Duplicate, TooManyNodes as ManyNodes, TooManyLinks as ManyLinks, Memory as NoMemory}
 use Rattle.sr_domain.specs.declared.fault.DomainFault.{DomainFault}
 use Rattle.sr_domain.specs.declared.fault.DomainFault.TheVariants.{Rule, Memory}
-use Rattle.sr_domain.specs.declared.fault.DomainRule.TheVariants.{DuplicateIndex, IndexOutside, AdjLabelClash, ZeroMetric, DuplicateLink, TooManyNodes, TooManyLinks}
 
 -- the places are below the number of nodes
 abbrev pub AreWithin : ℕ → LabelRule → Type 0

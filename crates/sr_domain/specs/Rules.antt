@@ -2,14 +2,14 @@
 use Rattle.std.specs.Prelude.{◌≡◌, ℕ, ◌<◌, ◌≤◌, true, List, length, Some, None, Contains, count_by, slice_get}
 use Rattle.sr_model.specs.declared.label.Range.{Range}
 use Rattle.sr_model.specs.declared.name.LinkKey.{LinkKey}
+use Rattle.sr_model.specs.declared.rule.DomainRule.{DomainRule}
+use Rattle.sr_model.specs.declared.rule.DomainRule.TheVariants.{NoSrgb, SrgbBad, DuplicateIndex, IndexOutside, AdjLabelClash, ZeroMetric, DuplicateLink, TooManyNodes, TooManyLinks, Overload}
 use Rattle.sr_model.specs.KeyOrder.{same_key}
 use Rattle.sr_model.specs.Label.{IsSrgb}
 use Rattle.sr_model.specs.Rule.{IsLeastDuplicate, IsLeastOutside, IsLeastClash, NoDuplicate, NoOutside, NoAdjClash}
 use Rattle.sr_graph.specs.Draft.{AreLeast}
 use Rattle.sr_lsdb.specs.declared.facts.Facts.{Facts}
 use Rattle.sr_domain.specs.declared.links.FoundLink.{FoundLink}
-use Rattle.sr_domain.specs.declared.fault.DomainRule.{DomainRule}
-use Rattle.sr_domain.specs.declared.fault.DomainRule.TheVariants.{NoSrgb, SrgbBad, DuplicateIndex, IndexOutside, AdjLabelClash, ZeroMetric, DuplicateLink, TooManyNodes, TooManyLinks, Overload}
 use Rattle.sr_domain.specs.declared.fault.DomainFault.{DomainFault}
 use Rattle.sr_domain.specs.declared.fault.DomainFault.TheVariants.{Rule, Memory}
 use Rattle.sr_domain.specs.Nodes.{nodes_of, srgb_of, all_labels, is_overloaded}

@@ -9,11 +9,11 @@ ghost use Rattle.sr_domain.specs.Links.{place_in, adj_label_by, links_of, HasEnd
 ghost use Rattle.sr_domain.specs.Rules.{AreKept, IsDomainFault};
 ghost use Rattle.sr_domain.specs.Named.{AreWithin, Names};
 
-use crate::fault::{DomainFault, DomainRule};
+use crate::fault::DomainFault;
 use crate::links::FoundLink;
 use sr_labels::{NodeLabels, first_clash};
 use sr_lsdb::Facts;
-use sr_model::{AdjLabel, LabelRule, SystemId};
+use sr_model::{AdjLabel, DomainRule, LabelRule, SystemId};
 use std::alloc::{AllocError, Global};
 
 /// The place of a node that there is.

@@ -4,11 +4,11 @@ ghost use Rattle.std.specs.List.Sorted.{IsStrictlyIncreasing};
 ghost use Rattle.sr_domain.specs.Nodes.{nodes_of, ranges_of, node_sid_of, labels_with, labels_of as labels_in};
 ghost use Rattle.sr_domain.specs.Rules.{AreKept, IsDomainFault};
 
-use crate::fault::{DomainFault, DomainRule};
+use crate::fault::DomainFault;
 use crate::nodes::{node_sid, srgb_of};
 use sr_labels::{NodeLabels, Srgb};
 use sr_lsdb::Facts;
-use sr_model::SystemId;
+use sr_model::{DomainRule, SystemId};
 use sr_subtlv::Ranges;
 use std::alloc::{AllocError, Global};
 

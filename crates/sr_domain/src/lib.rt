@@ -20,6 +20,8 @@ mod tests;
 mod topology;
 mod two_way;
 
-pub use fault::{DomainFault, DomainRule};
-pub use laws::{adjacency_labels_are_the_least, node_sids_are_the_first_least};
+pub use fault::DomainFault;
+pub use laws::{
+    adjacency_labels_are_the_least, nets_are_determined, node_sids_are_the_first_least,
+};
 pub use net::net_of;

@@ -13,7 +13,7 @@ ghost use Rattle.sr_domain.specs.Net.{IsNetOf};
 use crate::announced::Announcement;
 use crate::clash::check_labels;
 use crate::draft::{label_list, pair_groups, sort};
-use crate::fault::{DomainFault, DomainRule};
+use crate::fault::DomainFault;
 use crate::gathered::{Gathered, gather};
 use crate::labels::node_labels;
 use crate::links::FoundLink;
@@ -23,6 +23,7 @@ use crate::two_way::keys_of;
 use sr_graph::Graph;
 use sr_labels::{Net, NodeLabels};
 use sr_lsdb::Facts;
+use sr_model::DomainRule;
 use std::alloc::{AllocError, Global};
 
 /// The net of this graph and these labels.

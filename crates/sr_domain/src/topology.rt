@@ -12,12 +12,12 @@ ghost use Rattle.sr_domain.specs.Named.{domain_fault as domain_fault_of};
 ghost use Rattle.sr_domain.specs.Steps.{IsBelowMaximum, IsGraphOf};
 
 use crate::draft::draft_links;
-use crate::fault::{DomainFault, DomainRule};
+use crate::fault::DomainFault;
 use crate::groups::PairGroup;
 use crate::links::FoundLink;
 use sr_graph::{Draft, DraftLinks, Graph, GraphFault, SystemIds};
 use sr_lsdb::Facts;
-use sr_model::SystemId;
+use sr_model::{DomainRule, SystemId};
 use std::alloc::{AllocError, Global};
 
 /// Why the graph is refused, as a rule of the profile.

@@ -1,7 +1,8 @@
-pub mod Carrying
-pub mod Debts
+pub mod Answering
 pub mod Determined
+pub mod Ending
+pub mod Going
 pub mod Heads
-pub mod Statuses
+pub mod Last
+pub mod Piece
 pub mod Steps
-pub mod Turns

@@ -1,7 +1,7 @@
 pub mod Lines
 pub mod Replies
+pub mod Written
+pub mod Reading
+pub mod Going
 pub mod Endings
-pub mod Statuses
 pub mod Output
-pub mod Moments
-pub mod Turns

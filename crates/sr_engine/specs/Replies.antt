@@ -1,31 +1,29 @@
--- What a session may answer to lines, as relations: where several answers are allowed, each of them is one.
-use Rattle.std.specs.Prelude.{◌≡◌, ℕ, ◌+◌, ◌<◌, Bool, false, ◌||◌, List, [], ◌∷◌, ◌++◌}
+-- What may be answered to lines, as relations: where several answers are allowed, each of them is one.
+use Rattle.std.specs.Prelude.{◌≡◌, ℕ, ◌+◌, Bool, false, ◌||◌, ◌⊎◌, List, [], ◌∷◌, ◌++◌, MatchResult}
+use Rattle.std.specs.declared.result.Result.{Result}
+use Rattle.sr_base.specs.declared.SinkFault.{SinkFault}
 use Rattle.sr_engine.specs.Lines.{Splits, last_line, head_of}
-use Rattle.sr_engine.specs.declared.session.Reply.{Reply}
-use Rattle.sr_engine.specs.declared.session.Reply.TheVariants.{Whole, Part}
+use Rattle.sr_engine.specs.Written.{Written, Says, Breaks}
 
--- from a state, to the line of this number, these bytes are answered, the line is refused or not, and that is the state after it
+-- these bytes may be answered, the line refused or not, and that is the state after it
+abbrev pub Allowed : Type 0 → Type 1
+Allowed S = List ℕ → Bool → S → Type 0
+
+-- from a state, to the line of this number, so much may be answered
 abbrev pub Answering : Type 0 → Type 1
 Answering S = S → ℕ → List ℕ → List ℕ → Bool → S → Type 0
-
--- from a state, to the line of this number, from this place of the answer on, these bytes are answered, the line is refused or not, and that is the state after it
-abbrev pub Partly : Type 0 → Type 1
-Partly S = S → ℕ → List ℕ → ℕ → List ℕ → Bool → S → Type 0
-
--- the answers from this place on
-abbrev pub from_place : {S : Type 0} → Partly S → ℕ → Answering S
-from_place answers place = λ old number line out refused new. answers old number line place out refused new
-
--- the answers from their beginning on
-abbrev pub whole : {S : Type 0} → Partly S → Answering S
-whole answers = from_place answers 0
 
 -- from a state, at the end of the script, these bytes are answered, and that is the state after it
 abbrev pub Closing : Type 0 → Type 1
 Closing S = S → List ℕ → S → Type 0
 
+-- what a session may answer to lines, and at the end of the script
+pub record Conduct (S : Type 0) : Type 1 where
+  pub answers : Answering S
+  pub ends : Closing S
+
 -- the answers to these lines one after the other, the first of them of this number, and whether one was refused
-abbrev pub Replies : {S : Type 0} → Answering S → S → ℕ → List (List ℕ) → List ℕ → Bool → S → Type 0
+abbrev pub Replies : {S : Type 0} → Answering S → S → ℕ → List (List ℕ) → Allowed S
 Replies {S} answers old number [] out refused new = (out ≡ []) × (refused ≡ false) × (new ≡ old)
 Replies {S} answers old number (line ∷ lines) out refused new =
     (mid : S) × (first : List ℕ) × (here : Bool) × (later : List ℕ) × (after : Bool)
@@ -43,51 +41,61 @@ pub record Answered {S : Type 0} (answers : Answering S) (opening : S) (bytes ou
   pub replies : Replies answers opening 1 lines out refused last
 
 -- the answers to all lines of the script, also to a last one without a line feed, then what its end answers, and the state after it
-pub record Script {S : Type 0} (answers : Answering S) (ends : Closing S) (opening : S) (bytes out : List ℕ) (refused : Bool) (final : S) : Type 0 where
+pub record Script {S : Type 0} (conduct : Conduct S) (opening : S) (bytes out : List ℕ) (refused : Bool) (final : S) : Type 0 where
   pub lines : List (List ℕ)
   pub rest : List ℕ
   pub splits : Splits bytes lines rest
   pub last : S
   pub said : List ℕ
-  pub replies : Replies answers opening 1 (lines ++ last_line rest) said refused last
+  pub replies : Replies conduct.answers opening 1 (lines ++ last_line rest) said refused last
   pub tail : List ℕ
-  pub end : ends last tail final
+  pub end : conduct.ends last tail final
   pub whole : out ≡ said ++ tail
 
--- an answer was appended that the session allows to every line that begins with these bytes, as far as a session is handed them
-pub record AnswersHead {S : Type 0} (answers : Answering S) (old : S) (number : ℕ) (head before after : List ℕ) (refused : Bool) (new : S) : Type 0 where
-  pub said : List ℕ
-  pub appended : after ≡ before ++ said
-  pub line : (line : List ℕ) → head ≡ head_of line → answers old number line said refused new
+-- so much may be answered to every line with this head
+abbrev pub ToHead : {S : Type 0} → Answering S → S → ℕ → List ℕ → Allowed S
+ToHead answers old number head = λ said refused new. (line : List ℕ) → head ≡ head_of line → answers old number line said refused new
 
--- the session has an answer to every line that begins with these bytes, as far as a session is handed them
-pub record HasAnswer {S : Type 0} (answers : Answering S) (old : S) (number : ℕ) (head : List ℕ) : Type 0 where
+-- so much may be answered at the end of the script: it refuses nothing
+abbrev pub AtEnd : {S : Type 0} → Closing S → S → Allowed S
+AtEnd ends old = λ said refused new. (refused ≡ false) × ends old said new
+
+-- first this may be answered, and then what the end of the script answers
+pub record ThenEnds {S : Type 0} (first : Allowed S) (ends : Closing S) (said : List ℕ) (refused : Bool) (new : S) : Type 0 where
+  pub front : List ℕ
+  pub last : S
+  pub is : first front refused last
+  pub tail : List ℕ
+  pub end : ends last tail new
+  pub whole : said ≡ front ++ tail
+
+-- so much may be answered to a last line with this head, if there is one, and to the end
+abbrev pub ToLast : {S : Type 0} → Conduct S → S → ℕ → List ℕ → Allowed S
+ToLast conduct old number head = λ said refused new. (rest : List ℕ) → head ≡ head_of rest
+    → ThenEnds (Replies conduct.answers old number (last_line rest)) conduct.ends said refused new
+
+-- exactly an allowed answer was answered
+pub record Gave {S : Type 0} (allowed : Allowed S) (before after : Written) (refused : Bool) (new : S) : Type 0 where
   pub said : List ℕ
+  pub says : Says before after said
+  pub is : allowed said refused new
+
+-- this is an allowed answer
+pub record HasSome {S : Type 0} (allowed : Allowed S) (text : List ℕ) : Type 0 where
   pub refused : Bool
   pub new : S
-  pub line : (line : List ℕ) → head ≡ head_of line → answers old number line said refused new
+  pub is : allowed text refused new
 
--- past its beginning the answer is asked for only where the session has one from this place on
-abbrev pub IsPlace : {S : Type 0} → Partly S → S → ℕ → List ℕ → ℕ → Type 0
-IsPlace answers old number head place = 0 < place → HasAnswer (from_place answers place) old number head
+-- at a fault a beginning of an allowed answer was answered, or nothing
+pub record Broke {S : Type 0} (allowed : Allowed S) (before after : Written) (fault : SinkFault) : Type 0 where
+  pub text : List ℕ
+  pub breaks : Breaks before after text fault
+  pub begins : (text ≡ []) ⊎ HasSome allowed text
 
--- a part was appended, and what the session answers from a later place on goes on from it. There is such an answer, and the state stays
-pub record AnswersPart {S : Type 0} (answers : Partly S) (old : S) (number : ℕ) (head : List ℕ) (place : ℕ) (before after : List ℕ) (next : ℕ) (new : S) : Type 0 where
-  pub part : List ℕ
-  pub appended : after ≡ before ++ part
-  pub later : place < next
-  pub same : new ≡ old
-  pub line : (line : List ℕ) → head ≡ head_of line → (said : List ℕ) (refused : Bool) (last : S)
-      → answers old number line next said refused last → answers old number line place (part ++ said) refused last
-  pub more : HasAnswer (from_place answers next) old number head
+-- an allowed answer was answered, or at a fault a beginning of one
+abbrev pub Gives : {S : Type 0} → Allowed S → Written → Written → Result Bool SinkFault → S → Type 0
+Gives allowed before after result new = MatchResult result (λ refused. Gave allowed before after refused new) (Broke allowed before after)
 
--- what a session's call gave: the rest of the answer, or a part of it
-abbrev pub Gives : {S : Type 0} → Partly S → S → ℕ → List ℕ → ℕ → List ℕ → List ℕ → Reply → S → Type 0
-Gives answers old number head place before after (Whole refused) new = AnswersHead (from_place answers place) old number head before after refused new
-Gives answers old number head place before after (Part next) new = AnswersPart answers old number head place before after next new
-
--- an answer was appended that the session allows at the end of the script
-pub record AnswersEnd {S : Type 0} (ends : Closing S) (state : S) (before after : List ℕ) (new : S) : Type 0 where
-  pub said : List ℕ
-  pub appended : after ≡ before ++ said
-  pub end : ends state said new
+-- the end of the script was answered, or at a fault a beginning of it
+abbrev pub GivesEnd : {S : Type 0} → Closing S → S → Written → Written → Result (Unit {0}) SinkFault → S → Type 0
+GivesEnd ends old before after result new = MatchResult result (λ _. Gave (AtEnd ends old) before after false new) (Broke (AtEnd ends old) before after)

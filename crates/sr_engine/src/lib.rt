@@ -1,16 +1,18 @@
-//! Runs a script: reads its lines from a source, has a session answer them, and writes the answers to a sink.
+//! What the run of a script is made of: a reader of its lines, a writer that gathers the answers, and the ways in which
+//! a run ends. It calls no session: the loop that does stands with the session.
 #![tactic(auto)]
 
+mod answers;
+mod end;
 mod laws;
 mod output;
-mod progress;
-mod run;
-mod session;
+mod script;
 
+pub use answers::Answers;
+pub use end::End;
 pub use laws::lines_are_determined;
 pub use output::write_all;
-pub use run::{End, run_script};
-pub use session::{Reply, Session};
+pub use script::{Fill, Script, read_on};
 
 #[cfg(test)]
 mod tests;

@@ -1,129 +1,104 @@
-//! Runs of a session that says its lines again.
-ghost use Rattle.std.specs.Prelude.{◌≡◌, ◌++◌, ◌∷◌, [], ◌+◌, ◌<◌, ◌%◌, ℕ, List, length, drop, false};
-ghost use Rattle.std.specs.Prelude.{Ok, OnOk, None};
-ghost use Rattle.sr_engine.specs.Lines.{head_of};
-ghost use Rattle.sr_engine.specs.declared.session.Reply.TheVariants.{Part};
+//! Runs of a loop that says the lines of a script again.
+ghost use Rattle.std.specs.Prelude.{None};
 
-use crate::session::{Reply, Session};
-use crate::{End, run_script};
+use crate::{Answers, End, Fill, Script, read_on};
 use sr_base::{
     Failed, MemorySink, MemorySource, Sink, SinkFault, Source, SteadySink, SteadySource,
 };
 use std::alloc::{AllocError, Global};
 use std::cell::Cell;
-use std::thread::Threads;
 
-/// Answers a line by the last digit of its number and itself, and the end by `end`. An empty line and one with `#`
-/// are answered by nothing, one with `*` by 70,000 bytes more, and one with `!` is refused. At `?` memory is wanted. A
-/// line with `+` is answered in parts.
-#[derive(Drop)]
-struct Echo {
-    alloc: Global,
-}
-
-fn say(out: &mut Vec<u8>, number: u32, line: &[u8]) -> Result<(), AllocError>
-    ensures { OnOk result (out.new.items ≡ out.old.items ++ ((48 + number % 10) ∷ (line.now ++ 10 ∷ []))) }
-{
-    out.push(48 + (number % 10) as u8)?;
-    out.extend_from_slice(line)?;
-    out.push(b'\n')?;
+/// Says this text so many times.
+fn say_often<K: Sink>(
+    text: &[u8],
+    times: u32,
+    out: &mut Answers,
+    sink: &mut K,
+) -> Result<(), SinkFault> {
+    for _ in 0..times {
+        out.put(sink, text)?;
+    }
     Ok(())
 }
 
-/// Says the line byte by byte: the last digit of its number comes in place of the `+`, nothing for `~`, and at the end
-/// that digit again with a line feed. It is refused where it ends with `!`, and at `?` memory is wanted.
-fn say_part(out: &mut Vec<u8>, number: u32, line: &[u8], place: u32) -> Result<Reply, AllocError>
-    requires { 0 < length line.now }
-    ensures appends { OnOk result ((part : List ℕ) × (out.new.items ≡ out.old.items ++ part)) }
-    ensures later { (next : ℕ) → result ≡ Ok (Part next) → place < next }
-{
-    let digit = 48 + (number % 10) as u8;
-    let at = place as usize;
-    if at >= line.len().min(1_000_000) {
-        out.push(digit)?;
-        out.push(b'\n')?;
-        return Ok(Reply::Whole(line[line.len() - 1] == b'!'));
+/// Says a line's number, as its last digit, and the line. An empty line and one with `#` are answered by nothing, one
+/// with `*` by 70,000 stars more, and one with `+` by 100,000 times the word `piece`. One with `!` is refused, at `?`
+/// memory is wanted, and at `-` behind 20,000 times that word.
+fn echo<K: Sink>(
+    number: u32,
+    line: &[u8],
+    out: &mut Answers,
+    sink: &mut K,
+) -> Result<bool, SinkFault> {
+    if line.is_empty() {
+        return Ok(false);
     }
-    match line[at] {
-        b'?' => return Err(AllocError),
-        b'~' => {}
-        b'+' => out.push(digit)?,
-        byte => out.push(byte)?,
+    match line[0] {
+        b'#' => return Ok(false),
+        b'?' => return Err(SinkFault::Memory(AllocError)),
+        b'+' => {
+            say_often(b"piece\n", 100_000, out, sink)?;
+            return Ok(false);
+        }
+        b'-' => {
+            say_often(b"piece\n", 20_000, out, sink)?;
+            return Err(SinkFault::Memory(AllocError));
+        }
+        b'*' => say_often(&[b'*'; 100], 700, out, sink)?,
+        _ => {}
     }
-    Ok(Reply::Part(place + 1))
+    out.put(sink, &[48 + (number % 10) as u8])?;
+    out.put(sink, line)?;
+    out.put(sink, b"\n")?;
+    Ok(line[0] == b'!')
 }
 
-impl Session for Echo {
-    ghost answers = { λ state number line place said refused next. Unit {0} };
-
-    ghost ends = { λ state said next. Unit {0} };
-
-    fn answer<R: Threads + Sync>(
-        &mut self,
-        rt: &R,
-        number: u32,
-        line: &[u8],
-        place: u32,
-        out: &mut Vec<u8>,
-    ) -> Result<Reply, AllocError> {
-        if line.is_empty() {
-            return Ok(Reply::Whole(false));
-        }
-        if line[0] == b'#' {
-            return Ok(Reply::Whole(false));
-        }
-        if line[0] == b'+' {
-            let reply = say_part(out, number, line, place)?;
-            return Ok(reply);
-        }
-        if line[0] == b'?' {
-            return Err(AllocError);
-        }
-        if line[0] == b'*' {
-            let much = vec![in self.alloc; b'*'; 70_000]?;
-            say(out, number, much.as_slice())?;
-            return Ok(Reply::Whole(false));
-        }
-        say(out, number, line)?;
-        Ok(Reply::Whole(line[0] == b'!'))
-    }
-
-    fn finish(&mut self, out: &mut Vec<u8>) -> Result<(), AllocError> {
-        out.extend_from_slice(b"end\n")?;
-        Ok(())
-    }
+/// Says a last line without a line feed, where there is one, and `end`.
+fn echo_last<K: Sink>(
+    number: u32,
+    line: &[u8],
+    out: &mut Answers,
+    sink: &mut K,
+) -> Result<bool, SinkFault> {
+    let refused = echo(number, line, out, sink)?;
+    out.put(sink, b"end\n")?;
+    Ok(refused)
 }
 
-/// Says a line's head again, two bytes at a time: from place n on it says what follows the head's first n bytes. So
-/// what it may answer is one text, and each part is a piece of it.
-#[derive(Drop)]
-struct Spell {}
-
-impl Session for Spell {
-    ghost answers = { λ state number line place said refused next. (said ≡ drop place (head_of line)) × (refused ≡ false) × (next ≡ state) };
-
-    ghost ends = { λ state said next. (said ≡ []) × (next ≡ state) };
-
-    fn answer<R: Threads + Sync>(
-        &mut self,
-        rt: &R,
-        number: u32,
-        line: &[u8],
-        place: u32,
-        out: &mut Vec<u8>,
-    ) -> Result<Reply, AllocError> {
-        let rest = &line[line.len().min(place as usize)..];
-        if rest.len() <= 2 || place > 1_000_000 {
-            out.extend_from_slice(rest)?;
-            return Ok(Reply::Whole(false));
+fn echo_all<S: Source, K: Sink>(alloc: Global, source: &mut S, sink: &mut K) -> End {
+    let mut out = Answers::new(alloc);
+    let mut script = match Script::new(alloc) {
+        Ok(script) => script,
+        Err(_) => return End::Memory,
+    };
+    let mut number = 0u32;
+    let mut refused = false;
+    'steps: for _ in 0..u64::MAX {
+        match script.next() {
+            Ok(true) => {
+                number = number.saturating_add(1);
+                match echo(number, script.line(), &mut out, sink) {
+                    Ok(again) => refused |= again,
+                    Err(fault) => return End::at(fault),
+                }
+                script.clear();
+            }
+            Ok(false) => match read_on(&mut script, &mut out, source, sink) {
+                Ok(Fill::More) => {}
+                Ok(Fill::End) => {
+                    match echo_last(number.saturating_add(1), script.line(), &mut out, sink) {
+                        Ok(again) => return out.finish(sink, refused | again),
+                        Err(fault) => return End::at(fault),
+                    }
+                }
+                Ok(Fill::Failed) => return End::ReadFailed,
+                Ok(Fill::TooMuch) => return End::TooMuch,
+                Err(fault) => return End::at(fault),
+            },
+            Err(_) => return End::Memory,
         }
-        out.extend_from_slice(&rest[..2])?;
-        Ok(Reply::Part(place + 2))
     }
-
-    fn finish(&mut self, out: &mut Vec<u8>) -> Result<(), AllocError> {
-        Ok(())
-    }
+    End::Memory
 }
 
 /// Takes at most two bytes at a call.
@@ -222,22 +197,35 @@ const SCRIPT: &[u8] = b"one\n\n!three\nfour";
 
 const ANSWERS: &[u8] = b"1one\n3!three\n4four\nend\n";
 
+const SCRIPTS: [(&[u8], u8, &[u8]); 6] = [
+    (SCRIPT, 1, ANSWERS),
+    (b"", 0, b"end\n"),
+    (b"one\n", 0, b"1one\nend\n"),
+    (b"one\r\n\n\n", 0, b"1one\r\nend\n"),
+    (b"one\n!two", 1, b"1one\n2!two\nend\n"),
+    (b"one\n?\nthree\n", 5, b"1one\n"),
+];
+
+// All bytes at a read, or one; and a sink that takes all at a write, or two.
 #[test]
 fn a_script_is_answered(rt: HostRuntime) -> Result<(), AllocError> {
     let alloc = rt.alloc();
-    let scripts: [(&[u8], u8, &[u8]); 5] = [
-        (SCRIPT, 1, ANSWERS),
-        (b"", 0, b"end\n"),
-        (b"one\n", 0, b"1one\nend\n"),
-        (b"one\r\n\n\n", 0, b"1one\r\nend\n"),
-        (b"one\n?\nthree\n", 5, b""),
-    ];
-    for (script, status, answers) in scripts {
-        let mut source = SteadySource::new(listed(alloc, script)?);
+    for (script, status, answers) in SCRIPTS {
+        let ones = vec![in alloc; 1usize; 20]?;
+        let mut source = MemorySource::new(listed(alloc, script)?, ones, Vec::new(alloc));
+        let mut drip = Drip {
+            bytes: Vec::new(alloc),
+        };
+        let slow = echo_all(alloc, &mut source, &mut drip);
+        assert_eq!(rt; slow.status(), status);
+        assert_eq!(rt; drip.bytes.as_slice(), answers);
+        let mut whole = SteadySource::new(listed(alloc, script)?);
         let mut sink = SteadySink::new(alloc);
-        let (end, _session) = run_script(&rt, alloc, Echo { alloc }, &mut source, &mut sink);
+        let end = echo_all(alloc, &mut whole, &mut sink);
         assert_eq!(rt; end.status(), status);
-        assert_eq!(rt; sink.bytes(), answers);
+        // What was gathered when memory was wanted isn't written any more.
+        let written: &[u8] = if status == 5 { b"" } else { answers };
+        assert_eq!(rt; sink.bytes(), written);
     }
     Ok(())
 }
@@ -246,7 +234,8 @@ fn a_script_is_answered(rt: HostRuntime) -> Result<(), AllocError> {
 #[test]
 fn a_read_fails(rt: HostRuntime) -> Result<(), AllocError> {
     let alloc = rt.alloc();
-    let cases: [(u64, u8, &[u8]); 3] = [
+    let cases: [(u64, u8, &[u8]); 4] = [
+        (0, 3, b""),
         (11, 3, b"1one\n"),
         (12, 3, b"1one\n3!three\n"),
         (99, 1, ANSWERS),
@@ -259,121 +248,69 @@ fn a_read_fails(rt: HostRuntime) -> Result<(), AllocError> {
             listed(alloc, &[failing])?,
         );
         let mut sink = SteadySink::new(alloc);
-        let (end, _session) = run_script(&rt, alloc, Echo { alloc }, &mut source, &mut sink);
+        let end = echo_all(alloc, &mut source, &mut sink);
         assert_eq!(rt; end.status(), status);
         assert_eq!(rt; sink.bytes(), answers);
+        assert_eq!(rt; source.calls(), failing.min(16) + 1);
     }
     Ok(())
 }
 
+// The answers to each line come by a write of their own. After a failed one nothing is read or written.
 #[test]
 fn a_write_fails(rt: HostRuntime) -> Result<(), AllocError> {
     let alloc = rt.alloc();
-    let mut source = MemorySource::new(
-        listed(alloc, SCRIPT)?,
-        vec![in alloc; 1usize; 17]?,
-        Vec::new(alloc),
-    );
-    let mut sink = MemorySink::new(alloc, listed(alloc, &[1u64])?);
-    let (end, _session) = run_script(&rt, alloc, Echo { alloc }, &mut source, &mut sink);
-    assert_eq!(rt; end.status(), 4);
-    assert_eq!(rt; sink.bytes(), b"1one\n".as_slice());
-    assert_eq!(rt; sink.calls(), 2);
-    Ok(())
-}
-
-const PARTS: [(&[u8], u8, &[u8]); 7] = [
-    (b"one\n+ab~c\nthree\n", 0, b"1one\n2abc2\n3three\nend\n"),
-    (b"+~~~\n+!\n\n", 1, b"11\n2!2\nend\n"),
-    (b"+a\n+b\n+c\nd", 0, b"1a1\n2b2\n3c3\n4d\nend\n"),
-    (b"+\n+", 0, b"11\n22\nend\n"),
-    (b"one\n+ab~!", 1, b"1one\n2ab!2\nend\n"),
-    (b"one\n+a?b\nthree\n", 5, b"1one\n2a"),
-    (b"one\n+a\n+a?", 5, b"1one\n2a2\n"),
-];
-
-// All bytes at a read, or one; and a sink that takes all at a write, or two.
-#[test]
-fn answers_come_in_parts(rt: HostRuntime) -> Result<(), AllocError> {
-    let alloc = rt.alloc();
-    for (script, status, answers) in PARTS {
-        let mut source = SteadySource::new(listed(alloc, script)?);
-        let mut sink = SteadySink::new(alloc);
-        let (end, _session) = run_script(&rt, alloc, Echo { alloc }, &mut source, &mut sink);
-        assert_eq!(rt; end.status(), status);
-        assert_eq!(rt; sink.bytes(), answers);
-        let ones = vec![in alloc; 1usize; 20]?;
-        let mut slow = MemorySource::new(listed(alloc, script)?, ones, Vec::new(alloc));
-        let mut drip = Drip {
-            bytes: Vec::new(alloc),
-        };
-        let (again, _session) = run_script(&rt, alloc, Echo { alloc }, &mut slow, &mut drip);
-        assert_eq!(rt; again.status(), status);
-        assert_eq!(rt; drip.bytes.as_slice(), answers);
-    }
-    Ok(())
-}
-
-// Each part is written by a call of its own, and one of no bytes by none.
-#[test]
-fn a_write_fails_within_an_answer(rt: HostRuntime) -> Result<(), AllocError> {
-    let alloc = rt.alloc();
-    let cases: [(u64, u8, u64, &[u8]); 6] = [
-        (0, 4, 1, b""),
-        (1, 4, 2, b"1one\n2"),
-        (2, 4, 3, b"1one\n2a"),
-        (3, 4, 4, b"1one\n2ab"),
-        (4, 4, 5, b"1one\n2ab2\n"),
-        (6, 0, 6, b"1one\n2ab2\n3three\nend\n"),
+    let cases: [(u64, u64, &[u8]); 3] = [
+        (0, 4, b""),
+        (1, 12, b"1one\n"),
+        (2, 17, b"1one\n3!three\n"),
     ];
-    for (failing, status, calls, written) in cases {
-        let mut source = SteadySource::new(listed(alloc, b"one\n+a~b\nthree\n")?);
+    for (failing, reads, answers) in cases {
+        let mut source = MemorySource::new(
+            listed(alloc, SCRIPT)?,
+            vec![in alloc; 1usize; 17]?,
+            Vec::new(alloc),
+        );
         let mut sink = MemorySink::new(alloc, listed(alloc, &[failing])?);
-        let (end, _session) = run_script(&rt, alloc, Echo { alloc }, &mut source, &mut sink);
-        assert_eq!(rt; end.status(), status);
-        assert_eq!(rt; sink.calls(), calls);
-        assert_eq!(rt; sink.bytes(), written);
+        let end = echo_all(alloc, &mut source, &mut sink);
+        assert_eq!(rt; end.status(), 4);
+        assert_eq!(rt; sink.bytes(), answers);
+        assert_eq!(rt; sink.calls(), failing + 1);
+        assert_eq!(rt; source.calls(), reads);
     }
     Ok(())
 }
 
-// The parts of the first line are written by four calls, and the last line has no line feed, so that one call suffices.
+// A line begins in one piece and ends in the next, or in the one behind it.
 #[test]
-fn a_line_is_spelled(rt: HostRuntime) -> Result<(), AllocError> {
+fn a_line_lies_over_pieces(rt: HostRuntime) -> Result<(), AllocError> {
     let alloc = rt.alloc();
-    let mut source = SteadySource::new(listed(alloc, b"abcdefg\n\nhijklm")?);
-    let mut sink = MemorySink::new(alloc, Vec::new(alloc));
-    let (end, _session) = run_script(&rt, alloc, Spell {}, &mut source, &mut sink);
-    assert_eq!(rt; end.status(), 0);
-    assert_eq!(rt; sink.bytes(), b"abcdefghijklm".as_slice());
-    assert_eq!(rt; sink.calls(), 5);
+    for long in [65_535usize, 65_536, 65_537, 131_072, 140_000] {
+        let mut text = vec![in alloc; b'a'; long]?;
+        let mut answers = listed(alloc, b"1")?;
+        answers.extend_from_slice(text.as_slice())?;
+        answers.extend_from_slice(b"\n2b\nend\n")?;
+        text.extend_from_slice(b"\nb\n")?;
+        let mut source = SteadySource::new(text);
+        let mut sink = SteadySink::new(alloc);
+        let end = echo_all(alloc, &mut source, &mut sink);
+        assert_eq!(rt; end.status(), 0);
+        assert_eq!(rt; sink.bytes(), answers.as_slice());
+    }
     Ok(())
 }
 
-// Three answers of 70,002 bytes to the lines of one piece are written one by one, and then the end's.
-#[test]
-fn long_answers_are_not_gathered(rt: HostRuntime) -> Result<(), AllocError> {
-    let alloc = rt.alloc();
-    let mut source = SteadySource::new(listed(alloc, b"*\n*\n*\n")?);
-    let mut sink = MemorySink::new(alloc, Vec::new(alloc));
-    let (end, _session) = run_script(&rt, alloc, Echo { alloc }, &mut source, &mut sink);
-    assert_eq!(rt; end.status(), 0);
-    assert_eq!(rt; sink.bytes().len(), 3 * 70_002 + 4);
-    assert_eq!(rt; sink.calls(), 4);
-    Ok(())
-}
-
-// A line that is too long reaches the session with 140,001 bytes, however long it is.
+// A line that is too long shows by its first 140,001 bytes, however long it is.
 #[test]
 fn a_long_line_is_cut(rt: HostRuntime) -> Result<(), AllocError> {
     let alloc = rt.alloc();
     let lines: [(usize, usize); 3] = [(140_000, 140_000), (140_001, 140_001), (300_000, 140_001)];
-    for (length, handed) in lines {
+    for (length, held) in lines {
         let mut source = SteadySource::new(vec![in alloc; b'a'; length]?);
         let mut sink = SteadySink::new(alloc);
-        let (end, _session) = run_script(&rt, alloc, Echo { alloc }, &mut source, &mut sink);
+        let end = echo_all(alloc, &mut source, &mut sink);
         assert_eq!(rt; end.status(), 0);
-        assert_eq!(rt; sink.bytes().len(), handed + 6);
+        assert_eq!(rt; sink.bytes().len(), held + 6);
     }
     Ok(())
 }
@@ -389,7 +326,7 @@ fn a_script_is_too_long(rt: HostRuntime) -> Result<(), AllocError> {
     for (left, status, rest, answers) in lengths {
         let mut source = Remarks { left };
         let mut sink = SteadySink::new(alloc);
-        let (end, _session) = run_script(&rt, alloc, Echo { alloc }, &mut source, &mut sink);
+        let end = echo_all(alloc, &mut source, &mut sink);
         assert_eq!(rt; end.status(), status);
         assert_eq!(rt; source.left, rest);
         assert_eq!(rt; sink.bytes(), answers);
@@ -408,8 +345,51 @@ fn answers_come_before_the_next_read(rt: HostRuntime) {
         calls: 0,
     };
     let mut sink = Tally { written: &written };
-    let (end, _session) = run_script(&rt, alloc, Echo { alloc }, &mut source, &mut sink);
+    let end = echo_all(alloc, &mut source, &mut sink);
     assert_eq!(rt; end.status(), 0);
     assert_eq!(rt; source.seen, [0, 3, 6, 9, 9]);
     assert_eq!(rt; written.get(), 3 * 3 + 4 + 4);
+}
+
+// Answers to the lines of one piece are written as soon as more than 65,536 bytes are gathered: stars by the hundred, or
+// words with their line feeds. What remains is written before the next read, and the end's answer by a last write.
+#[test]
+fn long_answers_are_not_gathered(rt: HostRuntime) -> Result<(), AllocError> {
+    let alloc = rt.alloc();
+    let cases: [(&[u8], u64, u8, u64, usize); 6] = [
+        (b"*\n*\n*\n", 99, 0, 5, 3 * 70_003 + 4),
+        (b"*\n*\n*\n", 1, 4, 2, 65_600),
+        (b"+\n", 99, 0, 11, 600_004),
+        (b"+\n", 4, 4, 5, 4 * 65_538),
+        (b"one\n-\n", 99, 5, 1, 65_537),
+        (b"one\n-", 99, 5, 2, 5 + 65_538),
+    ];
+    for (script, failing, status, calls, bytes) in cases {
+        let mut source = SteadySource::new(listed(alloc, script)?);
+        let mut sink = MemorySink::new(alloc, listed(alloc, &[failing])?);
+        let end = echo_all(alloc, &mut source, &mut sink);
+        assert_eq!(rt; end.status(), status);
+        assert_eq!(rt; sink.calls(), calls);
+        assert_eq!(rt; sink.bytes().len(), bytes);
+    }
+    Ok(())
+}
+
+// At most 65,536 bytes are gathered, and more are written whole.
+#[test]
+fn answers_are_gathered(rt: HostRuntime) -> Result<(), AllocError> {
+    let alloc = rt.alloc();
+    let most = vec![in alloc; b'a'; 65_536]?;
+    let mut out = Answers::new(alloc);
+    let mut sink = MemorySink::new(alloc, Vec::new(alloc));
+    assert!(rt; out.put(&mut sink, most.as_slice()).is_ok());
+    assert_eq!(rt; sink.calls(), 0);
+    assert!(rt; out.put(&mut sink, b"b").is_ok());
+    assert_eq!(rt; sink.bytes().len(), 65_537);
+    assert!(rt; out.put(&mut sink, b"c").is_ok());
+    assert!(rt; out.flush(&mut sink).is_ok());
+    assert!(rt; sink.bytes().ends_with(b"abc"));
+    assert!(rt; out.flush(&mut sink).is_ok());
+    assert_eq!(rt; sink.calls(), 2);
+    Ok(())
 }

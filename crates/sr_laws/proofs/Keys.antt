@@ -127,7 +127,7 @@ same-link g h gg gh ng nh same l k is =
     let ends = name-ends g h gg gh ng nh same l k (is.0, is.1, is.2) in
     link_is (link_at h k) (link_at g l) is.2 ends.0 ends.1 is.3
 
-turned_twice : (a : Ident) → turned (turned a) ≡ a
+pub turned_twice : (a : Ident) → turned (turned a) ≡ a
 turned_twice None = refl
 turned_twice (Addr a b) = refl
 turned_twice (Linked a b) = refl

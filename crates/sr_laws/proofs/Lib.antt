@@ -3,6 +3,7 @@ pub mod Order
 pub mod Exact
 pub mod Delivery
 pub mod Keys
+pub mod PairKeys
 pub mod KeptLists
 pub mod KeptOrder
 pub mod Failures

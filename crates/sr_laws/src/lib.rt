@@ -7,7 +7,7 @@ ghost use Rattle.sr_laws.specs.Tables.{LookupsAreSteps, LookupsAreUnique};
 ghost use Rattle.sr_laws.specs.Auditing.{AuditsAreUnique};
 ghost use Rattle.sr_laws.specs.Order.{ListsAreOrdered, OrderIsStrict, LeastListsAreUnique, AnswersAreUnique};
 ghost use Rattle.sr_laws.specs.Labels.{IndicesHaveLabels, LabelsHaveIndices, IndicesAreUnique, LabelsAreFree, AcceptedNetsAreNets};
-ghost use Rattle.sr_laws.specs.Keys.{KeysAreOrdered, KeysAreTold, PlacesAreUnique};
+ghost use Rattle.sr_laws.specs.Keys.{KeysAreOrdered, KeysAreTold, PairsAgree, PlacesAreUnique};
 ghost use Rattle.sr_laws.specs.Staying.{RowsStay, NextHopsStay, NextHopsAreThere, NextHopsAreOld, PostRowsStay, AffectedStay, RepairWaysStay, AnswersStay, AnswersAreThere, AnswersCarryOver, NothingChangesInItself, NetsAreUnchanged, UnchangedTreesStay, UnchangedCasesStay};
 
 /// Every sound list delivers, whichever equal-cost link each node takes, and no node is met twice.
@@ -100,6 +100,11 @@ pub fn audits_are_unique()
 pub fn keys_are_ordered()
     ensures order { KeysAreOrdered }
     ensures told { KeysAreTold }
+{}
+
+/// Two links are of one pair, by their names, exactly where the names of their pairs are the same.
+pub fn pairs_agree()
+    ensures { PairsAgree }
 {}
 
 /// The key of each link has exactly one place among the announced keys.

@@ -1,6 +1,7 @@
-//! The lines of an audit: each case and each destination that it affects, in order, with the answer and its labels.
+//! The lines of an audit: those of one case at a time, each destination that it affects in order, with the answer and its
+//! labels.
 #![tactic(auto)]
 
 mod lines;
 
-pub use lines::put_audit;
+pub use lines::put_case;

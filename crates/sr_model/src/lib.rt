@@ -8,6 +8,7 @@ mod label;
 mod link;
 mod name;
 mod repair;
+mod rule;
 mod text;
 
 pub use audit::{Counts, Item, Stack};
@@ -17,3 +18,4 @@ pub use label::{AdjLabel, LabelRule, Range};
 pub use link::{FAR, Link, LinkNo, NodeNo};
 pub use name::{Ident, LinkKey, PairKey, SystemId};
 pub use repair::{Answer, RepairList, Segment, Segments};
+pub use rule::DomainRule;

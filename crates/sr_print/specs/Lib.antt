@@ -6,3 +6,4 @@ pub mod Forwarding
 pub mod Spaces
 pub mod Repairs
 pub mod Answers
+pub mod Told

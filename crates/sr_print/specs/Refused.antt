@@ -1,8 +1,23 @@
 -- Why a line is refused, as text.
 use Rattle.std.specs.Prelude.{ℕ, List, [], ◌++◌, codes, decimal}
 use Rattle.sr_print.specs.declared.refusal.Refusal.{Refusal}
-use Rattle.sr_print.specs.declared.refusal.Refusal.TheVariants.{UnknownWord, BadForm, BadHex, Malformed, Stale, StagedFull, NoSrgb, SrgbBad, DuplicateIndex, IndexOutside, AdjLabelClash, ZeroMetric, DuplicateLink, TooManyNodes, TooManyLinks, Overload, NoNode, NoLink, NoDestination, NotAffected, NoVersion, WatchRunning, LineTooLong, VersionsFull, NotBuilt}
+use Rattle.sr_print.specs.declared.refusal.Refusal.TheVariants.{UnknownWord, BadForm, BadHex, Malformed, Stale, StagedFull, Rule, NoNode, NoLink, NoDestination, NotAffected, NoVersion, WatchRunning, LineTooLong, VersionsFull, NotBuilt}
+use Rattle.sr_model.specs.declared.rule.DomainRule.{DomainRule}
+use Rattle.sr_model.specs.declared.rule.DomainRule.TheVariants.{NoSrgb, SrgbBad, DuplicateIndex, IndexOutside, AdjLabelClash, ZeroMetric, DuplicateLink, TooManyNodes, TooManyLinks, Overload}
 use Rattle.sr_print.specs.Printed.{ended, node_word, word}
+
+-- the number and the name of a broken rule
+abbrev pub rule_name : DomainRule → List ℕ
+rule_name (NoSrgb node) = codes "11 NoSrgb"
+rule_name (SrgbBad node) = codes "12 SrgbBad"
+rule_name (DuplicateIndex index low high) = codes "13 DuplicateIndex"
+rule_name (IndexOutside index node) = codes "14 IndexOutside"
+rule_name (AdjLabelClash label node) = codes "15 AdjLabelClash"
+rule_name (ZeroMetric from to) = codes "16 ZeroMetric"
+rule_name (DuplicateLink from to) = codes "17 DuplicateLink"
+rule_name (TooManyNodes count) = codes "18 TooManyNodes"
+rule_name (TooManyLinks count) = codes "19 TooManyLinks"
+rule_name (Overload node) = codes "20 Overload"
 
 -- the number and the name of a refusal
 abbrev pub refusal_name : Refusal → List ℕ
@@ -12,16 +27,7 @@ refusal_name BadHex = codes "3 BadHex"
 refusal_name (Malformed offset what) = codes "4 Malformed"
 refusal_name (Stale stored given) = codes "5 Stale"
 refusal_name StagedFull = codes "6 StagedFull"
-refusal_name (NoSrgb node) = codes "11 NoSrgb"
-refusal_name (SrgbBad node) = codes "12 SrgbBad"
-refusal_name (DuplicateIndex index low high) = codes "13 DuplicateIndex"
-refusal_name (IndexOutside index node) = codes "14 IndexOutside"
-refusal_name (AdjLabelClash label node) = codes "15 AdjLabelClash"
-refusal_name (ZeroMetric from to) = codes "16 ZeroMetric"
-refusal_name (DuplicateLink from to) = codes "17 DuplicateLink"
-refusal_name (TooManyNodes count) = codes "18 TooManyNodes"
-refusal_name (TooManyLinks count) = codes "19 TooManyLinks"
-refusal_name (Overload node) = codes "20 Overload"
+refusal_name (Rule rule) = rule_name rule
 refusal_name (NoNode node) = codes "21 NoNode"
 refusal_name (NoLink from to n) = codes "22 NoLink"
 refusal_name (NoDestination node) = codes "23 NoDestination"
@@ -32,6 +38,19 @@ refusal_name LineTooLong = codes "27 LineTooLong"
 refusal_name VersionsFull = codes "28 VersionsFull"
 refusal_name NotBuilt = codes "29 NotBuilt"
 
+-- what a broken rule names: numbers in decimal digits, and nodes by their system ids
+abbrev pub rule_details : DomainRule → List ℕ
+rule_details (NoSrgb node) = node_word node
+rule_details (SrgbBad node) = node_word node
+rule_details (DuplicateIndex index low high) = word (decimal index) ++ node_word low ++ node_word high
+rule_details (IndexOutside index node) = word (decimal index) ++ node_word node
+rule_details (AdjLabelClash label node) = word (decimal label) ++ node_word node
+rule_details (ZeroMetric from to) = node_word from ++ node_word to
+rule_details (DuplicateLink from to) = node_word from ++ node_word to
+rule_details (TooManyNodes count) = word (decimal count)
+rule_details (TooManyLinks count) = word (decimal count)
+rule_details (Overload node) = node_word node
+
 -- what a refusal names: numbers in decimal digits, and nodes by their system ids
 abbrev pub details : Refusal → List ℕ
 details UnknownWord = []
@@ -40,16 +59,7 @@ details BadHex = []
 details (Malformed offset what) = word (decimal offset) ++ word (decimal what)
 details (Stale stored given) = word (decimal stored) ++ word (decimal given)
 details StagedFull = []
-details (NoSrgb node) = node_word node
-details (SrgbBad node) = node_word node
-details (DuplicateIndex index low high) = word (decimal index) ++ node_word low ++ node_word high
-details (IndexOutside index node) = word (decimal index) ++ node_word node
-details (AdjLabelClash label node) = word (decimal label) ++ node_word node
-details (ZeroMetric from to) = node_word from ++ node_word to
-details (DuplicateLink from to) = node_word from ++ node_word to
-details (TooManyNodes count) = word (decimal count)
-details (TooManyLinks count) = word (decimal count)
-details (Overload node) = node_word node
+details (Rule rule) = rule_details rule
 details (NoNode node) = node_word node
 details (NoLink from to n) = node_word from ++ node_word to ++ word (decimal n)
 details (NoDestination node) = node_word node

@@ -22,11 +22,25 @@ fn put_counts(counts: Counts, out: &mut Vec<u8>) -> Result<(), AllocError>
 /// Appends `audit version V covered C nopath P nolist L toodeep T`: the number of a version, and how
 /// many answers of its audit are lists, no path, no list and too deep.
 /// After an error a part of the line may stand there; what stood before stays.
-pub fn put_summary(version: u32, counts: Counts, out: &mut Vec<u8>) -> Result<(), AllocError>
-    ensures line { OnOk result (out.new.items ≡ out.old.items ++ summary_line version counts) }
+pub fn put_summary(
+    version: u32,
+    covered: u32,
+    nopath: u32,
+    nolist: u32,
+    toodeep: u32,
+    out: &mut Vec<u8>,
+) -> Result<(), AllocError>
+    ensures line { OnOk result (out.new.items ≡ out.old.items ++ summary_line version
+        (record { covered = covered; nopath = nopath; nolist = nolist; toodeep = toodeep })) }
     ensures err { OnErr result (BeginsWith out.old.items out.new.items) }
 {
     put_numbered(b"audit version ", u64::from(version), out)?;
+    let counts = Counts {
+        covered,
+        nopath,
+        nolist,
+        toodeep,
+    };
     put_counts(counts, out)?;
     end(out)
 }

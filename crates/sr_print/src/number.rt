@@ -17,6 +17,15 @@ pub fn put_number(number: u64, out: &mut Vec<u8>) -> Result<(), AllocError>
     out.extend_from_slice(buffer.format(number).as_bytes())
 }
 
+/// Appends a number of more than 64 bits in decimal digits. After an error what stood before stays.
+pub fn put_wide(number: u128, out: &mut Vec<u8>) -> Result<(), AllocError>
+    ensures line { OnOk result (out.new.items ≡ out.old.items ++ decimal number) }
+    ensures err { OnErr result (BeginsWith out.old.items out.new.items) }
+{
+    let mut buffer = Buffer::new();
+    out.extend_from_slice(buffer.format(number).as_bytes())
+}
+
 /// Appends a number as one more word. After an error a part of it may stand there;
 /// what stood before stays.
 #[inline(always)]

@@ -1,6 +1,6 @@
 //! Why a line is refused.
 
-use sr_model::SystemId;
+use sr_model::{DomainRule, SystemId};
 
 /// Why a line of a script is refused, with what the refusal names. The order is that of the numbers by which refusals
 /// are known (this project's rule).
@@ -25,52 +25,8 @@ pub enum Refusal {
     },
     /// As many edits are staged as may be.
     StagedFull,
-    /// A node announces no label ranges.
-    NoSrgb {
-        node: SystemId,
-    },
-    /// A node announces label ranges that are no SRGB.
-    SrgbBad {
-        node: SystemId,
-    },
-    /// Two nodes announce one index.
-    DuplicateIndex {
-        index: u32,
-        low: SystemId,
-        high: SystemId,
-    },
-    /// An announced index lies outside the label ranges of a node.
-    IndexOutside {
-        index: u32,
-        node: SystemId,
-    },
-    /// An adjacency label of a node is reserved, in its ranges, or that of two of its links.
-    AdjLabelClash {
-        label: u32,
-        node: SystemId,
-    },
-    /// A link has the metric 0.
-    ZeroMetric {
-        from: SystemId,
-        to: SystemId,
-    },
-    /// Two links have one key.
-    DuplicateLink {
-        from: SystemId,
-        to: SystemId,
-    },
-    /// There are more nodes than a net may have.
-    TooManyNodes {
-        count: u64,
-    },
-    /// There are more links than a net may have.
-    TooManyLinks {
-        count: u64,
-    },
-    /// A node is overloaded.
-    Overload {
-        node: SystemId,
-    },
+    /// The staged edits break a rule of the profile.
+    Rule(DomainRule),
     /// A system isn't a node of the current version.
     NoNode {
         node: SystemId,

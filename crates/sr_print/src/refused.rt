@@ -1,11 +1,11 @@
 //! The line of a refusal.
 ghost use Rattle.std.specs.Prelude.{◌≡◌, ◌++◌, decimal, OnOk, OnErr};
 ghost use Rattle.sr_print.specs.Printed.{BeginsWith, node_word, word};
-ghost use Rattle.sr_print.specs.Refused.{refusal_name, details, refused_line};
+ghost use Rattle.sr_print.specs.Refused.{rule_name, refusal_name, rule_details, details, refused_line};
 
 use crate::number::{put_node, put_number, put_value};
 use crate::refusal::Refusal;
-use sr_model::SystemId;
+use sr_model::{DomainRule, SystemId};
 use std::alloc::AllocError;
 
 /// Appends `refused LINE CODE NAME DETAILS`: the line of this number is refused.
@@ -23,6 +23,24 @@ pub fn put_refused(line: u32, refusal: &Refusal, out: &mut Vec<u8>) -> Result<()
     Ok(())
 }
 
+/// The number and name of a broken rule.
+fn rule_name(rule: &DomainRule) -> &'static [u8]
+    ensures { result.now ≡ rule_name rule.now }
+{
+    match rule {
+        DomainRule::NoSrgb { .. } => b"11 NoSrgb",
+        DomainRule::SrgbBad { .. } => b"12 SrgbBad",
+        DomainRule::DuplicateIndex { .. } => b"13 DuplicateIndex",
+        DomainRule::IndexOutside { .. } => b"14 IndexOutside",
+        DomainRule::AdjLabelClash { .. } => b"15 AdjLabelClash",
+        DomainRule::ZeroMetric { .. } => b"16 ZeroMetric",
+        DomainRule::DuplicateLink { .. } => b"17 DuplicateLink",
+        DomainRule::TooManyNodes { .. } => b"18 TooManyNodes",
+        DomainRule::TooManyLinks { .. } => b"19 TooManyLinks",
+        DomainRule::Overload { .. } => b"20 Overload",
+    }
+}
+
 /// The refusal's number and name.
 fn name_of(refusal: &Refusal) -> &'static [u8]
     ensures { result.now ≡ refusal_name refusal.now }
@@ -34,16 +52,7 @@ fn name_of(refusal: &Refusal) -> &'static [u8]
         Refusal::Malformed { .. } => b"4 Malformed",
         Refusal::Stale { .. } => b"5 Stale",
         Refusal::StagedFull => b"6 StagedFull",
-        Refusal::NoSrgb { .. } => b"11 NoSrgb",
-        Refusal::SrgbBad { .. } => b"12 SrgbBad",
-        Refusal::DuplicateIndex { .. } => b"13 DuplicateIndex",
-        Refusal::IndexOutside { .. } => b"14 IndexOutside",
-        Refusal::AdjLabelClash { .. } => b"15 AdjLabelClash",
-        Refusal::ZeroMetric { .. } => b"16 ZeroMetric",
-        Refusal::DuplicateLink { .. } => b"17 DuplicateLink",
-        Refusal::TooManyNodes { .. } => b"18 TooManyNodes",
-        Refusal::TooManyLinks { .. } => b"19 TooManyLinks",
-        Refusal::Overload { .. } => b"20 Overload",
+        Refusal::Rule(rule) => rule_name(rule),
         Refusal::NoNode { .. } => b"21 NoNode",
         Refusal::NoLink { .. } => b"22 NoLink",
         Refusal::NoDestination { .. } => b"23 NoDestination",
@@ -53,6 +62,31 @@ fn name_of(refusal: &Refusal) -> &'static [u8]
         Refusal::LineTooLong => b"27 LineTooLong",
         Refusal::VersionsFull => b"28 VersionsFull",
         Refusal::NotBuilt => b"29 NotBuilt",
+    }
+}
+
+/// Appends what a broken rule names. After an error a part of it may stand there;
+/// what stood before stays.
+fn put_rule_details(rule: &DomainRule, out: &mut Vec<u8>) -> Result<(), AllocError>
+    ensures line { OnOk result (out.new.items ≡ out.old.items ++ rule_details rule.now) }
+    ensures err { OnErr result (BeginsWith out.old.items out.new.items) }
+{
+    match rule {
+        DomainRule::DuplicateIndex { index, low, high } => {
+            put_value(u64::from(*index), out)?;
+            put_nodes(*low, *high, out)
+        }
+        DomainRule::IndexOutside { index, node } => put_value_at(*index, *node, out),
+        DomainRule::AdjLabelClash { label, node } => put_value_at(*label, *node, out),
+        DomainRule::ZeroMetric { from, to } | DomainRule::DuplicateLink { from, to } => {
+            put_nodes(*from, *to, out)
+        }
+        DomainRule::TooManyNodes { count } | DomainRule::TooManyLinks { count } => {
+            put_value(*count, out)
+        }
+        DomainRule::NoSrgb { node }
+        | DomainRule::SrgbBad { node }
+        | DomainRule::Overload { node } => put_node(*node, out),
     }
 }
 
@@ -67,29 +101,23 @@ fn put_details(refusal: &Refusal, out: &mut Vec<u8>) -> Result<(), AllocError>
         Refusal::Stale { stored, given } => {
             put_values(u64::from(*stored), u64::from(*given), out)
         }
-        Refusal::DuplicateIndex { index, low, high } => {
-            put_value(u64::from(*index), out)?;
-            put_nodes(*low, *high, out)
-        }
-        Refusal::IndexOutside { index, node } => put_value_at(*index, *node, out),
-        Refusal::AdjLabelClash { label, node } => put_value_at(*label, *node, out),
-        Refusal::ZeroMetric { from, to } | Refusal::DuplicateLink { from, to } => {
-            put_nodes(*from, *to, out)
-        }
-        Refusal::TooManyNodes { count } | Refusal::TooManyLinks { count } => {
-            put_value(*count, out)
-        }
+        Refusal::Rule(rule) => put_rule_details(rule, out),
         Refusal::NoLink { from, to, n } => {
             put_nodes(*from, *to, out)?;
             put_value(u64::from(*n), out)
         }
-        Refusal::NoSrgb { node }
-        | Refusal::SrgbBad { node }
-        | Refusal::Overload { node }
-        | Refusal::NoNode { node }
+        Refusal::NoNode { node }
         | Refusal::NoDestination { node }
         | Refusal::NotAffected { node } => put_node(*node, out),
-        _ => Ok(()),
+        Refusal::UnknownWord
+        | Refusal::BadForm
+        | Refusal::BadHex
+        | Refusal::StagedFull
+        | Refusal::NoVersion
+        | Refusal::WatchRunning
+        | Refusal::LineTooLong
+        | Refusal::VersionsFull
+        | Refusal::NotBuilt => Ok(()),
     }
 }
 

@@ -5,7 +5,7 @@ use crate::{
     put_dist, put_dropped, put_refused, put_show, put_staged, put_summary, put_version,
     put_walk_uncovered,
 };
-use sr_model::{Answer, Counts, SystemId};
+use sr_model::{Answer, DomainRule, SystemId};
 use std::alloc::AllocError;
 
 #[test]
@@ -40,19 +40,19 @@ fn refusals_are_printed(rt: HostRuntime) -> Result<(), AllocError> {
     )?;
     put_refused(
         3,
-        &Refusal::DuplicateIndex {
+        &Refusal::Rule(DomainRule::DuplicateIndex {
             index: 3,
             low,
             high,
-        },
+        }),
         &mut out,
     )?;
     put_refused(
         4,
-        &Refusal::IndexOutside {
+        &Refusal::Rule(DomainRule::IndexOutside {
             index: 300,
             node: low,
-        },
+        }),
         &mut out,
     )?;
     put_refused(
@@ -64,7 +64,11 @@ fn refusals_are_printed(rt: HostRuntime) -> Result<(), AllocError> {
         },
         &mut out,
     )?;
-    put_refused(6, &Refusal::TooManyLinks { count: 2_070 }, &mut out)?;
+    put_refused(
+        6,
+        &Refusal::Rule(DomainRule::TooManyLinks { count: 2_070 }),
+        &mut out,
+    )?;
     let text =
         "refused 1 25 NoVersion\nrefused 2 4 Malformed 45 8\nrefused 3 13 DuplicateIndex 3 0000.0000.0003 0000.0000.0abc\nrefused 4 14 IndexOutside 300 0000.0000.0003\nrefused 5 22 NoLink 0000.0000.0003 0000.0000.0abc 1\nrefused 6 19 TooManyLinks 2070\n";
     assert_eq!(rt; out.as_slice(), text.as_bytes());
@@ -85,14 +89,8 @@ fn counts_of_audits_are_printed(rt: HostRuntime) -> Result<(), AllocError> {
             "audit version 65535 covered 4 nopath 300 nolist 20 toodeep 1000\n",
         ),
     ] {
-        let counts = Counts {
-            covered,
-            nopath,
-            nolist,
-            toodeep,
-        };
         let mut out = Vec::new(rt.alloc());
-        put_summary(version, counts, &mut out)?;
+        put_summary(version, covered, nopath, nolist, toodeep, &mut out)?;
         assert_eq!(rt; out.as_slice(), line.as_bytes());
     }
     Ok(())

@@ -8,22 +8,21 @@ ghost use Rattle.sr_print.specs.Forwarding.{nodes_text, walk_line};
 ghost use Rattle.sr_print.specs.Links.{AreLinks};
 ghost use Rattle.sr_print.specs.Printed.{BeginsWith};
 
-use crate::line::{end, put_numbered};
-use crate::number::put_node;
+use crate::line::end;
+use crate::number::{put_node, put_wide};
 use sr_graph::Graph;
 use sr_labels::Net;
 use sr_model::{LinkNo, NodeNo};
 use std::alloc::AllocError;
 
-/// The sum of the links' metrics.
-fn cost(graph: &Graph, links: &[LinkNo]) -> u64
-    requires links { AreLinks graph.now links.now }
-    requires fits { cost graph.now (numbers links.now) < 2 ^ 64 }
+/// The sum of the links' metrics: each is below 2^24, and there are fewer than 2^64 of them.
+fn cost(graph: &Graph, links: &[LinkNo]) -> u128
+    requires { AreLinks graph.now links.now }
     ensures { result ≡ cost graph.now (numbers links.now) }
 {
     let mut sum = 0;
     for link in links {
-        sum += u64::from(graph.link(*link).metric);
+        sum += u128::from(graph.link(*link).metric);
     }
     sum
 }
@@ -49,8 +48,7 @@ fn put_nodes(
 }
 
 /// Appends `walk NODE NODE .. cost C`: the node at which the walk starts, the end of each of its
-/// links, and the sum of their metrics; `walk none` where there is no walk. The sum fits 64 bits,
-/// as a distance does.
+/// links, and the sum of their metrics; `walk none` where there is no walk.
 /// After an error a part of the line may stand there; what stood before stays.
 pub fn put_walk(
     net: &Net,
@@ -60,7 +58,6 @@ pub fn put_walk(
 ) -> Result<(), AllocError>
     requires start { start.0 < node_count net.now.graph }
     requires links { IfSome (option_copied links) (AreLinks net.now.graph) }
-    requires fits { IfSome (option_copied links) (λ walk. cost net.now.graph (numbers walk) < 2 ^ 64) }
     ensures line { OnOk result (out.new.items ≡ out.old.items ++ walk_line net.now start.0 (option_copied links.entry)) }
     ensures err { OnErr result (BeginsWith out.old.items out.new.items) }
 {
@@ -70,7 +67,8 @@ pub fn put_walk(
             let graph = net.graph();
             out.extend_from_slice(b"walk")?;
             put_nodes(graph, start, walk, out)?;
-            put_numbered(b" cost ", cost(graph, walk), out)?;
+            out.extend_from_slice(b" cost ")?;
+            put_wide(cost(graph, walk), out)?;
             end(out)
         }
     }

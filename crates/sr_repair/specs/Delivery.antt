@@ -19,12 +19,13 @@ pub record RepairDelivers (n : Net) (case : Case) (d : ℕ) (list : RepairList) 
   pub distinct : (rest : List ℕ) (ms : List Move) (v : ℕ) (after : List ℕ) → Run n [] rest (head n.graph list.first.0) (labels ++ rest) ms v after
       → AreDistinct (source_of n.graph case ∷ stops n.graph (list.first.0 ∷ crossed ms))
 
--- in this net every repair of every case delivers under its stack
+-- in this net every repair of every case has a stack, and delivers under it
 abbrev pub EachRepairDelivers : Net → Type 0
 EachRepairDelivers n =
-    (case : Case) (d : ℕ) (list : RepairList) (labels : List ℕ) → IsCase n.graph case → IsAffected n case d → IsCaseAnswer n case d (Least list) → IsStack n d list.first.0 list.segments labels → RepairDelivers n case d list labels
+    (case : Case) (d : ℕ) (list : RepairList) → IsCase n.graph case → IsAffected n case d → IsCaseAnswer n case d (Least list)
+    → (labels : List ℕ) × IsStack n d list.first.0 list.segments labels × RepairDelivers n case d list labels
 
--- in every net every repair delivers
+-- in every net every repair has a stack, and delivers under it
 abbrev pub RepairsDeliver : Type 0
 RepairsDeliver = (n : Net) → IsNet n → EachRepairDelivers n
 

@@ -47,6 +47,7 @@ pub(crate) fn all_kept<L: Ledger>(
     ensures found { IfOk result (λ found. found.items ≡ map kept_of passed.items) }
     ensures steps { OnOk result (steps.new ≡ steps.old + searches passed.items) }
     ensures most { steps.new ≤ steps.old + searches passed.items }
+    ensures least { steps.old ≤ steps.new }
 {
     let mut found = Vec::with_capacity(alloc, passed.len())?;
     for one in passed {

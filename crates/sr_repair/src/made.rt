@@ -65,6 +65,7 @@ pub(crate) fn made_of<L: Ledger>(
     ensures fib { IfOk result (λ made. IsFib net.now made.fib) }
     ensures found { IfOk result (λ made. AreAllFound net.now (case_count net.now.graph) made.found.items) }
     ensures most { steps.new ≤ steps.old + case_count net.now.graph }
+    ensures least { steps.old ≤ steps.new }
 {
     let (fib, passed) = fib_and_passes(rt, alloc, net, trees)?;
     let found = all_kept(alloc, passed, steps)?;

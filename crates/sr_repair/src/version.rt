@@ -61,6 +61,7 @@ impl Version {
     ) -> Result<Version, AllocError>
         ensures version { IfOk result (λ v. v ≡ version_of 1 net) }
         ensures most { steps.new ≤ steps.old + node_count net.graph + 3 * link_count net.graph }
+        ensures least { steps.old ≤ steps.new }
     {
         Version::numbered(rt, alloc, 1, net, steps)
     }
@@ -77,6 +78,7 @@ impl Version {
         requires { self.now.number < 65535 }
         ensures version { IfOk result (λ v. v ≡ version_of (self.now.number + 1) net) }
         ensures most { steps.new ≤ steps.old + node_count net.graph + 3 * link_count net.graph }
+        ensures least { steps.old ≤ steps.new }
     {
         Version::numbered(rt, alloc, self.number + 1, net, steps)
     }
@@ -105,6 +107,7 @@ impl Version {
     ) -> Result<Version, AllocError>
         ensures version { IfOk result (λ v. v ≡ version_of number net) }
         ensures most { steps.new ≤ steps.old + node_count net.graph + 3 * link_count net.graph }
+        ensures least { steps.old ≤ steps.new }
     {
         let trees = Trees::build(rt, alloc, net.graph(), steps)?;
         let Made { fib, found } = made_of(rt, alloc, &net, &trees, steps)?;

@@ -1,5 +1,11 @@
-pub mod State
-pub mod Refusals
+pub mod Domain
+pub mod Names
+pub mod Edits
+pub mod Questions
+pub mod Failures
 pub mod Session
 pub mod Words
 pub mod Program
+pub mod State
+pub mod Handlers
+pub mod Laws

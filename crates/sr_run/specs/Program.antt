@@ -1,29 +1,95 @@
 -- What the program does to its source and its sink, and the status that it ends with.
-use Rattle.std.specs.Prelude.{ℕ, List, String}
-use Rattle.std.specs.declared.option.Option.{Option}
+use Rattle.std.specs.Prelude.{◌≡◌, ℕ, ◌+◌, ◌<◌, ◌≤◌, ◌⊎◌, Bool, List, [], All, length, String, Some}
 use Rattle.std.specs.declared.alloc.Global.{Global}
-use Rattle.sr_engine.specs.Statuses.{Outcome, Completes}
-use Rattle.sr_run.specs.State.{opening}
-use Rattle.sr_run.specs.Session.{Answers, Ends}
+use Rattle.std.specs.Io.KnownBytes.{Consumes, Appends, IsAtEnd}
+use Rattle.sr_base.specs.Faults.{Rose}
+use Rattle.sr_repair.specs.Delivery.{EachRepairDelivers}
+use Rattle.sr_engine.specs.Lines.{script_of, most_bytes}
+use Rattle.sr_engine.specs.Replies.{Answered, Script}
+use Rattle.sr_engine.specs.Endings.{Devices, BeginsOutput, status_of}
+use Rattle.sr_engine.specs.declared.end.End.{End}
+use Rattle.sr_engine.specs.declared.end.End.TheVariants.{Done, ReadFailed, WriteFailed, Memory, TooMuch}
+use Rattle.sr_run.specs.Domain.{Domain, opening}
+use Rattle.sr_run.specs.Session.{Answers, conduct}
 use Rattle.sr_run.specs.Words.{AskRun}
 
--- the bytes that the source has left and that the sink holds, where they tell, and their counts of faults
-pub record Devices : Type 0 where
-  pub left : Option (List ℕ)
-  pub held : Option (List ℕ)
-  pub read_faults : ℕ
-  pub write_faults : ℕ
+-- a run of the program: the devices before and after it, the bytes that it took, and those that it wrote
+pub record Run : Type 0 where
+  pub old : Devices
+  pub new : Devices
+  pub taken : List ℕ
+  pub out : List ℕ
 
--- what a source and a sink show
-abbrev pub devices_of : Option (List ℕ) → Option (List ℕ) → ℕ → ℕ → Devices
-devices_of left held read_faults write_faults = record { left = left; held = held; read_faults = read_faults; write_faults = write_faults }
+-- no read failed
+abbrev pub ReadsWell : Run → Type 0
+ReadsWell run = run.new.read_faults ≡ run.old.read_faults
 
--- the words ask for a run exactly where they are the one word `run`; then the bytes taken are a script, the bytes written are its answers, and the status says how far both go
-abbrev pub RunsTo : List (String Global) → Devices → Devices → ℕ → Type 0
-RunsTo words old new status =
-    Outcome (AskRun words) Answers Ends opening old.left new.left old.held new.held old.read_faults new.read_faults old.write_faults new.write_faults status
+-- no write failed
+abbrev pub WritesWell : Run → Type 0
+WritesWell run = run.new.write_faults ≡ run.old.write_faults
 
--- a script that isn't too long, read and written without a fault, is answered to its end, or memory is wanted
+-- a read failed
+abbrev pub FailsReading : Run → Type 0
+FailsReading run = Rose run.old.read_faults run.new.read_faults
+
+-- a write failed
+abbrev pub FailsWriting : Run → Type 0
+FailsWriting run = Rose run.old.write_faults run.new.write_faults
+
+-- in the net of each accepted commit every repair of every case has a stack, and delivers under it
+abbrev pub EachDelivers : Domain → Type 0
+EachDelivers domain = All EachRepairDelivers domain.nets
+
+-- the script was read to its end without a fault, and all of it was answered
+pub record AnswersScript (run : Run) (refused : Bool) : Type 0 where
+  pub at_end : IsAtEnd run.new.left
+  pub few : length run.taken ≤ most_bytes
+  pub final : Domain
+  pub script : Script conduct opening run.taken run.out refused final
+  pub delivers : EachDelivers final
+  pub reads : ReadsWell run
+  pub writes : WritesWell run
+
+-- all lines that end within these first bytes were answered
+abbrev pub AnswersLines : Run → List ℕ → Type 0
+AnswersLines run bytes = Answered Answers opening bytes run.out
+
+-- what was written is a beginning of what may be answered to some first lines, or to the whole script
+abbrev pub BeginsToAnswer : Run → Type 0
+BeginsToAnswer run = BeginsOutput conduct opening run.new.left run.taken run.out
+
+-- how a run over a script ended says of it: the script was read to its end; a read failed, and all lines before were answered; a write failed or memory ran out, and a beginning was written; or there are too many bytes, and the lines within the first of them were answered
+abbrev pub EndShows : Run → End → Type 0
+EndShows run (Done refused) = AnswersScript run refused
+EndShows run ReadFailed = AnswersLines run run.taken × FailsReading run × WritesWell run
+EndShows run WriteFailed = BeginsToAnswer run × FailsWriting run × ReadsWell run
+EndShows run Memory = BeginsToAnswer run × ReadsWell run × WritesWell run
+EndShows run TooMuch = (most_bytes < length run.taken) × AnswersLines run (script_of run.taken) × ReadsWell run × WritesWell run
+
+-- nothing was read and nothing written
+pub record DoesNothing (run : Run) : Type 0 where
+  pub taken : run.taken ≡ []
+  pub out : run.out ≡ []
+  pub reads : ReadsWell run
+  pub writes : WritesWell run
+
+-- the words are `run`, and the status tells how the run over the script ended: 0 or 1 where it was read to its end, by whether a line was refused, 3 where a read failed, 4 where a write failed, 5 where memory ran out, 6 where there are too many bytes; or they are no command, the status is 2, and nothing was done
+abbrev pub StatusShows : List (String Global) → Run → ℕ → Type 0
+StatusShows words run status =
+    (AskRun words × (end : End) × (status ≡ status_of end) × EndShows run end)
+    ⊎ (¬ AskRun words × (status ≡ 2) × DoesNothing run)
+
+-- these bytes were taken from the source, none past the first one too many, those were appended to the sink, and the status says what they are
+pub record RunsTo (words : List (String Global)) (old new : Devices) (status : ℕ) : Type 0 where
+  pub taken : List ℕ
+  pub took : Consumes old.left new.left taken
+  pub few : length taken ≤ most_bytes + 1
+  pub out : List ℕ
+  pub appended : Appends old.held new.held out
+  pub shows : StatusShows words (record { old = old; new = new; taken = taken; out = out }) status
+
+-- where the source tells what it has left: a script that isn't too long, read and written without a fault, is answered to its end, or memory runs out
 abbrev pub RunsThrough : List (String Global) → Devices → Devices → ℕ → Type 0
-RunsThrough words old new status =
-    Completes (AskRun words) old.left old.read_faults new.read_faults old.write_faults new.write_faults status
+RunsThrough words old new status = (bytes : List ℕ) → old.left ≡ Some bytes → AskRun words → length bytes ≤ most_bytes
+    → ¬ Rose old.read_faults new.read_faults → ¬ Rose old.write_faults new.write_faults
+    → (status ≡ 0) ⊎ (status ≡ 1) ⊎ (status ≡ 5)

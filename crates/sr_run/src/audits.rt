@@ -1,72 +1,124 @@
 //! The audit of the last version: `audit` and `audit full`.
-ghost use Rattle.std.specs.Prelude.{◌≤◌, IfOk};
-ghost use Rattle.sr_repair.specs.Answers.{case_count};
-ghost use Rattle.sr_script.specs.declared.command.Command.TheVariants.{Audit, AuditFull};
-ghost use Rattle.sr_run.specs.Session.{GivesAnswer, GivesRest, GoesOn, IsCarriedOut};
+ghost use Rattle.std.specs.Prelude.{◌≡◌, ◌++◌, true, is_some, OnOk};
+ghost use Rattle.sr_print.specs.Names.{AreNames};
+ghost use Rattle.sr_print.specs.Repairs.{summary_line};
+ghost use Rattle.sr_engine.specs.Written.{written};
+ghost use Rattle.sr_run.specs.Session.{TellsOf};
+ghost use Rattle.sr_run.specs.Failures.{TellsSummary};
+ghost use Rattle.sr_run.specs.Handlers.{BeginsAudit, Carries, WritesAudit, WritesCases, WritesCounts};
 
-use crate::session::DomainSession;
+use crate::names::last_version;
+use crate::session::Reply;
+use crate::stop::{Stop, found};
 use sr_audit::counts;
-use sr_engine::Reply;
-use sr_listing::put_audit;
-use sr_print::{Refusal, put_summary};
+use sr_base::{Sink, SinkFault};
+use sr_engine::Answers;
+use sr_listing::put_case;
+use sr_model::Counts;
+use sr_print::{Names, put_summary};
 use sr_repair::{Version, case_count};
 use std::alloc::{AllocError, Global};
 
-/// Appends what `audit full` says of the version from the case at this place on, or a part of it where that is long.
-fn put_rest(
-    alloc: Global,
-    version: &Version,
-    place: u32,
-    out: &mut Vec<u8>,
-) -> Result<Reply, AllocError>
-    requires { place ≤ case_count version.now.net.graph }
-    ensures { IfOk result (GivesRest version.now place out.old.items out.new.items) }
+/// Appends how many answers of each sort the audit of the version of this number has.
+fn put_counts(number: u32, counts: Counts, out: &mut Vec<u8>) -> Result<(), AllocError>
+    ensures { OnOk result (out.new.items ≡ out.old.items ++ summary_line number counts) }
 {
-    version.is_answered();
-    let net = version.net();
-    let next = put_audit(alloc, version, place, out)?;
-    if next < case_count(net.graph()) {
-        return Ok(Reply::Part(next));
-    }
-    put_summary(version.number(), counts(version), out)?;
-    Ok(Reply::Whole(false))
+    put_summary(
+        number,
+        counts.covered,
+        counts.nopath,
+        counts.nolist,
+        counts.toodeep,
+        out,
+    )
 }
 
-impl DomainSession {
-    /// Carries out `audit`.
-    pub(crate) fn sum_up(&self, number: u32, out: &mut Vec<u8>) -> Result<bool, AllocError>
-        ensures { IfOk result (λ refused.
-            IsCarriedOut Audit number self.now out.old.items out.new.items refused self.now) }
-    {
-        let version = match &self.current {
-            Some(version) => version,
-            None => return DomainSession::refuse(number, &Refusal::NoVersion, out),
-        };
-        put_summary(version.number(), counts(version), out)?;
-        Ok(false)
-    }
+/// `audit`: appends how many answers of each sort the audit of the last version has.
+pub(crate) fn audit(current: &Option<Version>, out: &mut Vec<u8>) -> Result<(), Stop>
+    ensures { Carries (TellsOf TellsSummary current.now) out.old.items out.new.items result }
+{
+    let version = found!(last_version(current));
+    put_counts(version.number(), counts(version), out)?;
+    Ok(())
+}
 
-    /// Carries out `audit full`, or begins to.
-    pub(crate) fn audit_whole(&self, number: u32, out: &mut Vec<u8>) -> Result<Reply, AllocError>
-        ensures { IfOk result (λ reply.
-            GivesAnswer AuditFull number self.now out.old.items out.new.items reply self.now) }
-    {
-        match &self.current {
-            Some(version) => put_rest(self.alloc, version, 0, out),
-            None => Ok(Reply::Whole(DomainSession::refuse(number, &Refusal::NoVersion, out)?)),
+/// `audit full`: whether there is a version of which the audit can be written.
+pub(crate) fn begin_audit(current: &Option<Version>) -> Result<Reply, Stop>
+    ensures { BeginsAudit current.now result }
+{
+    let _version = found!(last_version(current));
+    Ok(Reply::Audit)
+}
+
+/// Writes the answers of all cases of the version, case by case. `names` are those of its net.
+fn write_cases<K: Sink>(
+    version: &Version,
+    names: &Names,
+    text: &mut Vec<u8>,
+    out: &mut Answers,
+    sink: &mut K,
+) -> Result<(), SinkFault>
+    requires { AreNames version.now.net names.now }
+    ensures { WritesCases version.now.net
+        (written (K.held sink.old) (K.faults sink.old) out.old)
+        (written (K.held sink.new) (K.faults sink.new) out.new) result }
+{
+    version.is_answered();
+    for place in 0..case_count(version.net().graph()) {
+        text.clear();
+        match put_case(version, place, names, text) {
+            Ok(()) => match out.put(sink, text) {
+                Ok(()) => {}
+                Err(fault) => return Err(fault),
+            },
+            Err(error) => return Err(SinkFault::Memory(error)),
         }
     }
+    Ok(())
+}
 
-    /// Goes on with `audit full` from the case at this place.
-    pub(crate) fn audit_on(&self, place: u32, out: &mut Vec<u8>) -> Result<Reply, AllocError>
-        ensures { IfOk result (λ reply. GoesOn self.now.current place out.old.items out.new.items reply) }
-    {
-        match &self.current {
-            Some(version) if place <= case_count(version.net().graph()) => {
-                put_rest(self.alloc, version, place, out)
-            }
-            // No answer goes on from such a place.
-            _ => Err(AllocError),
-        }
+/// Writes how many answers of each sort the audit of the version has.
+fn write_counts<K: Sink>(
+    version: &Version,
+    text: &mut Vec<u8>,
+    out: &mut Answers,
+    sink: &mut K,
+) -> Result<(), SinkFault>
+    ensures { WritesCounts version.now
+        (written (K.held sink.old) (K.faults sink.old) out.old)
+        (written (K.held sink.new) (K.faults sink.new) out.new) result }
+{
+    text.clear();
+    match put_counts(version.number(), counts(version), text) {
+        Ok(()) => out.put(sink, text),
+        Err(error) => Err(SinkFault::Memory(error)),
+    }
+}
+
+/// Writes the audit of the last version, which there is: the answers of all cases, and how many there are of each sort.
+pub(crate) fn put_audit<K: Sink>(
+    alloc: Global,
+    current: &Option<Version>,
+    text: &mut Vec<u8>,
+    out: &mut Answers,
+    sink: &mut K,
+) -> Result<(), SinkFault>
+    requires { is_some current.now ≡ true }
+    ensures { WritesAudit current.now
+        (written (K.held sink.old) (K.faults sink.old) out.old)
+        (written (K.held sink.new) (K.faults sink.new) out.new) result }
+{
+    let version = match current {
+        Some(version) => version,
+        None => unreachable!(),
+    };
+    version.is_answered();
+    let names = match Names::of(alloc, version.net()) {
+        Ok(names) => names,
+        Err(error) => return Err(SinkFault::Memory(error)),
+    };
+    match write_cases(version, &names, text, out, sink) {
+        Ok(()) => write_counts(version, text, out, sink),
+        Err(fault) => Err(fault),
     }
 }

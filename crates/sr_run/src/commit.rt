@@ -6,22 +6,23 @@ ghost use Rattle.sr_domain.specs.Net.{IsNetOf};
 ghost use Rattle.sr_domain.specs.Rules.{IsFirstBroken};
 ghost use Rattle.sr_script.specs.declared.command.Command.TheVariants.{Commit};
 ghost use Rattle.sr_print.specs.Printed.{version_line};
-ghost use Rattle.sr_repair.specs.Delivery.{EachRepairDelivers};
 ghost use Rattle.sr_repair.specs.Version.{version_of};
-ghost use Rattle.sr_run.specs.State.{number_of};
-ghost use Rattle.sr_run.specs.Session.{IsCarriedOut, IsNext};
+ghost use Rattle.sr_run.specs.Domain.{number_of};
+ghost use Rattle.sr_run.specs.State.{IsNext};
+ghost use Rattle.sr_run.specs.Handlers.{CarriesOut};
 
-use crate::refusals::refusal_of_rule;
 use crate::session::DomainSession;
-use sr_domain::{DomainFault, DomainRule, net_of};
+use crate::stop::Stop;
+use sr_base::Runtime;
+use sr_domain::{DomainFault, net_of};
 use sr_labels::Net;
+use sr_model::DomainRule;
 use sr_print::{Refusal, put_version};
 use sr_repair::Version;
 use sr_spf::Steps;
 use std::alloc::{AllocError, Global};
 use std::marker::Brand;
 use std::sync::ledger::{Blank, Ledger};
-use std::thread::Threads;
 
 /// The most commits that a session accepts.
 const MOST_VERSIONS: u32 = 65_535;
@@ -38,13 +39,13 @@ pub(crate) fn last_number(current: &Option<Version>) -> u32
 
 /// The version of this net after the last one. The searches are counted by a counter of its own.
 fn version_counted<L: Ledger>(
-    rt: &(impl Threads + Sync),
+    rt: &impl Runtime,
     alloc: Global,
     current: &Option<Version>,
     net: Net,
     blank: Blank,
 ) -> Result<Version, AllocError>
-    requires room { number_of current.now < 65535 }
+    requires room { number_of current.now < MOST_VERSIONS }
     requires name { blank.name ≡ L.name }
     requires parts { (blank.parts ≡ L.parts) × (0 < L.parts) }
     ensures { IfOk result (λ version. version ≡ version_of (number_of current.now + 1) net) }
@@ -58,12 +59,12 @@ fn version_counted<L: Ledger>(
 
 /// The version of this net after the last one.
 fn version_after(
-    rt: &(impl Threads + Sync),
+    rt: &impl Runtime,
     alloc: Global,
     current: &Option<Version>,
     net: Net,
 ) -> Result<Version, AllocError>
-    requires { number_of current.now < 65535 }
+    requires { number_of current.now < MOST_VERSIONS }
     ensures { IfOk result (λ version. version ≡ version_of (number_of current.now + 1) net) }
 {
     version_counted::<Brand>(rt, alloc, current, net, Blank::new(1))
@@ -73,7 +74,7 @@ impl DomainSession {
     /// The last version with the next number, where nothing was staged after it: its net is that of the tentative facts
     /// too.
     fn take_current(&mut self) -> Option<Version>
-        requires { number_of self.old.current < 65535 }
+        requires { number_of self.old.current < MOST_VERSIONS }
         ensures some { IfSome result (IsNext self.old) }
         ensures editing { self.new.editing ≡ self.old.editing }
         ensures none { IfNone result (self.new ≡ self.old) }
@@ -89,11 +90,8 @@ impl DomainSession {
     }
 
     /// Makes the version of the tentative facts, or answers the first rule that they break.
-    fn next_version(
-        &self,
-        rt: &(impl Threads + Sync),
-    ) -> Result<Result<Version, DomainRule>, AllocError>
-        requires { number_of self.now.current < 65535 }
+    fn next_version(&self, rt: &impl Runtime) -> Result<Result<Version, DomainRule>, AllocError>
+        requires { number_of self.now.current < MOST_VERSIONS }
         ensures { IfOk result (λ made. MatchResult made
             (IsNext self.now)
             (IsFirstBroken self.now.editing.tentative)) }
@@ -110,11 +108,8 @@ impl DomainSession {
     }
 
     /// The version of the tentative facts, or the first rule that they break.
-    fn make_version(
-        &mut self,
-        rt: &(impl Threads + Sync),
-    ) -> Result<Result<Version, DomainRule>, AllocError>
-        requires { number_of self.old.current < 65535 }
+    fn make_version(&mut self, rt: &impl Runtime) -> Result<Result<Version, DomainRule>, AllocError>
+        requires { number_of self.old.current < MOST_VERSIONS }
         ensures made { IfOk result (λ made. MatchResult made
             (IsNext self.old)
             (IsFirstBroken self.old.editing.tentative)) }
@@ -127,16 +122,14 @@ impl DomainSession {
         }
     }
 
-    /// Accepts the tentative facts with their version, in the net of which every repair delivers, and says its number,
-    /// nodes and links.
+    /// Appends the number, nodes and links of a version, and accepts the tentative facts with it.
     fn publish(&mut self, version: Version, out: &mut Vec<u8>) -> Result<(), AllocError>
-        requires room { version.number ≤ 65535 }
+        requires room { version.number ≤ MOST_VERSIONS }
         requires net { IsNetOf self.old.editing.tentative version.net }
         ensures said { OnOk result (out.new.items ≡ out.old.items ++
             version_line version.number (node_count version.net.graph) (link_count version.net.graph)) }
         ensures editing { OnOk result (self.new.editing ≡ with_accepted self.old.editing) }
         ensures version { OnOk result (self.new.current ≡ Some version) }
-        ensures delivers { OnOk result (EachRepairDelivers version.net) }
     {
         let graph = version.net().graph();
         put_version(
@@ -150,27 +143,19 @@ impl DomainSession {
         Ok(())
     }
 
-    /// Carries out `commit`.
-    pub(crate) fn commit(
-        &mut self,
-        rt: &(impl Threads + Sync),
-        number: u32,
-        out: &mut Vec<u8>,
-    ) -> Result<bool, AllocError>
-        ensures { IfOk result (λ refused.
-            IsCarriedOut Commit number self.old out.old.items out.new.items refused self.new) }
+    /// `commit`: accepts the tentative facts with their net as the next version, or drops the staged edits and answers
+    /// the first rule that they break.
+    pub(crate) fn commit(&mut self, rt: &impl Runtime, out: &mut Vec<u8>) -> Result<(), Stop>
+        ensures { CarriesOut Commit self.old self.new out.old.items out.new.items result }
     {
         if last_number(&self.current) >= MOST_VERSIONS {
-            return DomainSession::refuse(number, &Refusal::VersionsFull, out);
+            return Err(Stop::Refused(Refusal::VersionsFull));
         }
         match self.make_version(rt)? {
-            Ok(version) => {
-                self.publish(version, out)?;
-                Ok(false)
-            }
+            Ok(version) => Ok(self.publish(version, out)?),
             Err(rule) => {
                 let _dropped = self.editor.drop_staged();
-                DomainSession::refuse(number, &refusal_of_rule(&rule), out)
+                Err(Stop::Refused(Refusal::Rule(rule)))
             }
         }
     }

@@ -1,41 +1,36 @@
-//! Edits: `lsp`, `cost`, `down`, `up` and `depth`.
-ghost use Rattle.std.specs.Prelude.{◌≡◌, ◌<◌, ◌≤◌, List, ℕ, IfOk};
-ghost use Rattle.sr_script.specs.declared.command.Command.TheVariants.{Lsp as LspWord, Cost, Down, Up, Depth};
-ghost use Rattle.sr_run.specs.Refusals.{refusal_of_malformed};
-ghost use Rattle.sr_run.specs.Session.{IsCarriedOut, IsToldAs};
+//! Edits: `lsp`, `cost`, `down`, `up` and `depth`, and `drop`.
+ghost use Rattle.std.specs.Prelude.{◌≡◌, ◌≤◌, List, ℕ};
+ghost use Rattle.sr_lsdb.specs.Staging.{Stages};
+ghost use Rattle.sr_script.specs.declared.command.Command.TheVariants.{Lsp as LspWord, Depth, DropStaged};
+ghost use Rattle.sr_run.specs.Edits.{EditsLink, malformed_pdu};
+ghost use Rattle.sr_run.specs.Handlers.{Carries, CarriesOut, IsLinkEdit, Moves, TellsStaged, edit_of};
 
-use crate::names::find_link;
+use crate::names::{find_announced, last_version};
 use crate::session::DomainSession;
-use sr_lsdb::StageFault;
+use crate::stop::{Stop, found};
+use sr_lsdb::{Editor, StageFault};
 use sr_lsp::{Malformed, ReadFault, read_lsp};
-use sr_model::SystemId;
-use sr_print::{Refusal, put_staged};
-use std::alloc::AllocError;
+use sr_model::LinkKey;
+use sr_print::{Refusal, put_dropped, put_staged};
+use sr_script::LinkName;
 
-/// Says how many edits are staged, or why an edit wasn't.
-fn tell_staged(
-    number: u32,
-    staged: Result<u32, StageFault>,
-    out: &mut Vec<u8>,
-) -> Result<bool, AllocError>
-    ensures { IfOk result (IsToldAs staged number out.old.items out.new.items) }
+/// Appends how many edits are staged, or answers why the edit isn't.
+fn put_stage(staged: Result<u32, StageFault>, out: &mut Vec<u8>) -> Result<(), Stop>
+    ensures { Carries (TellsStaged staged) out.old.items out.new.items result }
 {
     match staged {
-        Ok(count) => {
-            put_staged(count, out)?;
-            Ok(false)
-        }
+        Ok(count) => Ok(put_staged(count, out)?),
         Err(StageFault::Stale { stored, given }) => {
-            DomainSession::refuse(number, &Refusal::Stale { stored, given }, out)
+            Err(Stop::Refused(Refusal::Stale { stored, given }))
         }
-        Err(StageFault::Full) => DomainSession::refuse(number, &Refusal::StagedFull, out),
-        Err(StageFault::Memory(wanting)) => Err(wanting),
+        Err(StageFault::Full) => Err(Stop::Refused(Refusal::StagedFull)),
+        Err(StageFault::Memory(error)) => Err(Stop::Memory(error)),
     }
 }
 
 /// The refusal of octets that fail a check.
 fn refusal_of(malformed: &Malformed) -> Refusal
-    ensures { result ≡ refusal_of_malformed malformed.now }
+    ensures { result ≡ malformed_pdu malformed.now }
 {
     Refusal::Malformed {
         offset: malformed.offset as u64,
@@ -43,107 +38,76 @@ fn refusal_of(malformed: &Malformed) -> Refusal
     }
 }
 
+/// An edit of a link that a line names.
+#[derive(Clone, Copy, Debug)]
+pub(crate) enum LinkEdit {
+    /// Its metric is set.
+    Cost(u32),
+    /// Its pair goes down.
+    Down,
+    /// Its pair comes up.
+    Up,
+}
+
+/// Stages the edit of this link.
+fn stage(editor: &mut Editor, key: &LinkKey, edit: LinkEdit) -> Result<u32, StageFault>
+    requires { IsLinkEdit edit }
+    ensures { Stages (edit_of edit key.now) editor.old editor.new result }
+{
+    match edit {
+        LinkEdit::Cost(metric) => editor.stage_cost(key, metric),
+        LinkEdit::Down => editor.stage_down(key.pair()),
+        LinkEdit::Up => editor.stage_up(key.pair()),
+    }
+}
+
 impl DomainSession {
-    /// Carries out `lsp`.
-    pub(crate) fn announce(
-        &mut self,
-        number: u32,
-        octets: &[u8],
-        out: &mut Vec<u8>,
-    ) -> Result<bool, AllocError>
-        ensures { IfOk result (λ refused.
-            IsCarriedOut (LspWord octets.now) number self.old out.old.items out.new.items refused self.new) }
+    /// `lsp HEX`: stages the PDU that the octets are read as.
+    pub(crate) fn lsp(&mut self, octets: &[u8], out: &mut Vec<u8>) -> Result<(), Stop>
+        ensures { CarriesOut (LspWord octets.now) self.old self.new out.old.items out.new.items result }
     {
         match read_lsp(self.alloc, octets) {
             Ok(lsp) => {
                 let staged = self.editor.stage_lsp(lsp);
-                tell_staged(number, staged, out)
+                put_stage(staged, out)
             }
-            Err(ReadFault::Malformed(malformed)) => {
-                DomainSession::refuse(number, &refusal_of(&malformed), out)
-            }
-            Err(ReadFault::Memory(wanting)) => Err(wanting),
+            Err(ReadFault::Malformed(malformed)) => Err(Stop::Refused(refusal_of(&malformed))),
+            Err(ReadFault::Memory(error)) => Err(Stop::Memory(error)),
         }
     }
 
-    /// Carries out `cost`.
-    pub(crate) fn set_cost(
+    /// `cost A B n M`, `down A B n` and `up A B n`: stages an edit of the announced link of this name.
+    pub(crate) fn edit_link(
         &mut self,
-        number: u32,
-        from: SystemId,
-        to: SystemId,
-        n: u32,
-        metric: u32,
+        link: &LinkName,
+        edit: LinkEdit,
         out: &mut Vec<u8>,
-    ) -> Result<bool, AllocError>
-        requires positive { 0 < metric }
-        requires in_use { metric < 16777215 }
-        ensures { IfOk result (λ refused.
-            IsCarriedOut (Cost from to n metric) number self.old out.old.items out.new.items refused self.new) }
+    ) -> Result<(), Stop>
+        requires { IsLinkEdit edit }
+        ensures { Carries (Moves (EditsLink (edit_of edit) link.now) self.old self.new)
+            out.old.items out.new.items result }
     {
-        match find_link(&self.current, from, to, n) {
-            Ok(key) => {
-                let staged = self.editor.stage_cost(&key, metric);
-                tell_staged(number, staged, out)
-            }
-            Err(reason) => DomainSession::refuse(number, &reason, out),
-        }
+        let version = found!(last_version(&self.current));
+        let key = found!(find_announced(version, link));
+        let staged = stage(&mut self.editor, &key, edit);
+        put_stage(staged, out)
     }
 
-    /// Carries out `down`.
-    pub(crate) fn take_down(
-        &mut self,
-        number: u32,
-        from: SystemId,
-        to: SystemId,
-        n: u32,
-        out: &mut Vec<u8>,
-    ) -> Result<bool, AllocError>
-        ensures { IfOk result (λ refused.
-            IsCarriedOut (Down from to n) number self.old out.old.items out.new.items refused self.new) }
-    {
-        match find_link(&self.current, from, to, n) {
-            Ok(key) => {
-                let staged = self.editor.stage_down(key.pair());
-                tell_staged(number, staged, out)
-            }
-            Err(reason) => DomainSession::refuse(number, &reason, out),
-        }
-    }
-
-    /// Carries out `up`.
-    pub(crate) fn bring_up(
-        &mut self,
-        number: u32,
-        from: SystemId,
-        to: SystemId,
-        n: u32,
-        out: &mut Vec<u8>,
-    ) -> Result<bool, AllocError>
-        ensures { IfOk result (λ refused.
-            IsCarriedOut (Up from to n) number self.old out.old.items out.new.items refused self.new) }
-    {
-        match find_link(&self.current, from, to, n) {
-            Ok(key) => {
-                let staged = self.editor.stage_up(key.pair());
-                tell_staged(number, staged, out)
-            }
-            Err(reason) => DomainSession::refuse(number, &reason, out),
-        }
-    }
-
-    /// Carries out `depth`.
-    pub(crate) fn set_depth(
-        &mut self,
-        number: u32,
-        depth: u8,
-        out: &mut Vec<u8>,
-    ) -> Result<bool, AllocError>
+    /// `depth K`: stages how many segments a repair list may have.
+    pub(crate) fn depth(&mut self, depth: u8, out: &mut Vec<u8>) -> Result<(), Stop>
         requires { depth ≤ 12 }
-        ensures { IfOk result (λ refused.
-            IsCarriedOut (Depth depth) number self.old out.old.items out.new.items refused self.new) }
+        ensures { CarriesOut (Depth depth) self.old self.new out.old.items out.new.items result }
     {
         let staged = self.editor.stage_depth(depth);
-        tell_staged(number, staged, out)
+        put_stage(staged, out)
+    }
+
+    /// `drop`: drops the staged edits.
+    pub(crate) fn drop_staged(&mut self, out: &mut Vec<u8>) -> Result<(), Stop>
+        ensures { CarriesOut DropStaged self.old self.new out.old.items out.new.items result }
+    {
+        let dropped = self.editor.drop_staged();
+        put_dropped(dropped, out)?;
+        Ok(())
     }
 }

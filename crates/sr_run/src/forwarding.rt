@@ -1,110 +1,68 @@
-//! Questions about forwarding in the last version: `next`, `label` and `walk`.
-ghost use Rattle.std.specs.Prelude.{◌<◌, IfOk};
+//! Questions about forwarding in the last version: `label` and `walk A D K`.
+ghost use Rattle.std.specs.Prelude.{◌<◌, ◌≡◌, true, is_some};
 ghost use Rattle.sr_model.specs.Graph.{node_count};
-ghost use Rattle.sr_script.specs.declared.command.Command.TheVariants.{Label, Next, Walk};
-ghost use Rattle.sr_run.specs.Session.{IsCarriedOut, IsWalkTold};
+ghost use Rattle.sr_model.specs.Label.{labels_at};
+ghost use Rattle.sr_run.specs.Session.{TellsOf};
+ghost use Rattle.sr_run.specs.Questions.{TellsLookup, TellsWalk, TellsWalkOf};
+ghost use Rattle.sr_run.specs.Handlers.{Carries};
 
-use crate::names::{EndNodes, find_ends};
-use crate::session::DomainSession;
-use crate::version::{forwarded, look, next_hops, node_of};
+use crate::names::{EndNodes, find_ends, find_node, last_version};
+use crate::stop::{Stop, found};
+use crate::version::{forwarded, look};
 use sr_model::SystemId;
-use sr_print::{Refusal, put_label, put_next, put_walk};
+use sr_print::{Refusal, put_label, put_walk};
 use sr_repair::Version;
-use std::alloc::AllocError;
+use sr_script::EndNames;
+use std::alloc::Global;
 
-impl DomainSession {
-    /// Carries out `next`.
-    pub(crate) fn name_hops(
-        &self,
-        number: u32,
-        from: SystemId,
-        to: SystemId,
-        out: &mut Vec<u8>,
-    ) -> Result<bool, AllocError>
-        ensures { IfOk result (λ refused.
-            IsCarriedOut (Next from to) number self.now out.old.items out.new.items refused self.now) }
-    {
-        let version = match &self.current {
-            Some(version) => version,
-            None => return DomainSession::refuse(number, &Refusal::NoVersion, out),
-        };
-        match find_ends(version, from, to) {
-            Ok(ends) => {
-                put_next(version.net(), next_hops(version, ends.from, ends.to), out)?;
-                Ok(false)
-            }
-            Err(reason) => DomainSession::refuse(number, &reason, out),
-        }
-    }
+/// `label A X`: appends what label X does at A.
+pub(crate) fn label(
+    current: &Option<Version>,
+    system: SystemId,
+    label: u32,
+    out: &mut Vec<u8>,
+) -> Result<(), Stop>
+    ensures { Carries (TellsOf (TellsLookup system label) current.now) out.old.items out.new.items result }
+{
+    let version = found!(last_version(current));
+    let node = found!(find_node(version, system));
+    put_label(version.net(), look(version, node, label), out)?;
+    Ok(())
+}
 
-    /// Carries out `label`.
-    pub(crate) fn look_up(
-        &self,
-        number: u32,
-        system: SystemId,
-        label: u32,
-        out: &mut Vec<u8>,
-    ) -> Result<bool, AllocError>
-        ensures { IfOk result (λ refused.
-            IsCarriedOut (Label system label) number self.now out.old.items out.new.items refused self.now) }
-    {
-        let version = match &self.current {
-            Some(version) => version,
-            None => return DomainSession::refuse(number, &Refusal::NoVersion, out),
-        };
-        match node_of(version, system) {
-            Some(node) => {
-                put_label(version.net(), look(version, node, label), out)?;
-                Ok(false)
-            }
-            None => DomainSession::refuse(number, &Refusal::NoNode { node: system }, out),
-        }
+/// Appends the walk of a packet between two nodes, by a choice number.
+fn put_walk_of(
+    alloc: Global,
+    version: &Version,
+    nodes: EndNodes,
+    choice: u32,
+    out: &mut Vec<u8>,
+) -> Result<(), Stop>
+    requires from { nodes.from.0 < node_count version.now.net.graph }
+    requires to { nodes.to.0 < node_count version.now.net.graph }
+    requires index { is_some (labels_at version.now.net nodes.to.0).index ≡ true }
+    ensures { Carries (TellsWalkOf version.now.net nodes.from.0 nodes.to.0 choice) out.old.items out.new.items result }
+{
+    match forwarded(alloc, version, nodes.from, nodes.to, choice)? {
+        Some(walk) => Ok(put_walk(version.net(), nodes.from, Some(&walk.links), out)?),
+        None => Ok(put_walk(version.net(), nodes.from, None, out)?),
     }
+}
 
-    /// Says the walk of a packet between two nodes, or why there is none to say.
-    fn tell_walk(
-        &self,
-        version: &Version,
-        number: u32,
-        ends: EndNodes,
-        dest: SystemId,
-        choice: u32,
-        out: &mut Vec<u8>,
-    ) -> Result<bool, AllocError>
-        requires from { ends.from.0 < node_count version.now.net.graph }
-        requires to { ends.to.0 < node_count version.now.net.graph }
-        ensures { IfOk result (λ refused.
-            IsWalkTold version.now.net ends.from.0 ends.to.0 dest choice number self.now out.old.items out.new.items refused) }
-    {
-        if version.net().labels(ends.to).index().is_none() {
-            return DomainSession::refuse(number, &Refusal::NoDestination { node: dest }, out);
-        }
-        match forwarded(self.alloc, version, ends.from, ends.to, choice)? {
-            Some(walk) => put_walk(version.net(), ends.from, Some(&walk.links), out)?,
-            None => put_walk(version.net(), ends.from, None, out)?,
-        }
-        Ok(false)
+/// `walk A D K`: appends the walk of a packet from A under D's label, by choice number K.
+pub(crate) fn walk(
+    alloc: Global,
+    current: &Option<Version>,
+    ends: &EndNames,
+    choice: u32,
+    out: &mut Vec<u8>,
+) -> Result<(), Stop>
+    ensures { Carries (TellsOf (TellsWalk ends.now choice) current.now) out.old.items out.new.items result }
+{
+    let version = found!(last_version(current));
+    let nodes = found!(find_ends(version, ends));
+    if version.net().labels(nodes.to).index().is_none() {
+        return Err(Stop::Refused(Refusal::NoDestination { node: ends.to }));
     }
-
-    /// Carries out `walk` from one node to another.
-    pub(crate) fn forward(
-        &self,
-        number: u32,
-        from: SystemId,
-        dest: SystemId,
-        choice: u32,
-        out: &mut Vec<u8>,
-    ) -> Result<bool, AllocError>
-        ensures { IfOk result (λ refused.
-            IsCarriedOut (Walk from dest choice) number self.now out.old.items out.new.items refused self.now) }
-    {
-        let version = match &self.current {
-            Some(version) => version,
-            None => return DomainSession::refuse(number, &Refusal::NoVersion, out),
-        };
-        match find_ends(version, from, dest) {
-            Ok(ends) => self.tell_walk(version, number, ends, dest, choice, out),
-            Err(reason) => DomainSession::refuse(number, &reason, out),
-        }
-    }
+    put_walk_of(alloc, version, nodes, choice, out)
 }

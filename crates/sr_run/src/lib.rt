@@ -3,15 +3,17 @@
 
 mod audits;
 mod commit;
+mod distances;
 mod edits;
 mod failures;
 mod forwarding;
+mod laws;
+mod lines;
 mod names;
 mod program;
-mod questions;
-mod refusals;
 mod repaired;
 mod session;
+mod stop;
 mod version;
 
 pub use program::tilfa;

@@ -1,69 +1,106 @@
-//! The nodes and links that a line names.
-ghost use Rattle.std.specs.Prelude.{MatchOption, MatchResult, Some};
-ghost use Rattle.sr_run.specs.State.{net_of};
-ghost use Rattle.sr_run.specs.Session.{AreNodes, IsFailureOf, IsLinkOf, IsMissingFailure, IsMissingLink, IsMissingNode, IsNamedLink, NoLinkOf};
+//! The nodes, links and failures that a line names.
+ghost use Rattle.std.specs.Prelude.{◌≡◌, None, Some, MatchOption, MatchResult};
+ghost use Rattle.sr_model.specs.Case.{IsAffected, IsCase};
+ghost use Rattle.sr_model.specs.Repair.{IsCaseAnswer};
+ghost use Rattle.sr_run.specs.Names.{HasNode, IsLinkOf, IsNodeOf, NoLinkOf, ends_of, no_link};
+ghost use Rattle.sr_run.specs.Handlers.{AreEnds, IsAffectedOf, IsAnnounced, IsFailureOf, LacksAffected, LacksAnnounced, LacksEnd, LacksFailure};
 
-use crate::version::node_of;
-use sr_model::{Case, Kind, LinkKey, LinkNo, NodeNo, SystemId};
+use sr_model::{Answer, Case, LinkKey, LinkNo, NodeNo, SystemId};
 use sr_print::Refusal;
 use sr_repair::Version;
+use sr_script::{EndNames, LinkName, RepairName};
+
+/// The version of the last commit, or the refusal where nothing was committed yet.
+pub(crate) fn last_version(current: &Option<Version>) -> Result<&Version, Refusal>
+    ensures { MatchResult result
+        (λ version. current.now ≡ Some version.now)
+        (λ reason. (current.now ≡ None) × (reason ≡ Refusal.NoVersion)) }
+{
+    match current {
+        Some(version) => Ok(version),
+        None => Err(Refusal::NoVersion),
+    }
+}
+
+/// The node of this system id, or the refusal that names it.
+pub(crate) fn find_node(version: &Version, system: SystemId) -> Result<NodeNo, Refusal>
+    ensures { MatchResult result
+        (λ node. IsNodeOf version.now.net.graph system node.0)
+        (λ reason. (HasNode version.now.net.graph system → ⊥) × (reason ≡ Refusal.NoNode system)) }
+{
+    match version.net().graph().node(system) {
+        Some(node) => Ok(node),
+        None => Err(Refusal::NoNode { node: system }),
+    }
+}
 
 /// The two nodes that a line names.
 #[derive(Clone, Copy, Debug)]
-pub struct EndNodes {
-    pub from: NodeNo,
-    pub to: NodeNo,
+pub(crate) struct EndNodes {
+    pub(crate) from: NodeNo,
+    pub(crate) to: NodeNo,
 }
 
-/// The two nodes of these system ids, or the refusal that names the first that is missing.
-pub fn find_ends(version: &Version, from: SystemId, to: SystemId) -> Result<EndNodes, Refusal>
+/// The two nodes of these names, or the refusal that names the first that is missing.
+pub(crate) fn find_ends(version: &Version, ends: &EndNames) -> Result<EndNodes, Refusal>
     ensures { MatchResult result
-        (λ ends. AreNodes version.now.net.graph from to ends.from.0 ends.to.0)
-        (IsMissingNode version.now.net.graph from to) }
+        (λ nodes. AreEnds version.now.net ends.now nodes.from.0 nodes.to.0)
+        (LacksEnd version.now.net ends.now) }
 {
-    let first = match node_of(version, from) {
-        Some(first) => first,
-        None => return Err(Refusal::NoNode { node: from }),
+    let from = match find_node(version, ends.from) {
+        Ok(from) => from,
+        Err(reason) => return Err(reason),
     };
-    match node_of(version, to) {
-        Some(second) => Ok(EndNodes {
-            from: first,
-            to: second,
-        }),
-        None => Err(Refusal::NoNode { node: to }),
+    match find_node(version, ends.to) {
+        Ok(to) => Ok(EndNodes { from, to }),
+        Err(reason) => Err(reason),
     }
 }
 
-/// The announced link of this number from one node to another, or the refusal that names what is
-/// missing: a version, one of the nodes, or the link.
-pub fn find_link(
-    current: &Option<Version>,
-    from: SystemId,
-    to: SystemId,
-    n: u32,
-) -> Result<LinkKey, Refusal>
-    ensures { MatchResult result
-        (IsNamedLink (net_of current.now) from to n)
-        (IsMissingLink (net_of current.now) from to n) }
+/// The ends of a link's name.
+fn ends_of(link: &LinkName) -> EndNames
+    ensures { result ≡ ends_of link.now }
 {
-    let version = match current {
-        Some(version) => version,
-        None => return Err(Refusal::NoVersion),
-    };
-    let _ends = find_ends(version, from, to)?;
-    match version.net().named(from, to, u64::from(n)) {
+    EndNames {
+        from: link.from,
+        to: link.to,
+    }
+}
+
+/// The refusal of a link that isn't there.
+fn no_link(link: &LinkName) -> Refusal
+    ensures { result ≡ no_link link.now }
+{
+    Refusal::NoLink {
+        from: link.from,
+        to: link.to,
+        n: link.n,
+    }
+}
+
+/// The key of the announced link of this name, or the refusal that names what is missing: one of its ends, or the link.
+pub(crate) fn find_announced(version: &Version, link: &LinkName) -> Result<LinkKey, Refusal>
+    ensures { MatchResult result
+        (IsAnnounced version.now.net link.now)
+        (LacksAnnounced version.now.net link.now) }
+{
+    match find_ends(version, &ends_of(link)) {
+        Ok(_nodes) => {}
+        Err(reason) => return Err(reason),
+    }
+    match version.net().named(link.from, link.to, u64::from(link.n)) {
         Some(key) => Ok(key),
-        None => Err(Refusal::NoLink { from, to, n }),
+        None => Err(no_link(link)),
     }
 }
 
-/// The link of the net whose key has this number among the announced ones. None exactly where no link has it.
-fn link_of(version: &Version, from: SystemId, to: SystemId, n: u32) -> Option<LinkNo>
+/// The link of the net whose key has this name. None exactly where there is none.
+fn link_of(version: &Version, link: &LinkName) -> Option<LinkNo>
     ensures { MatchOption result
-        (NoLinkOf version.now.net from to n)
-        (IsLinkOf version.now.net from to n) }
+        (NoLinkOf version.now.net link.now)
+        (IsLinkOf version.now.net link.now) }
 {
-    match version.net().named(from, to, u64::from(n)) {
+    match version.net().named(link.from, link.to, u64::from(link.n)) {
         Some(key) => version.net().graph().find(&key),
         None => None,
     }
@@ -71,35 +108,66 @@ fn link_of(version: &Version, from: SystemId, to: SystemId, n: u32) -> Option<Li
 
 /// What fails, and the destination that a line asks of.
 #[derive(Clone, Copy, Debug)]
-pub struct Failure {
-    pub case: Case,
-    pub destination: NodeNo,
+pub(crate) struct Failure {
+    pub(crate) case: Case,
+    pub(crate) destination: NodeNo,
 }
 
-/// The failure and the destination that a line names, or the refusal that names what is missing: one of the nodes, or the
+/// The failure and the destination of these names, or the refusal that names what is missing: one of the nodes, or the
 /// link.
-pub fn find_failure(
-    version: &Version,
-    kind: Kind,
-    from: SystemId,
-    to: SystemId,
-    n: u32,
-    dest: SystemId,
-) -> Result<Failure, Refusal>
+pub(crate) fn find_failure(version: &Version, repair: &RepairName) -> Result<Failure, Refusal>
     ensures { MatchResult result
-        (λ failure. IsFailureOf version.now.net kind from to n dest failure.case failure.destination.0)
-        (IsMissingFailure (Some version.now.net) from to n dest) }
+        (λ failure. IsFailureOf version.now.net repair.now failure.case failure.destination.0)
+        (LacksFailure version.now.net repair.now) }
 {
-    let _ends = find_ends(version, from, to)?;
-    let destination = match node_of(version, dest) {
-        Some(destination) => destination,
-        None => return Err(Refusal::NoNode { node: dest }),
+    match find_ends(version, &ends_of(&repair.link)) {
+        Ok(_nodes) => {}
+        Err(reason) => return Err(reason),
+    }
+    let destination = match find_node(version, repair.dest) {
+        Ok(destination) => destination,
+        Err(reason) => return Err(reason),
     };
-    match link_of(version, from, to, n) {
+    match link_of(version, &repair.link) {
         Some(link) => Ok(Failure {
-            case: Case { kind, link },
+            case: Case {
+                kind: repair.kind,
+                link,
+            },
             destination,
         }),
-        None => Err(Refusal::NoLink { from, to, n }),
+        None => Err(no_link(&repair.link)),
+    }
+}
+
+/// The failure and the destination of these names, where it has an index and the failure affects it, or the refusal that
+/// names what is missing.
+pub(crate) fn find_affected(version: &Version, repair: &RepairName) -> Result<Failure, Refusal>
+    ensures { MatchResult result
+        (λ failure. IsAffectedOf version.now.net repair.now failure.case failure.destination.0)
+        (LacksAffected version.now.net repair.now) }
+{
+    let failure = match find_failure(version, repair) {
+        Ok(failure) => failure,
+        Err(reason) => return Err(reason),
+    };
+    if version.net().labels(failure.destination).index().is_none() {
+        return Err(Refusal::NoDestination { node: repair.dest });
+    }
+    match version.repair(failure.case, failure.destination) {
+        Some(_answer) => Ok(failure),
+        None => Err(Refusal::NotAffected { node: repair.dest }),
+    }
+}
+
+/// The answer of a case for a destination that it affects.
+pub(crate) fn answer_of(version: &Version, failure: Failure) -> Answer<'_>
+    requires case { IsCase version.now.net.graph failure.case }
+    requires affected { IsAffected version.now.net failure.case failure.destination.0 }
+    ensures { IsCaseAnswer version.now.net failure.case failure.destination.0 result }
+{
+    match version.repair(failure.case, failure.destination) {
+        Some(answer) => answer,
+        None => unreachable!(),
     }
 }

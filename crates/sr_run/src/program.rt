@@ -1,13 +1,13 @@
 //! The program over any source and any sink.
 ghost use Rattle.std.specs.Prelude.{◌↔◌, IsTrue};
 ghost use Rattle.sr_run.specs.Words.{AskRun};
-ghost use Rattle.sr_run.specs.Program.{devices_of, RunsTo, RunsThrough};
+ghost use Rattle.sr_engine.specs.Endings.{devices_of};
+ghost use Rattle.sr_run.specs.Program.{RunsTo, RunsThrough};
 
+use crate::lines::run_script;
 use crate::session::DomainSession;
-use sr_base::{Sink, Source};
-use sr_engine::run_script;
+use sr_base::{Runtime, Sink, Source};
 use std::alloc::AllocGlobal;
-use std::thread::Threads;
 
 /// Whether the words are the one word `run`.
 fn ask_run(words: &[String]) -> bool
@@ -27,7 +27,7 @@ fn ask_run(words: &[String]) -> bool
 /// write failed; 5: memory was wanting; 6: the script has more than 33,554,432 bytes.
 ///
 /// A commit splits its cases among threads where there are any: the answers are the same without.
-pub fn tilfa<R: AllocGlobal + Threads + Sync, S: Source, K: Sink>(
+pub fn tilfa<R: AllocGlobal + Runtime, S: Source, K: Sink>(
     rt: &R,
     words: &[String],
     source: &mut S,
@@ -44,7 +44,6 @@ pub fn tilfa<R: AllocGlobal + Threads + Sync, S: Source, K: Sink>(
         return 2;
     }
     let alloc = rt.alloc();
-    let session = DomainSession::new(alloc);
-    let (end, _session) = run_script(rt, alloc, session, source, sink);
-    end.status()
+    let mut session = DomainSession::new(alloc);
+    run_script(rt, alloc, &mut session, source, sink).status()
 }

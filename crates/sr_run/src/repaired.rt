@@ -7,15 +7,17 @@ ghost use Rattle.sr_model.specs.Forward.{IsStack};
 ghost use Rattle.sr_model.specs.Graph.{node_count};
 ghost use Rattle.sr_model.specs.Repair.{IsCaseAnswer};
 ghost use Rattle.sr_print.specs.Links.{AreLinks};
-ghost use Rattle.sr_script.specs.declared.command.Command.TheVariants.{WalkRepair};
-ghost use Rattle.sr_run.specs.Session.{IsCarriedOut, IsFailureTold, IsRepairWalked, WalksRepair};
+ghost use Rattle.sr_run.specs.Session.{TellsOf};
+ghost use Rattle.sr_run.specs.Failures.{IsRepairWalked, TellsRepairWalk};
+ghost use Rattle.sr_run.specs.Handlers.{Carries};
 
-use crate::names::{Failure, find_failure};
-use crate::session::DomainSession;
+use crate::names::{Failure, answer_of, find_affected, last_version};
+use crate::stop::{Stop, found};
 use sr_forward::walk;
-use sr_model::{Answer, Kind, LinkNo, RepairList, SystemId};
-use sr_print::{Refusal, put_walk, put_walk_uncovered};
+use sr_model::{Answer, LinkNo, RepairList};
+use sr_print::{put_walk, put_walk_uncovered};
 use sr_repair::{Version, labels_of};
+use sr_script::RepairName;
 use std::alloc::{AllocError, Global};
 
 /// The links that the packet of a repair crosses: the first link, and then those that it crosses
@@ -77,61 +79,22 @@ fn walk_answer(
     }
 }
 
-impl DomainSession {
-    /// Says the walk of the packet of the failure's repair, or why there is none to say.
-    fn tell_walk_repair(
-        &self,
-        version: &Version,
-        number: u32,
-        failure: Failure,
-        dest: SystemId,
-        choice: u32,
-        out: &mut Vec<u8>,
-    ) -> Result<bool, AllocError>
-        requires case { IsCase version.now.net.graph failure.case }
-        requires destination { failure.destination.0 < node_count version.now.net.graph }
-        ensures { IfOk result (λ refused. IsFailureTold
-            (λ said told new. WalksRepair dest choice number self.now said told new)
-            version.now.net failure.case failure.destination.0 self.now out.old.items out.new.items refused) }
-    {
-        if version.net().labels(failure.destination).index().is_none() {
-            return DomainSession::refuse(number, &Refusal::NoDestination { node: dest }, out);
-        }
-        let answer = match version.repair(failure.case, failure.destination) {
-            Some(answer) => answer,
-            None => return DomainSession::refuse(number, &Refusal::NotAffected { node: dest }, out),
-        };
-        let source = version.net().graph().link(failure.case.link).from;
-        match walk_answer(self.alloc, version, failure, &answer, choice)? {
-            Some(links) => put_walk(version.net(), source, Some(&links), out)?,
-            None => put_walk_uncovered(&answer, out)?,
-        }
-        Ok(false)
-    }
-
-    /// Carries out `walk` of a repaired packet.
-    pub(crate) fn walk_repair(
-        &self,
-        number: u32,
-        kind: Kind,
-        from: SystemId,
-        to: SystemId,
-        n: u32,
-        dest: SystemId,
-        choice: u32,
-        out: &mut Vec<u8>,
-    ) -> Result<bool, AllocError>
-        ensures { IfOk result (λ refused.
-            IsCarriedOut (WalkRepair kind from to n dest choice) number
-            self.now out.old.items out.new.items refused self.now) }
-    {
-        let version = match &self.current {
-            Some(version) => version,
-            None => return DomainSession::refuse(number, &Refusal::NoVersion, out),
-        };
-        match find_failure(version, kind, from, to, n, dest) {
-            Ok(failure) => self.tell_walk_repair(version, number, failure, dest, choice, out),
-            Err(reason) => DomainSession::refuse(number, &reason, out),
-        }
+/// `walk KIND A B n D K`: appends the walk of the repaired packet by choice number K, or why there is no repair.
+pub(crate) fn walk_repair(
+    alloc: Global,
+    current: &Option<Version>,
+    repair: &RepairName,
+    choice: u32,
+    out: &mut Vec<u8>,
+) -> Result<(), Stop>
+    ensures { Carries (TellsOf (TellsRepairWalk repair.now choice) current.now) out.old.items out.new.items result }
+{
+    let version = found!(last_version(current));
+    let failure = found!(find_affected(version, repair));
+    let answer = answer_of(version, failure);
+    let source = version.net().graph().link(failure.case.link).from;
+    match walk_answer(alloc, version, failure, &answer, choice)? {
+        Some(links) => Ok(put_walk(version.net(), source, Some(&links), out)?),
+        None => Ok(put_walk_uncovered(&answer, out)?),
     }
 }

@@ -1,28 +1,50 @@
-//! The session: the facts that a script edits, and the net of the last commit.
-ghost use Rattle.std.specs.Prelude.{◌≡◌, ◌++◌, true, IfOk};
-ghost use Rattle.sr_print.specs.Refused.{refused_line};
+//! The session: the facts that a script edits, and the version of the last commit.
+ghost use Rattle.std.specs.Prelude.{◌≡◌, MatchOption};
+ghost use Rattle.sr_script.specs.LineSays.{IsMemory};
+ghost use Rattle.sr_engine.specs.Replies.{Gives, ToHead};
+ghost use Rattle.sr_engine.specs.Written.{written};
+ghost use Rattle.sr_run.specs.Session.{IsRefusedAs, links_of, nodes_of};
+ghost use Rattle.sr_run.specs.Handlers.{IsAccepted, IsReply, WritesRefusal};
 
-use crate::refusals::refusal_of_fault;
-use sr_engine::{Reply, Session};
+use crate::audits::{audit, begin_audit, put_audit};
+use crate::commit::last_number;
+use crate::distances::{dist, next};
+use crate::edits::LinkEdit;
+use crate::failures::{repair, spaces};
+use crate::forwarding::{label, walk};
+use crate::repaired::walk_repair;
+use crate::stop::Stop;
+use sr_base::{Runtime, Sink, SinkFault};
+use sr_engine::Answers;
 use sr_lsdb::Editor;
-use sr_print::{Refusal, put_dropped, put_refused};
+use sr_print::{Refusal, put_refused, put_show};
 use sr_repair::Version;
 use sr_script::{Command, Line, LineFault, read_line};
 use std::alloc::{AllocError, Global};
 use std::marker::Model;
-use std::thread::Threads;
+use std::mem::replace;
 
-/// The facts that a script edits, and the version of the last accepted commit.
+/// The facts that a script edits, and the version of the last accepted commit. Contracts see these alone.
 #[derive(Drop)]
-pub struct DomainSession {
+pub(crate) struct DomainSession {
     pub(crate) alloc: Global,
     pub(crate) editor: Editor,
     pub(crate) current: Option<Version>,
+    /// The memory in which the answer to a line is put together.
+    text: Vec<u8>,
+}
+
+/// How a command is answered.
+#[derive(Debug, Drop, Clone, Copy)]
+pub(crate) enum Reply {
+    /// By what was appended.
+    Text,
+    /// By the audit of the last version, which is written case by case.
+    Audit,
 }
 
 impl Model for DomainSession {
-    ghost use Rattle.sr_run.specs.State.{State};
-    ghost use Rattle.sr_run.specs.Session.{IsKept};
+    ghost use Rattle.sr_run.specs.State.{State, IsKept};
 
     ghost Value = { State };
 
@@ -33,142 +55,244 @@ impl Model for DomainSession {
         IsKept (record { editing = s.editor; current = s.current }) };
 }
 
+/// Writes the refusal of the line of this number.
+fn write_refusal<K: Sink>(
+    number: u32,
+    reason: &Refusal,
+    text: &mut Vec<u8>,
+    out: &mut Answers,
+    sink: &mut K,
+) -> Result<bool, SinkFault>
+    ensures { WritesRefusal number reason.now
+        (written (K.held sink.old) (K.faults sink.old) out.old)
+        (written (K.held sink.new) (K.faults sink.new) out.new) result }
+{
+    text.clear();
+    match put_refused(number, reason, text) {
+        Ok(()) => match out.put(sink, text) {
+            Ok(()) => Ok(true),
+            Err(fault) => Err(fault),
+        },
+        Err(error) => Err(SinkFault::Memory(error)),
+    }
+}
+
+/// The refusal of a line that says no command. None exactly where memory ran out.
+fn refusal_of_fault(fault: &LineFault) -> Option<Refusal>
+    ensures { MatchOption result (IsMemory fault.now) (IsRefusedAs fault.now) }
+{
+    match fault {
+        LineFault::TooLong => Some(Refusal::LineTooLong),
+        LineFault::UnknownWord => Some(Refusal::UnknownWord),
+        LineFault::BadForm => Some(Refusal::BadForm),
+        LineFault::BadHex => Some(Refusal::BadHex),
+        LineFault::Memory(_) => None,
+    }
+}
+
+/// That a line whose answer was written was not refused, or the fault.
+fn accepted(written: Result<(), SinkFault>) -> Result<bool, SinkFault>
+    ensures { IsAccepted written result }
+{
+    match written {
+        Ok(()) => Ok(false),
+        Err(fault) => Err(fault),
+    }
+}
+
+/// How a command is answered whose answer was appended, or why there is none.
+fn replied(told: Result<(), Stop>) -> Result<Reply, Stop>
+    ensures { IsReply told result }
+{
+    match told {
+        Ok(()) => Ok(Reply::Text),
+        Err(stop) => Err(stop),
+    }
+}
+
+/// How many nodes and links a net has.
+#[derive(Clone, Copy, Debug)]
+struct NetSize {
+    nodes: u32,
+    links: u32,
+}
+
+/// How many nodes and links the net of the last version has: none before the first.
+fn size_of(current: &Option<Version>) -> NetSize
+    ensures nodes { result.nodes ≡ nodes_of current.now }
+    ensures links { result.links ≡ links_of current.now }
+{
+    match current {
+        Some(version) => NetSize {
+            nodes: version.net().graph().node_count(),
+            links: version.net().graph().link_count(),
+        },
+        None => NetSize { nodes: 0, links: 0 },
+    }
+}
+
 impl DomainSession {
-    ghost use Rattle.sr_run.specs.State.{opening};
-    ghost use Rattle.sr_run.specs.Session.{GivesAnswer, IsAsked, IsCarriedOut, IsRefusedLine};
-    ghost use Rattle.sr_script.specs.declared.command.Command.TheVariants.{DropStaged};
+    ghost use Rattle.sr_script.specs.declared.command.Command.TheVariants.{Show};
+    ghost use Rattle.sr_run.specs.Domain.{opening};
+    ghost use Rattle.sr_run.specs.State.{shown};
+    ghost use Rattle.sr_run.specs.Handlers.{CarriesOut, GivesCommand, IsAsked, RefusesLine, RepliesTo, SessionAnswers};
 
     /// A session before its first line.
-    pub fn new(alloc: Global) -> DomainSession
-        ensures { result ≡ opening }
+    pub(crate) fn new(alloc: Global) -> DomainSession
+        ensures { result ≡ shown opening }
     {
         DomainSession {
             alloc,
             editor: Editor::new(alloc),
             current: None,
+            text: Vec::new(alloc),
         }
     }
 
-    /// Carries out `drop`.
-    fn drop_staged(&mut self, number: u32, out: &mut Vec<u8>) -> Result<bool, AllocError>
-        ensures { IfOk result (λ refused.
-            IsCarriedOut DropStaged number self.old out.old.items out.new.items refused self.new) }
+    /// `show`: appends the last version, the accepted depth, and how many edits are staged.
+    fn show(&self, out: &mut Vec<u8>) -> Result<(), Stop>
+        ensures { CarriesOut Show self.now self.now out.old.items out.new.items result }
     {
-        let dropped = self.editor.drop_staged();
-        put_dropped(dropped, out)?;
-        Ok(false)
+        let size = size_of(&self.current);
+        let depth = self.editor.accepted().depth;
+        let staged = self.editor.staged();
+        put_show(
+            last_number(&self.current),
+            size.nodes,
+            size.links,
+            depth,
+            staged,
+            out,
+        )?;
+        Ok(())
     }
 
-    /// Refuses the line.
-    pub(crate) fn refuse(
-        number: u32,
-        reason: &Refusal,
+    /// Carries a command out, and appends the answer; of `audit full` nothing is appended.
+    fn tell(
+        &mut self,
+        rt: &impl Runtime,
+        command: Command,
         out: &mut Vec<u8>,
-    ) -> Result<bool, AllocError>
-        ensures { IfOk result (λ refused.
-            (refused ≡ true) × (out.new.items ≡ out.old.items ++ refused_line number reason.now)) }
+    ) -> Result<Reply, Stop>
+        requires { IsAsked command }
+        ensures { RepliesTo command self.old self.new out.old.items out.new.items result }
     {
-        put_refused(number, reason, out)?;
-        Ok(true)
+        let alloc = self.alloc;
+        let current = &self.current;
+        match command {
+            Command::Lsp { octets } => replied(self.lsp(octets.as_slice(), out)),
+            Command::Cost { link, metric } => replied(self.edit_link(
+                &link,
+                LinkEdit::Cost(metric),
+                out,
+            )),
+            Command::Down { link } => replied(self.edit_link(&link, LinkEdit::Down, out)),
+            Command::Up { link } => replied(self.edit_link(&link, LinkEdit::Up, out)),
+            Command::Depth { depth } => replied(self.depth(depth, out)),
+            Command::Commit => replied(self.commit(rt, out)),
+            Command::DropStaged => replied(self.drop_staged(out)),
+            Command::Dist { ends } => replied(dist(current, &ends, out)),
+            Command::Next { ends } => replied(next(current, &ends, out)),
+            Command::Label {
+                node,
+                label: number,
+            } => replied(label(current, node, number, out)),
+            Command::Spaces { repair: name } => replied(spaces(alloc, current, &name, out)),
+            Command::Repair { repair: name } => replied(repair(alloc, current, &name, out)),
+            Command::Walk { ends, choice } => replied(walk(alloc, current, &ends, choice, out)),
+            Command::WalkRepair {
+                repair: name,
+                choice,
+            } => replied(walk_repair(alloc, current, &name, choice, out)),
+            Command::Audit => replied(audit(current, out)),
+            Command::AuditFull => begin_audit(current),
+            Command::Hold | Command::Watch { .. } | Command::Join => {
+                Err(Stop::Refused(Refusal::NotBuilt))
+            }
+            Command::Show => replied(self.show(out)),
+        }
+    }
+
+    /// Carries a command out, and writes the answer. Was it refused?
+    fn carry_out<R: Runtime, K: Sink>(
+        &mut self,
+        rt: &R,
+        number: u32,
+        command: Command,
+        text: &mut Vec<u8>,
+        out: &mut Answers,
+        sink: &mut K,
+    ) -> Result<bool, SinkFault>
+        requires { IsAsked command }
+        ensures { Gives (GivesCommand command number self.old)
+            (written (K.held sink.old) (K.faults sink.old) out.old)
+            (written (K.held sink.new) (K.faults sink.new) out.new) result self.new }
+    {
+        text.clear();
+        match self.tell(rt, command, text) {
+            Ok(Reply::Text) => accepted(out.put(sink, text)),
+            Ok(Reply::Audit) => accepted(put_audit(self.alloc, &self.current, text, out, sink)),
+            Err(Stop::Refused(reason)) => write_refusal(number, &reason, text, out, sink),
+            Err(Stop::Memory(error)) => Err(SinkFault::Memory(error)),
+        }
     }
 
     /// Refuses a line that says no command.
-    fn refuse_line(number: u32, fault: &LineFault, out: &mut Vec<u8>) -> Result<bool, AllocError>
-        ensures { IfOk result (λ refused.
-            IsRefusedLine fault.now number out.old.items out.new.items refused) }
+    fn refuse<K: Sink>(
+        &mut self,
+        number: u32,
+        fault: &LineFault,
+        text: &mut Vec<u8>,
+        out: &mut Answers,
+        sink: &mut K,
+    ) -> Result<bool, SinkFault>
+        ensures { Gives (RefusesLine fault.now number self.old)
+            (written (K.held sink.old) (K.faults sink.old) out.old)
+            (written (K.held sink.new) (K.faults sink.new) out.new) result self.new }
     {
         match refusal_of_fault(fault) {
-            Some(reason) => DomainSession::refuse(number, &reason, out),
-            None => Err(AllocError),
+            Some(reason) => write_refusal(number, &reason, text, out, sink),
+            None => Err(SinkFault::Memory(AllocError)),
         }
     }
 
-    /// Carries out a command, and says whether it was refused; or says the first part of an audit.
-    fn carry_out(
-        &mut self,
-        rt: &(impl Threads + Sync),
-        number: u32,
-        command: Command,
-        out: &mut Vec<u8>,
-    ) -> Result<Reply, AllocError>
-        requires { IsAsked command }
-        ensures { IfOk result (λ reply.
-            GivesAnswer command number self.old out.old.items out.new.items reply self.new) }
-    {
-        let refused = match command {
-            Command::AuditFull => return self.audit_whole(number, out),
-            Command::Lsp { octets } => self.announce(number, octets.as_slice(), out)?,
-            Command::Cost {
-                from,
-                to,
-                n,
-                metric,
-            } => self.set_cost(number, from, to, n, metric, out)?,
-            Command::Down { from, to, n } => self.take_down(number, from, to, n, out)?,
-            Command::Up { from, to, n } => self.bring_up(number, from, to, n, out)?,
-            Command::Depth { depth } => self.set_depth(number, depth, out)?,
-            Command::Commit => self.commit(rt, number, out)?,
-            Command::DropStaged => self.drop_staged(number, out)?,
-            Command::Dist { from, to } => self.measure(number, from, to, out)?,
-            Command::Next { from, to } => self.name_hops(number, from, to, out)?,
-            Command::Label { node, label } => self.look_up(number, node, label, out)?,
-            Command::Spaces {
-                kind,
-                from,
-                to,
-                n,
-                dest,
-            } => self.name_spaces(number, kind, from, to, n, dest, out)?,
-            Command::Repair {
-                kind,
-                from,
-                to,
-                n,
-                dest,
-            } => self.name_repair(number, kind, from, to, n, dest, out)?,
-            Command::Walk { from, dest, choice } => self.forward(number, from, dest, choice, out)?,
-            Command::WalkRepair {
-                kind,
-                from,
-                to,
-                n,
-                dest,
-                choice,
-            } => self.walk_repair(number, kind, from, to, n, dest, choice, out)?,
-            Command::Audit => self.sum_up(number, out)?,
-            Command::Show => self.show(number, out)?,
-            _ => DomainSession::refuse(number, &Refusal::NotBuilt, out)?,
-        };
-        Ok(Reply::Whole(refused))
-    }
-}
-
-impl Session for DomainSession {
-    ghost use Rattle.sr_run.specs.Session.{AnswersFrom, Ends};
-
-    ghost answers = { AnswersFrom };
-
-    ghost ends = { Ends };
-
-    fn answer<R: Threads + Sync>(
+    /// Answers the line of this number, by its head, with the answer put together in this memory.
+    fn answer_in<R: Runtime, K: Sink>(
         &mut self,
         rt: &R,
         number: u32,
         line: &[u8],
-        place: u32,
-        out: &mut Vec<u8>,
-    ) -> Result<Reply, AllocError> {
-        if place > 0 {
-            return self.audit_on(place, out);
-        }
+        text: &mut Vec<u8>,
+        out: &mut Answers,
+        sink: &mut K,
+    ) -> Result<bool, SinkFault>
+        ensures { Gives (ToHead SessionAnswers self.old number line.now)
+            (written (K.held sink.old) (K.faults sink.old) out.old)
+            (written (K.held sink.new) (K.faults sink.new) out.new) result self.new }
+    {
         match read_line(self.alloc, line) {
-            Ok(Line::Nothing) => Ok(Reply::Whole(false)),
-            Ok(Line::Word(command)) => self.carry_out(rt, number, command, out),
-            Err(fault) => Ok(Reply::Whole(DomainSession::refuse_line(number, &fault, out)?)),
+            Ok(Line::Nothing) => Ok(false),
+            Ok(Line::Word(command)) => self.carry_out(rt, number, command, text, out, sink),
+            Err(fault) => self.refuse(number, &fault, text, out, sink),
         }
     }
 
-    fn finish(&mut self, out: &mut Vec<u8>) -> Result<(), AllocError> {
-        Ok(())
+    /// Answers the line of this number, by its head: at most its first 140,001 bytes. Was it refused?
+    pub(crate) fn answer<R: Runtime, K: Sink>(
+        &mut self,
+        rt: &R,
+        number: u32,
+        line: &[u8],
+        out: &mut Answers,
+        sink: &mut K,
+    ) -> Result<bool, SinkFault>
+        ensures { Gives (ToHead SessionAnswers self.old number line.now)
+            (written (K.held sink.old) (K.faults sink.old) out.old)
+            (written (K.held sink.new) (K.faults sink.new) out.new) result self.new }
+    {
+        let mut text = replace(&mut self.text, Vec::new(self.alloc));
+        let answered = self.answer_in(rt, number, line, &mut text, out, sink);
+        self.text = text;
+        answered
     }
 }

@@ -1,33 +1,24 @@
 //! What a line asks of a version.
-ghost use Rattle.std.specs.Prelude.{[], ◌≡◌, ◌<◌, ◌^◌, true, is_some, IfOk, IfSome, MatchOption};
+ghost use Rattle.std.specs.Prelude.{[], ◌≡◌, ◌<◌, true, is_some, IfOk, IfSome, MatchOption};
 ghost use Rattle.sr_model.specs.Graph.{node_count};
 ghost use Rattle.sr_model.specs.Label.{labels_at};
-ghost use Rattle.sr_model.specs.Walk.{Distance, NoWalk, cost};
+ghost use Rattle.sr_model.specs.Walk.{Distance, NoWalk};
 ghost use Rattle.sr_model.specs.Table.{IsLookup};
 ghost use Rattle.sr_spf.specs.Hops.{AreNextHops};
-ghost use Rattle.sr_fib.specs.Entries.{found_of, numbers};
+ghost use Rattle.sr_fib.specs.Entries.{found_of};
 ghost use Rattle.sr_forward.specs.declared.trace.Walk.{Walk as Walked};
 ghost use Rattle.sr_print.specs.Links.{AreLinks};
 ghost use Rattle.sr_print.specs.Forwarding.{IsEntryWithin};
-ghost use Rattle.sr_run.specs.Session.{HasNode, IsNodeOf, IsForwarded};
+ghost use Rattle.sr_run.specs.Questions.{IsForwarded};
 
 use sr_fib::Entry;
 use sr_forward::{Walk, walk};
-use sr_model::{LinkNo, NodeNo, SystemId};
+use sr_model::{LinkNo, NodeNo};
 use sr_repair::{Version, node_label};
 use std::alloc::{AllocError, Global};
 
-/// The node of this system id. None exactly where the net has none.
-pub fn node_of(version: &Version, system: SystemId) -> Option<NodeNo>
-    ensures { MatchOption result
-        (HasNode version.now.net.graph system → ⊥)
-        (λ node. IsNodeOf version.now.net.graph system node.0) }
-{
-    version.net().graph().node(system)
-}
-
 /// The distance from one node to another. None exactly where there is no walk.
-pub fn distance(version: &Version, from: NodeNo, to: NodeNo) -> Option<u64>
+pub(crate) fn distance(version: &Version, from: NodeNo, to: NodeNo) -> Option<u64>
     requires from { from.0 < node_count version.now.net.graph }
     requires to { to.0 < node_count version.now.net.graph }
     ensures { Distance version.now.net.graph [] from.0 to.0 result }
@@ -36,7 +27,7 @@ pub fn distance(version: &Version, from: NodeNo, to: NodeNo) -> Option<u64>
 }
 
 /// The next hops from one node to another, ascending.
-pub fn next_hops(version: &Version, from: NodeNo, to: NodeNo) -> &[LinkNo]
+pub(crate) fn next_hops(version: &Version, from: NodeNo, to: NodeNo) -> &[LinkNo]
     requires from { from.0 < node_count version.now.net.graph }
     requires to { to.0 < node_count version.now.net.graph }
     ensures hops { AreNextHops version.now.net.graph from.0 to.0 result.now }
@@ -46,7 +37,7 @@ pub fn next_hops(version: &Version, from: NodeNo, to: NodeNo) -> &[LinkNo]
 }
 
 /// What the label does at the node.
-pub fn look(version: &Version, node: NodeNo, label: u32) -> Option<Entry<'_>>
+pub(crate) fn look(version: &Version, node: NodeNo, label: u32) -> Option<Entry<'_>>
     requires { node.0 < node_count version.now.net.graph }
     ensures lookup { IsLookup version.now.net node.0 label (found_of result) }
     ensures within { IfSome (found_of result) (IsEntryWithin version.now.net.graph) }
@@ -57,7 +48,7 @@ pub fn look(version: &Version, node: NodeNo, label: u32) -> Option<Entry<'_>>
 
 /// The walk of a packet from one node under the label of another, no link being closed. None exactly where there is no
 /// walk.
-pub fn forwarded(
+pub(crate) fn forwarded(
     alloc: Global,
     version: &Version,
     from: NodeNo,
@@ -72,8 +63,6 @@ pub fn forwarded(
         (λ walk. IsForwarded version.now.net from.0 to.0 choice walk.links.items)) }
     ensures links { IfOk result (λ found. IfSome found (λ (walk : Walked).
         AreLinks version.now.net.graph walk.links.items)) }
-    ensures fits { IfOk result (λ found. IfSome found (λ (walk : Walked).
-        cost version.now.net.graph (numbers walk.links.items) < 2 ^ 64)) }
 {
     match distance(version, from, to) {
         None => Ok(None),

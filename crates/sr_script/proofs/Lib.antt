@@ -1,8 +1,8 @@
 mod WordLemmas
 mod KeptLemmas
-mod FormLemmas
-mod SaidLemmas
-mod LineLemmas
+mod BlankLemmas
 mod DigitLemmas
 mod OctetLemmas
-mod BlankLemmas
+mod Samples
+mod SaidLemmas
+mod LineLemmas

@@ -1,11 +1,6 @@
--- What the first eight words of a line say, and why they are refused, holds of all its words.
-use Rattle.std.proofs.Common.{◌≡◌, ◌≢◌, ℕ, ◌<◌, ◌≤◌, min, Bool, true, List, [], ◌∷◌, ◌++◌, length, take, zero, suc, refl, sym, ap, subst, ◌∙◌, arith, ◌⊎◌, inl, inr, not, false, None}
-use Rattle.std.proofs.lemmas.Bool.{false≢true}
-use Rattle.std.specs.Prelude.{codes, Contains, Result, Ok, Err, IfOk, IfErr, IsErr, slice_index, slice_index_or, ◌==◌, IsTrue, ◌↔◌}
-use Rattle.std.proofs.Math.Seq.{take-length}
-use Rattle.std.proofs.lemmas.List.{take_min, length-take}
-use Rattle.std.proofs.lemmas.List.Elements.{Contains-append_cases}
-use Rattle.std.proofs.lemmas.List.Sums.{AllPass-from_list_all}
+-- What a line says, and why it is refused.
+use Rattle.std.proofs.Common.{◌≡◌, ◌≢◌, ℕ, ◌<◌, Bool, List, [], ◌∷◌, length, refl, sym, ap, subst, arith, ◌⊎◌, inl, inr}
+use Rattle.std.specs.Prelude.{codes, IsErr, slice_index_or, IsTrue, ◌↔◌}
 use Rattle.hex.specs.Hex.{decode_of}
 use Rattle.sr_script.specs.declared.command.Command.{Command}
 use Rattle.sr_script.specs.declared.command.Command.TheVariants.{Lsp}
@@ -13,67 +8,13 @@ use Rattle.sr_script.specs.declared.line.Line.{Line}
 use Rattle.sr_script.specs.declared.line.Line.TheVariants.{Nothing, Word}
 use Rattle.sr_script.specs.declared.line.LineFault.{LineFault}
 use Rattle.sr_script.specs.declared.line.LineFault.TheVariants.{TooLong, UnknownWord, BadForm, BadHex, Memory}
-use Rattle.sr_script.specs.declared.script_word.ScriptWord.{ScriptWord}
 use Rattle.sr_script.specs.Words.{pieces, word_at, words, words_of}
 use Rattle.sr_script.specs.Says.{Says}
-use Rattle.sr_script.specs.LineSays.{script_words, IsRemark, SaysNothing, IsUnknown, IsKnown, IsLspOf, WordsSay, IsBadForm, IsBadHex, IsWordsFault, IsShort, LineSays, IsLineFault, IsMemory}
-use Rattle.sr_script.specs.Form.{text_of, command_of, edit_words, question_words, round_words, IsOther, IsHexFault}
-use Rattle.sr_script.proofs.FormLemmas.{spelled}
-use Rattle.sr_script.proofs.SaidLemmas.{said-length, known-of, text-known, unsaid, SaysLsp, lsp-said}
-
--- ---- the first eight words
-
-take-few : (ws : List (List ℕ)) → length (take 8 ws) ≤ 7 → take 8 ws ≡ ws
-take-few ws few =
-    let less : min 8 (length ws) ≡ length ws = omega (arith, length-take 8 ws) in
-    sym (take_min 8 ws) ∙ ap (λ n. take n ws) less ∙ take-length ws
-
--- what the first eight say
-eight-say : (ws : List (List ℕ)) (said : Line) → WordsSay (take 8 ws) said → WordsSay ws said
-eight-say [] Nothing s = tt
-eight-say (first ∷ rest) Nothing s = s
-eight-say ws (Word c) s = subst (λ (w : List (List ℕ)). Says w c) (take-few ws (said-length (take 8 ws) c s)) s
-
-still-unknown : (ws : List (List ℕ)) → IsUnknown (take 8 ws) → IsUnknown ws
-still-unknown [] u = u
-still-unknown (first ∷ rest) u = u
-
-still-known : (ws : List (List ℕ)) → IsKnown (take 8 ws) → IsKnown ws
-still-known [] k = k
-still-known (first ∷ rest) k = k
-
-still-unsaid : (ws : List (List ℕ)) (c : Command) → ¬ Says (take 8 ws) c → ¬ Says ws c
-still-unsaid ws c none s =
-    let few : length (take 8 ws) ≤ 7 = omega (arith, length-take 8 ws, said-length ws c s) in
-    none (subst (λ (w : List (List ℕ)). Says w c) (sym (take-few ws few)) s)
-
--- why they are refused
-eight-refuse : (ws : List (List ℕ)) (fault : LineFault) → IsWordsFault (take 8 ws) fault → IsWordsFault ws fault
-eight-refuse ws TooLong f = f
-eight-refuse ws UnknownWord f = still-unknown ws f
-eight-refuse ws BadForm f = record {
-  known = still-known ws f.known;
-  other = λ text e. f.other text (ap (take 8) e);
-  unsaid = λ c. still-unsaid ws c (f.unsaid c);
-}
-eight-refuse ws BadHex f =
-    let few : length (take 8 ws) ≤ 7 = omega (arith, ap length f.lsp) in
-    record { text = f.text; lsp = sym (take-few ws few) ∙ f.lsp; refused = f.refused }
-eight-refuse ws (Memory error) f = tt
-
-line-refused : (line : List ℕ) (fault : LineFault) → IsShort line → IsWordsFault (words_of line) fault → IsLineFault line fault
-line-refused line TooLong short f = absurd f
-line-refused line UnknownWord short f = (short, f)
-line-refused line BadForm short f = (short, f)
-line-refused line BadHex short f = (short, f)
-line-refused line (Memory error) short f = tt
+use Rattle.sr_script.specs.LineSays.{BeginsCommand, IsRemark, SaysNothing, IsUnknown, IsKnown, IsLspOf, WordsSay, IsBadForm, IsBadHex, IsWordsFault, IsShort, LineSays, IsLineFault, IsMemory}
+use Rattle.sr_script.specs.Answers.{IsHexFault}
+use Rattle.sr_script.proofs.SaidLemmas.{said-once, first-not_remark, lsp-length, lsp-decoded}
 
 -- ---- first words
-
-known-first : (ws : List (List ℕ)) (word : List ℕ) → 0 < length word → word_at ws 0 ≡ word → Contains script_words word → IsKnown ws
-unfolding word_at
-known-first [] word some e k = absurd (omega (arith, ap length e))
-known-first (first ∷ rest) word some e k = subst (Contains script_words) (sym e) k
 
 nothing-cases : (ws : List (List ℕ)) → 0 < length ws → (IsRemark (word_at ws 0) → SaysNothing ws) × (SaysNothing ws → IsRemark (word_at ws 0))
 unfolding word_at
@@ -86,69 +27,63 @@ nothing-is ws answer some is =
     let p = nothing-cases ws some in
     (λ yes. p.0 (is.0 yes), λ said. is.1 (p.1 said))
 
-pub other-is : (ws : List (List ℕ)) → ¬ SaysNothing ws → word_at ws 0 ≢ codes "lsp" → IsOther ws
+pub unknown-is : (ws : List (List ℕ)) → ¬ SaysNothing ws → ¬ BeginsCommand (word_at ws 0) → IsUnknown ws
 unfolding word_at
-other-is [] some first = some tt
-other-is (first ∷ rest) some lsp = (some, lsp)
+unknown-is [] some none = some tt
+unknown-is (first ∷ rest) some none = (some, none)
 
-first-not_lsp : (ws : List (List ℕ)) → IsOther ws → word_at ws 0 ≢ codes "lsp"
+known-is : (ws : List (List ℕ)) → 0 < length ws → BeginsCommand (word_at ws 0) → IsKnown ws
 unfolding word_at
-first-not_lsp [] o e = o
-first-not_lsp (first ∷ rest) o e = o.1 e
+known-is [] some k = absurd (omega arith)
+known-is (first ∷ rest) some k = k
 
-contained : (ws : List (List ℕ)) (first word : List ℕ) → Contains (first ∷ ws) word → (first ≡ word) ⊎ Contains ws word
-contained ws first word (zero, l, e) = inl e
-contained ws first word (suc k, l, e) = inr (k, omega arith, e)
+something : (ws : List (List ℕ)) → ¬ SaysNothing ws → 0 < length ws
+something [] some = absurd (some tt)
+something (first ∷ rest) some = omega arith
 
--- a word that begins no command isn't known
-pub unknown-is : (ws : List (List ℕ)) → IsOther ws → ¬ Contains edit_words (word_at ws 0) → ¬ Contains question_words (word_at ws 0) → ¬ Contains round_words (word_at ws 0) → IsUnknown ws
-unfolding word_at
-unknown-is [] o edit question round = o
-unknown-is (first ∷ rest) o edit question round = (
-  o.0,
-  λ known.
-      elim (contained (edit_words ++ (question_words ++ round_words)) (codes "lsp") first known) [
-        | inl e ↦ o.1 (sym e)
-        | inr k ↦ elim (Contains-append_cases edit_words (question_words ++ round_words) first k) [
-          | inl a ↦ edit a
-          | inr b ↦ elim (Contains-append_cases question_words round_words first b) [ inl d ↦ question d | inr e ↦ round e ]
-        ]
-      ],
-)
-
--- ---- refusals
-
--- a first word that begins a command is known
-known-other : (ws : List (List ℕ)) (k : ScriptWord) → IsOther ws → word_at ws 0 ≡ text_of k → IsKnown ws
-unfolding word_at
-known-other [] k o e = o
-known-other (first ∷ rest) k o e = subst (Contains script_words) (sym e) (text-known k)
+known-of : (ws : List (List ℕ)) (command : Command) → Says ws command → IsKnown ws
+known-of ws command p = known-is ws (omega (arith, p.count)) (command, p.first)
 
 first-lsp : (ws : List (List ℕ)) (text : List ℕ) → IsLspOf ws text → word_at ws 0 ≡ codes "lsp"
 unfolding word_at
 first-lsp ws text e = ap (λ (w : List (List ℕ)). slice_index_or w 0 []) e
 
--- words of which no reader answers have a bad form
-pub form-refused : (ws : List (List ℕ)) (k : ScriptWord) → IsOther ws → word_at ws 0 ≡ text_of k → command_of k ws ≡ None → IsBadForm ws
-form-refused ws k o first none = record {
-  known = known-other ws k o first;
-  other = λ text e. first-not_lsp ws o (first-lsp ws text e);
-  unsaid = unsaid ws k first none;
+second-lsp : (ws : List (List ℕ)) (text : List ℕ) → IsLspOf ws text → word_at ws 1 ≡ text
+unfolding word_at
+second-lsp ws text e = ap (λ (w : List (List ℕ)). slice_index_or w 1 []) e
+
+-- ---- refusals
+
+-- words that no reader answers have a bad form
+pub form-refused : (ws : List (List ℕ)) → ¬ SaysNothing ws → word_at ws 0 ≢ codes "lsp" → BeginsCommand (word_at ws 0) → ((command : Command) → ¬ Says ws command) → IsBadForm ws
+form-refused ws some first begins none = record {
+  known = known-is ws (something ws some) begins;
+  other = λ text e. first (first-lsp ws text e);
+  unsaid = none;
 }
+
+two-words : (ws : List (List ℕ)) (first : List ℕ) → length ws ≡ 2 → word_at ws 0 ≡ first → ws ≡ first ∷ word_at ws 1 ∷ []
+unfolding word_at
+two-words [] first two e = absurd (omega arith)
+two-words (a ∷ []) first two e = absurd (omega arith)
+two-words (a ∷ b ∷ []) first two e = ap (λ (w : List ℕ). w ∷ b ∷ []) e
+two-words (a ∷ b ∷ c ∷ rest) first two e = absurd (omega arith)
+
+lsp-begins : (ws : List (List ℕ)) → word_at ws 0 ≡ codes "lsp" → 0 < length ws
+unfolding word_at
+lsp-begins [] e = absurd (omega (arith, ap length e))
+lsp-begins (first ∷ rest) e = omega arith
 
 -- `lsp` with no text, or more than one
 pub lsp-refused : (ws : List (List ℕ)) → word_at ws 0 ≡ codes "lsp" → length ws ≢ 2 → IsBadForm ws
 lsp-refused ws first count = record {
-  known = known-first ws (codes "lsp") (omega arith) first (0, omega arith, refl);
+  known = known-is ws (lsp-begins ws first) (Lsp [], first);
   other = λ text e. count (ap length e);
-  unsaid = λ c s. count (ap length (lsp-said ws c s first).whole);
+  unsaid = λ command p. count (lsp-length ws command p first);
 }
 
-pub lsp-says : (ws : List (List ℕ)) (octets : List ℕ) → word_at ws 0 ≡ codes "lsp" → length ws ≡ 2 → decode_of (word_at ws 1) ≡ Ok octets → Says ws (Lsp octets)
-lsp-says ws octets first two e = (word_at ws 1, spelled 1 ws (codes "lsp") two first, e)
-
 pub hex-refused : (ws : List (List ℕ)) (fault : LineFault) → word_at ws 0 ≡ codes "lsp" → length ws ≡ 2 → IsHexFault (word_at ws 1) fault → IsWordsFault ws fault
-hex-refused ws BadHex first two e = record { text = word_at ws 1; lsp = spelled 1 ws (codes "lsp") two first; refused = e }
+hex-refused ws BadHex first two e = record { text = word_at ws 1; lsp = two-words ws (codes "lsp") two first; refused = e }
 hex-refused ws (Memory error) first two e = tt
 hex-refused ws TooLong first two e = absurd e
 hex-refused ws UnknownWord first two e = absurd e
@@ -156,13 +91,8 @@ hex-refused ws BadForm first two e = absurd e
 
 -- ---- what is said isn't refused
 
--- no word that begins a command begins with `#`
-known-not_remark : (word : List ℕ) → Contains script_words word → ¬ IsRemark word
-known-not_remark word k remark =
-    let each = AllPass-from_list_all (λ (w : List ℕ). not (slice_index w 0 == 35)) script_words refl in
-    let at : not (slice_index word 0 == 35) ≡ true = ap (λ (w : List ℕ). not (slice_index w 0 == 35)) (sym k.2) ∙ each k.0 word k.1 in
-    let hash : not (slice_index word 0 == 35) ≡ false = ap (λ (n : ℕ). not (n == 35)) remark in
-    absurd (false≢true (sym hash ∙ at))
+known-not_remark : (word : List ℕ) → BeginsCommand word → ¬ IsRemark word
+known-not_remark word k remark = first-not_remark k.0 (subst IsRemark k.1 remark)
 
 not-both : (ws : List (List ℕ)) → SaysNothing ws → ¬ IsKnown ws
 not-both [] s k = k
@@ -177,13 +107,10 @@ not-unknown [] k u = u
 not-unknown (first ∷ rest) k u = u.1 k
 
 hex-known : (ws : List (List ℕ)) → IsBadHex ws → IsKnown ws
-hex-known ws f = subst IsKnown (sym f.lsp) (0, omega arith, refl)
+hex-known ws f = subst IsKnown (sym f.lsp) (Lsp [], refl)
 
-not-refused : (ws : List (List ℕ)) → IsBadHex ws → SaysLsp ws → ⊥
-not-refused ws f s =
-    let texts : codes "lsp" ∷ f.text ∷ [] ≡ codes "lsp" ∷ s.text ∷ [] = sym f.lsp ∙ s.whole in
-    let same : f.text ≡ s.text = ap (λ (w : List (List ℕ)). slice_index_or w 1 []) texts in
-    false≢true (subst IsErr (ap decode_of same ∙ s.decoded) f.refused)
+hex-unsaid : (ws : List (List ℕ)) (command : Command) → IsBadHex ws → ¬ Says ws command
+hex-unsaid ws command f p = lsp-decoded ws command p (first-lsp ws f.text f.lsp) (subst (λ (word : List ℕ). IsErr (decode_of word)) (sym (second-lsp ws f.text f.lsp)) f.refused)
 
 words-agree : (ws : List (List ℕ)) (said : Line) (fault : LineFault) → WordsSay ws said → IsWordsFault ws fault → IsMemory fault
 words-agree ws said TooLong s f = f
@@ -192,7 +119,7 @@ words-agree ws (Word c) UnknownWord s f = not-unknown ws (known-of ws c s) f
 words-agree ws Nothing BadForm s f = not-both ws s f.known
 words-agree ws (Word c) BadForm s f = f.unsaid c s
 words-agree ws Nothing BadHex s f = not-both ws s (hex-known ws f)
-words-agree ws (Word c) BadHex s f = not-refused ws f (lsp-said ws c s (first-lsp ws f.text f.lsp))
+words-agree ws (Word c) BadHex s f = hex-unsaid ws c f s
 words-agree ws said (Memory error) s f = tt
 
 pub said-agrees : (line : List ℕ) (said : Line) (fault : LineFault) → LineSays line said → IsLineFault line fault → IsMemory fault
@@ -202,15 +129,45 @@ said-agrees line said BadForm s f = words-agree (words_of line) said BadForm s.s
 said-agrees line said BadHex s f = words-agree (words_of line) said BadHex s.says f.1
 said-agrees line said (Memory error) s f = tt
 
--- ---- what is read of the first eight words is read of the line
+-- ---- there is one meaning, and one fault
 
-pub line-said : (line : List ℕ) (eight : List (List ℕ)) (read : Result Line LineFault) → IsShort line → eight ≡ take 8 (words_of line) → IfOk read (WordsSay eight) → IfOk read (LineSays line)
-line-said line eight (Ok said) short is s = record { short = short; says = eight-say (words_of line) said (subst (λ ws. WordsSay ws said) is s) }
-line-said line eight (Err fault) short is s = tt
+words-once : (ws : List (List ℕ)) (a b : Line) → WordsSay ws a → WordsSay ws b → a ≡ b
+words-once ws Nothing Nothing s t = refl
+words-once ws Nothing (Word d) s t = absurd (not-both ws s (known-of ws d t))
+words-once ws (Word c) Nothing s t = absurd (not-both ws t (known-of ws c s))
+words-once ws (Word c) (Word d) s t = ap (λ (command : Command). Word command) (said-once ws c d s t)
 
-pub line-fault : (line : List ℕ) (eight : List (List ℕ)) (read : Result Line LineFault) → IsShort line → eight ≡ take 8 (words_of line) → IfErr read (IsWordsFault eight) → IfErr read (IsLineFault line)
-line-fault line eight (Ok said) short is f = tt
-line-fault line eight (Err fault) short is f = line-refused line fault short (eight-refuse (words_of line) fault (subst (λ ws. IsWordsFault ws fault) is f))
+pub one-thing : (line : List ℕ) (a b : Line) → LineSays line a → LineSays line b → a ≡ b
+one-thing line a b s t = words-once (words_of line) a b s.says t.says
+
+pub faults-agree : (line : List ℕ) (a b : LineFault) → IsLineFault line a → IsLineFault line b → (a ≡ b) ⊎ IsMemory a ⊎ IsMemory b
+faults-agree line (Memory error) b f g = inr (inl tt)
+faults-agree line a (Memory error) f g = inr (inr tt)
+faults-agree line TooLong TooLong f g = inl refl
+faults-agree line TooLong UnknownWord f g = absurd (omega (arith, g.0))
+faults-agree line TooLong BadForm f g = absurd (omega (arith, g.0))
+faults-agree line TooLong BadHex f g = absurd (omega (arith, g.0))
+faults-agree line UnknownWord TooLong f g = absurd (omega (arith, f.0))
+faults-agree line UnknownWord UnknownWord f g = inl refl
+faults-agree line UnknownWord BadForm f g = absurd (not-unknown (words_of line) g.1.known f.1)
+faults-agree line UnknownWord BadHex f g = absurd (not-unknown (words_of line) (hex-known (words_of line) g.1) f.1)
+faults-agree line BadForm TooLong f g = absurd (omega (arith, f.0))
+faults-agree line BadForm UnknownWord f g = absurd (not-unknown (words_of line) f.1.known g.1)
+faults-agree line BadForm BadForm f g = inl refl
+faults-agree line BadForm BadHex f g = absurd (f.1.other g.1.text g.1.lsp)
+faults-agree line BadHex TooLong f g = absurd (omega (arith, f.0))
+faults-agree line BadHex UnknownWord f g = absurd (not-unknown (words_of line) (hex-known (words_of line) f.1) g.1)
+faults-agree line BadHex BadForm f g = absurd (g.1.other f.1.text f.1.lsp)
+faults-agree line BadHex BadHex f g = inl refl
+
+-- ---- lines
+
+pub line-refused : (line : List ℕ) (fault : LineFault) → IsShort line → IsWordsFault (words_of line) fault → IsLineFault line fault
+line-refused line TooLong short f = absurd f
+line-refused line UnknownWord short f = (short, f)
+line-refused line BadForm short f = (short, f)
+line-refused line BadHex short f = (short, f)
+line-refused line (Memory error) short f = tt
 
 -- a line without bytes says nothing
 empty-line : LineSays [] Nothing

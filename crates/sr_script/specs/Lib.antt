@@ -2,5 +2,5 @@ pub mod Words
 pub mod Number
 pub mod Says
 pub mod LineSays
-pub mod Form
+pub mod Answers
 pub mod Digits

@@ -1,20 +1,18 @@
 -- What a line says, and why a line is refused (this project's rule). A line comes without its line feed.
-use Rattle.std.specs.Prelude.{◌≡◌, ℕ, ◌<◌, ◌≤◌, List, [], ◌∷◌, length, codes, slice_index, Contains, IsErr}
+use Rattle.std.specs.Prelude.{◌≡◌, ℕ, ◌<◌, ◌≤◌, List, [], ◌∷◌, length, codes, slice_index, IsErr}
 use Rattle.hex.specs.Hex.{decode_of}
 use Rattle.sr_script.specs.declared.command.Command.{Command}
+use Rattle.sr_script.specs.declared.line.TheConstants.{LONGEST_LINE}
 use Rattle.sr_script.specs.declared.line.Line.{Line}
 use Rattle.sr_script.specs.declared.line.Line.TheVariants.{Nothing, Word}
 use Rattle.sr_script.specs.declared.line.LineFault.{LineFault}
 use Rattle.sr_script.specs.declared.line.LineFault.TheVariants.{TooLong, UnknownWord, BadForm, BadHex, Memory}
 use Rattle.sr_script.specs.Words.{words_of}
-use Rattle.sr_script.specs.Says.{Says}
+use Rattle.sr_script.specs.Says.{Says, first_word}
 
--- the words with which a command may begin
-abbrev pub script_words : List (List ℕ)
-script_words =
-    codes "lsp" ∷ codes "cost" ∷ codes "down" ∷ codes "up" ∷ codes "depth" ∷ codes "commit" ∷ codes "drop"
-    ∷ codes "dist" ∷ codes "next" ∷ codes "label" ∷ codes "spaces" ∷ codes "repair" ∷ codes "walk"
-    ∷ codes "audit" ∷ codes "hold" ∷ codes "watch" ∷ codes "join" ∷ codes "show" ∷ []
+-- the word begins a command
+abbrev pub BeginsCommand : List ℕ → Type 0
+BeginsCommand word = (command : Command) × (word ≡ first_word command)
 
 -- the word begins with `#`, which is 35
 abbrev pub IsRemark : List ℕ → Type 0
@@ -28,12 +26,12 @@ SaysNothing (first ∷ rest) = IsRemark first
 -- the first word begins neither a remark nor a command
 abbrev pub IsUnknown : List (List ℕ) → Type 0
 IsUnknown [] = ⊥
-IsUnknown (first ∷ rest) = ¬ IsRemark first × ¬ Contains script_words first
+IsUnknown (first ∷ rest) = ¬ IsRemark first × ¬ BeginsCommand first
 
 -- the first word begins a command
 abbrev pub IsKnown : List (List ℕ) → Type 0
 IsKnown [] = ⊥
-IsKnown (first ∷ rest) = Contains script_words first
+IsKnown (first ∷ rest) = BeginsCommand first
 
 -- the words are `lsp` and one text
 abbrev pub IsLspOf : List (List ℕ) → List ℕ → Type 0
@@ -64,9 +62,9 @@ IsWordsFault ws BadForm = IsBadForm ws
 IsWordsFault ws BadHex = IsBadHex ws
 IsWordsFault ws (Memory error) = Unit {0}
 
--- at most 140,000 bytes, a carriage return counted
+-- no more bytes than the longest line may have, a carriage return counted
 abbrev pub IsShort : List ℕ → Type 0
-IsShort line = length line ≤ 140000
+IsShort line = length line ≤ LONGEST_LINE
 
 -- a line that isn't too long says what its words say
 pub record LineSays (line : List ℕ) (said : Line) : Type 0 where
@@ -75,7 +73,7 @@ pub record LineSays (line : List ℕ) (said : Line) : Type 0 where
 
 -- the line is refused so; memory may run out at any line
 abbrev pub IsLineFault : List ℕ → LineFault → Type 0
-IsLineFault line TooLong = 140000 < length line
+IsLineFault line TooLong = LONGEST_LINE < length line
 IsLineFault line UnknownWord = IsShort line × IsUnknown (words_of line)
 IsLineFault line BadForm = IsShort line × IsBadForm (words_of line)
 IsLineFault line BadHex = IsShort line × IsBadHex (words_of line)

@@ -2,6 +2,7 @@
 use Rattle.std.specs.Prelude.{ℕ, ◌+◌, ◌-◌, ◌*◌, nat_le, ◌&&◌, Bool, if◌then◌else◌, List, length, fold, Option, Some, None}
 use Rattle.std.specs.List.{list_all}
 use Rattle.std.specs.Char.{is_ascii_digit}
+use Rattle.sr_script.specs.declared.number.TheConstants.{MOST_DIGITS}
 
 -- the number that decimal digits write, the highest digit first; 48 is `b'0'`
 abbrev pub decimal_value : List ℕ → ℕ
@@ -9,7 +10,7 @@ decimal_value word = fold (λ n byte. n * 10 + (byte - 48)) 0 word
 
 -- one to ten digits, and nothing else
 abbrev pub is_number : List ℕ → Bool
-is_number word = list_all is_ascii_digit word && (nat_le 1 (length word) && nat_le (length word) 10)
+is_number word = list_all is_ascii_digit word && (nat_le 1 (length word) && nat_le (length word) MOST_DIGITS)
 
 -- the number that a word writes, if it is a number
 unfoldable pub number_of : List ℕ → Option ℕ

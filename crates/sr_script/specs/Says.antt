@@ -1,10 +1,16 @@
 -- The commands of a script, word by word (this project's rule).
-use Rattle.std.specs.Prelude.{◌≡◌, ℕ, List, [], ◌∷◌, codes, Some, Ok}
+use Rattle.std.specs.Prelude.{◌≡◌, ℕ, ◌+◌, List, [], ◌∷◌, ◌++◌, length, codes, Some, Ok}
 use Rattle.hex.specs.Hex.{decode_of}
 use Rattle.sr_model.specs.declared.case.Kind.{Kind}
 use Rattle.sr_model.specs.declared.case.Kind.TheVariants.{Link, Node, Risk}
 use Rattle.sr_model.specs.SystemText.{system_read}
 use Rattle.sr_script.specs.Number.{number_in}
+use Rattle.sr_script.specs.Words.{word_at}
+use Rattle.sr_script.specs.declared.command.TheConstants.{MOST_METRIC, MOST_DEPTH, MOST_LABEL, MOST_CHOICE, MOST_WATCHERS, MOST_ROUNDS}
+use Rattle.sr_script.specs.declared.name.TheConstants.{MOST_LINKS}
+use Rattle.sr_script.specs.declared.name.EndNames.{EndNames}
+use Rattle.sr_script.specs.declared.name.LinkName.{LinkName}
+use Rattle.sr_script.specs.declared.name.RepairName.{RepairName}
 use Rattle.sr_script.specs.declared.command.Command.{Command}
 use Rattle.sr_script.specs.declared.command.Command.TheVariants.{Lsp, Cost, Down, Up, Depth, Commit, DropStaged, Dist, Next, Label, Spaces, Repair, Walk, WalkRepair, Audit, AuditFull, Hold, Watch, Join, Show}
 
@@ -14,37 +20,72 @@ kind_text Link = codes "link"
 kind_text Node = codes "node"
 kind_text Risk = codes "risk"
 
--- the words a, b and c name the n-th link between two nodes: its ends, and its place from 1
-pub record NamesLink (a b c : List ℕ) (from to n : ℕ) : Type 0 where
-  pub begins : system_read a ≡ Some from
-  pub ends : system_read b ≡ Some to
-  pub place : number_in 1 65535 c ≡ Some n
+-- what a word behind the first gives: itself, a system id, a number of a range, a kind of failure, or octets
+pub data Argument : Type 0 where
+  Itself : List ℕ → Argument
+  System : ℕ → Argument
+  Number : ℕ → ℕ → ℕ → Argument
+  Failure : Kind → Argument
+  Hex : List ℕ → Argument
 
--- the words name a failure and a destination: the kind k, the link a, b and c, and the destination d
-pub record NamesRepair (k a b c d : List ℕ) (kind : Kind) (from to n dest : ℕ) : Type 0 where
-  pub failure : k ≡ kind_text kind
-  pub link : NamesLink a b c from to n
-  pub reaches : system_read d ≡ Some dest
+-- the word gives the argument; a number comes behind the least and the greatest one that may stand there
+abbrev pub IsGiven : List ℕ → Argument → Type 0
+IsGiven word (Itself text) = word ≡ text
+IsGiven word (System id) = system_read word ≡ Some id
+IsGiven word (Number low high n) = number_in low high word ≡ Some n
+IsGiven word (Failure kind) = word ≡ kind_text kind
+IsGiven word (Hex octets) = decode_of word ≡ Ok octets
 
--- the words say the command
-abbrev pub Says : List (List ℕ) → Command → Type 0
-Says ws (Lsp octets) = (text : List ℕ) × (ws ≡ codes "lsp" ∷ text ∷ []) × (decode_of text ≡ Ok octets)
-Says ws (Cost from to n metric) = (a b c d : List ℕ) × (ws ≡ codes "cost" ∷ a ∷ b ∷ c ∷ d ∷ []) × NamesLink a b c from to n × (number_in 1 16777214 d ≡ Some metric)
-Says ws (Down from to n) = (a b c : List ℕ) × (ws ≡ codes "down" ∷ a ∷ b ∷ c ∷ []) × NamesLink a b c from to n
-Says ws (Up from to n) = (a b c : List ℕ) × (ws ≡ codes "up" ∷ a ∷ b ∷ c ∷ []) × NamesLink a b c from to n
-Says ws (Depth depth) = (a : List ℕ) × (ws ≡ codes "depth" ∷ a ∷ []) × (number_in 0 12 a ≡ Some depth)
-Says ws Commit = ws ≡ codes "commit" ∷ []
-Says ws DropStaged = ws ≡ codes "drop" ∷ []
-Says ws (Dist from to) = (a b : List ℕ) × (ws ≡ codes "dist" ∷ a ∷ b ∷ []) × (system_read a ≡ Some from) × (system_read b ≡ Some to)
-Says ws (Next from to) = (a b : List ℕ) × (ws ≡ codes "next" ∷ a ∷ b ∷ []) × (system_read a ≡ Some from) × (system_read b ≡ Some to)
-Says ws (Label node label) = (a x : List ℕ) × (ws ≡ codes "label" ∷ a ∷ x ∷ []) × (system_read a ≡ Some node) × (number_in 0 1048575 x ≡ Some label)
-Says ws (Spaces kind from to n dest) = (k a b c d : List ℕ) × (ws ≡ codes "spaces" ∷ k ∷ a ∷ b ∷ c ∷ d ∷ []) × NamesRepair k a b c d kind from to n dest
-Says ws (Repair kind from to n dest) = (k a b c d : List ℕ) × (ws ≡ codes "repair" ∷ k ∷ a ∷ b ∷ c ∷ d ∷ []) × NamesRepair k a b c d kind from to n dest
-Says ws (Walk from dest choice) = (a d x : List ℕ) × (ws ≡ codes "walk" ∷ a ∷ d ∷ x ∷ []) × (system_read a ≡ Some from) × (system_read d ≡ Some dest) × (number_in 0 4294967295 x ≡ Some choice)
-Says ws (WalkRepair kind from to n dest choice) = (k a b c d x : List ℕ) × (ws ≡ codes "walk" ∷ k ∷ a ∷ b ∷ c ∷ d ∷ x ∷ []) × NamesRepair k a b c d kind from to n dest × (number_in 0 4294967295 x ≡ Some choice)
-Says ws Audit = ws ≡ codes "audit" ∷ []
-Says ws AuditFull = ws ≡ codes "audit" ∷ codes "full" ∷ []
-Says ws Hold = ws ≡ codes "hold" ∷ []
-Says ws (Watch watchers rounds) = (a b : List ℕ) × (ws ≡ codes "watch" ∷ a ∷ b ∷ []) × (number_in 1 8 a ≡ Some watchers) × (number_in 1 16 b ≡ Some rounds)
-Says ws Join = ws ≡ codes "join" ∷ []
-Says ws Show = ws ≡ codes "show" ∷ []
+-- the words from place i on give these arguments, a word each
+abbrev pub AreGiven : List (List ℕ) → ℕ → List Argument → Type 0
+AreGiven ws i [] = Unit {0}
+AreGiven ws i (argument ∷ others) = IsGiven (word_at ws i) argument × AreGiven ws (i + 1) others
+
+-- two nodes: where a way begins, and where it ends
+abbrev pub ends_arguments : EndNames → List Argument
+ends_arguments ends = System ends.from ∷ System ends.to ∷ []
+
+-- a link: its ends, and its place from 1 among those between them
+abbrev pub link_arguments : LinkName → List Argument
+link_arguments link = System link.from ∷ System link.to ∷ Number 1 MOST_LINKS link.n ∷ []
+
+-- a failure by its kind and the protected link, and a destination
+abbrev pub repair_arguments : RepairName → List Argument
+repair_arguments repair = Failure repair.kind ∷ link_arguments repair.link ++ System repair.dest ∷ []
+
+-- the form of a command: its first word, and the arguments behind it, in the order of the words
+abbrev pub form : Command → List ℕ × List Argument
+form (Lsp octets) = (codes "lsp", Hex octets ∷ [])
+form (Cost link metric) = (codes "cost", link_arguments link ++ Number 1 MOST_METRIC metric ∷ [])
+form (Down link) = (codes "down", link_arguments link)
+form (Up link) = (codes "up", link_arguments link)
+form (Depth depth) = (codes "depth", Number 0 MOST_DEPTH depth ∷ [])
+form Commit = (codes "commit", [])
+form DropStaged = (codes "drop", [])
+form (Dist ends) = (codes "dist", ends_arguments ends)
+form (Next ends) = (codes "next", ends_arguments ends)
+form (Label node label) = (codes "label", System node ∷ Number 0 MOST_LABEL label ∷ [])
+form (Spaces repair) = (codes "spaces", repair_arguments repair)
+form (Repair repair) = (codes "repair", repair_arguments repair)
+form (Walk ends choice) = (codes "walk", ends_arguments ends ++ Number 0 MOST_CHOICE choice ∷ [])
+form (WalkRepair repair choice) = (codes "walk", repair_arguments repair ++ Number 0 MOST_CHOICE choice ∷ [])
+form Audit = (codes "audit", [])
+form AuditFull = (codes "audit", Itself (codes "full") ∷ [])
+form Hold = (codes "hold", [])
+form (Watch watchers rounds) = (codes "watch", Number 1 MOST_WATCHERS watchers ∷ Number 1 MOST_ROUNDS rounds ∷ [])
+form Join = (codes "join", [])
+form Show = (codes "show", [])
+
+-- the word with which a command begins
+abbrev pub first_word : Command → List ℕ
+first_word command = (form command).0
+
+-- what the words behind it give
+abbrev pub arguments : Command → List Argument
+arguments command = (form command).1
+
+-- the words say the command: its first word, and behind it a word for each argument, and no others
+pub record Says (ws : List (List ℕ)) (command : Command) : Type 0 where
+  pub first : word_at ws 0 ≡ first_word command
+  pub others : AreGiven ws 1 (arguments command)
+  pub count : length ws ≡ 1 + length (arguments command)

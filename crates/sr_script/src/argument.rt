@@ -1,59 +1,38 @@
 //! What the words behind the first name: system ids, numbers, kinds of failures, links, and repairs.
 
-ghost use Rattle.std.specs.Prelude.{◌≡◌, ◌+◌, ◌<◌, ◌≤◌, IfSome};
-ghost use Rattle.sr_script.specs.Form.{system_at as system_there, number_at as number_there, kind_at as kind_there, ends_at as ends_there, link_at as link_there, repair_at as repair_there};
+ghost use Rattle.std.specs.Prelude.{◌≡◌, ◌+◌, ◌<◌, ◌≤◌, IfSome, MatchOption};
+ghost use Rattle.sr_model.specs.SystemText.{system_read};
+ghost use Rattle.sr_script.specs.Words.{word_at};
+ghost use Rattle.sr_script.specs.Number.{number_in as number_within};
+ghost use Rattle.sr_script.specs.Says.{AreGiven, kind_text, ends_arguments, link_arguments, repair_arguments};
+ghost use Rattle.sr_script.specs.Answers.{NamesNoKind, NamesNoEnds, NamesNoLink, NamesNoRepair};
 
+use crate::name::{EndNames, LinkName, MOST_LINKS, RepairName};
 use crate::number::number_in;
-use crate::words::Words;
+use crate::words::{KEPT, Words};
 use sr_model::{Kind, SystemId};
 
-/// The greatest place of a link among those between its ends.
-const MOST_LINKS: u32 = 65_535;
-
-/// Two system ids: the ends of a link, or of a walk.
-#[derive(Clone, Copy)]
-pub(crate) struct Ends {
-    pub from: SystemId,
-    pub to: SystemId,
-}
-
-/// A link by its ends, and its place, from 1, among those between them.
-#[derive(Clone, Copy)]
-pub(crate) struct LinkName {
-    pub from: SystemId,
-    pub to: SystemId,
-    pub n: u32,
-}
-
-/// A failure by its kind and the protected link, and a destination.
-#[derive(Clone, Copy)]
-pub(crate) struct RepairName {
-    pub kind: Kind,
-    pub link: LinkName,
-    pub dest: SystemId,
-}
-
 /// The system id at a place.
-#[tactic(auto, unfolding(crate::specs::Form::system_at))]
 pub(crate) fn system_at(words: &Words<'_>, place: usize) -> Option<SystemId>
-    ensures { result ≡ system_there words.now place }
+    requires { place < KEPT }
+    ensures { result ≡ system_read (word_at words.now place) }
 {
     SystemId::read(words.get(place))
 }
 
 /// The number at a place, where it is at least the one bound and at most the other.
-#[tactic(auto, unfolding(crate::specs::Form::number_at))]
 pub(crate) fn number_at(words: &Words<'_>, place: usize, low: u32, high: u32) -> Option<u32>
-    ensures value { result ≡ number_there words.now place low high }
+    requires { place < KEPT }
+    ensures value { result ≡ number_within low high (word_at words.now place) }
     ensures range { IfSome result (λ n. (low ≤ n) × (n ≤ high)) }
 {
     number_in(words.get(place), low, high)
 }
 
 /// The kind of failure at a place.
-#[tactic(auto, unfolding(crate::specs::Form::kind_at))]
 fn kind_at(words: &Words<'_>, place: usize) -> Option<Kind>
-    ensures { result ≡ kind_there words.now place }
+    requires { place < KEPT }
+    ensures { MatchOption result (NamesNoKind (word_at words.now place)) (λ kind. word_at words.now place ≡ kind_text kind) }
 {
     let word = words.get(place);
     if word == b"link".as_slice() {
@@ -68,35 +47,29 @@ fn kind_at(words: &Words<'_>, place: usize) -> Option<Kind>
 }
 
 /// The ends that are named from a place on.
-#[tactic(auto, unfolding(crate::specs::Form::ends_at))]
-pub(crate) fn ends_at(words: &Words<'_>, place: usize) -> Option<Ends>
-    requires { place < 8 }
-    ensures { result ≡ ends_there words.now place }
+pub(crate) fn ends_at(words: &Words<'_>, place: usize) -> Option<EndNames>
+    requires { place + 1 < KEPT }
+    ensures { MatchOption result (NamesNoEnds words.now place) (λ ends. AreGiven words.now place (ends_arguments ends)) }
 {
     let from = system_at(words, place)?;
     let to = system_at(words, place + 1)?;
-    Some(Ends { from, to })
+    Some(EndNames { from, to })
 }
 
 /// The link that is named from a place on.
-#[tactic(auto, unfolding(crate::specs::Form::link_at))]
 pub(crate) fn link_at(words: &Words<'_>, place: usize) -> Option<LinkName>
-    requires { place < 8 }
-    ensures { result ≡ link_there words.now place }
+    requires { place + 2 < KEPT }
+    ensures { MatchOption result (NamesNoLink words.now place) (λ link. AreGiven words.now place (link_arguments link)) }
 {
-    let ends = ends_at(words, place)?;
+    let from = system_at(words, place)?;
+    let to = system_at(words, place + 1)?;
     let n = number_at(words, place + 2, 1, MOST_LINKS)?;
-    Some(LinkName {
-        from: ends.from,
-        to: ends.to,
-        n,
-    })
+    Some(LinkName { from, to, n })
 }
 
 /// The failure and the destination that are named behind the first word.
-#[tactic(auto, unfolding(crate::specs::Form::repair_at))]
 pub(crate) fn repair_at(words: &Words<'_>) -> Option<RepairName>
-    ensures { result ≡ repair_there words.now }
+    ensures { MatchOption result (NamesNoRepair words.now 1) (λ repair. AreGiven words.now 1 (repair_arguments repair)) }
 {
     let kind = kind_at(words, 1)?;
     let link = link_at(words, 2)?;

@@ -1,89 +1,58 @@
 //! What a script asks for.
 
+use crate::name::{EndNames, LinkName, RepairName};
 use crate::octets::Octets;
-use sr_model::{Kind, SystemId};
+use sr_model::SystemId;
 
-/// A command of a script, with what its words name. `from` and `to` are the ends of a link or of a walk, `n` is the
-/// place, from 1, of a link among those between its ends, and `choice` the number by which equal-cost links are chosen.
+/// The greatest metric of a link in use: the maximum link metric, one above, takes a link out of use (RFC 5305, 3).
+pub const MOST_METRIC: u32 = 16_777_214;
+
+/// The greatest depth: how many segments a repair list may have at most.
+pub const MOST_DEPTH: u32 = 12;
+
+/// The greatest label: labels have 20 bits (RFC 3032, 2.1).
+pub const MOST_LABEL: u32 = 1_048_575;
+
+/// The greatest choice number.
+pub const MOST_CHOICE: u32 = u32::MAX;
+
+/// The most watchers.
+pub const MOST_WATCHERS: u32 = 8;
+
+/// The most rounds of a watcher.
+pub const MOST_ROUNDS: u32 = 16;
+
+/// A command of a script, with what its words name. `choice` is the number by which equal-cost links are chosen.
 #[derive(Debug, Drop)]
 pub enum Command {
     /// `lsp HEX`: stages the octets of a link-state PDU.
-    Lsp {
-        octets: Octets,
-    },
+    Lsp { octets: Octets },
     /// `cost A B n M`: stages a metric for a link.
-    Cost {
-        from: SystemId,
-        to: SystemId,
-        n: u32,
-        metric: u32,
-    },
+    Cost { link: LinkName, metric: u32 },
     /// `down A B n`: stages that a pair of links is down.
-    Down {
-        from: SystemId,
-        to: SystemId,
-        n: u32,
-    },
+    Down { link: LinkName },
     /// `up A B n`: stages that a pair of links is up.
-    Up {
-        from: SystemId,
-        to: SystemId,
-        n: u32,
-    },
+    Up { link: LinkName },
     /// `depth K`: stages how many segments a repair list may have.
-    Depth {
-        depth: u8,
-    },
+    Depth { depth: u8 },
     /// `commit`: makes a net of what is staged, and publishes it.
     Commit,
     /// `drop`: forgets what is staged.
     DropStaged,
     /// `dist A B`: asks for the distance from A to B.
-    Dist {
-        from: SystemId,
-        to: SystemId,
-    },
+    Dist { ends: EndNames },
     /// `next A B`: asks for the next hops of A towards B.
-    Next {
-        from: SystemId,
-        to: SystemId,
-    },
+    Next { ends: EndNames },
     /// `label A X`: asks what node A does with label X.
-    Label {
-        node: SystemId,
-        label: u32,
-    },
+    Label { node: SystemId, label: u32 },
     /// `spaces KIND A B n D`: asks for the spaces of a failure and a destination.
-    Spaces {
-        kind: Kind,
-        from: SystemId,
-        to: SystemId,
-        n: u32,
-        dest: SystemId,
-    },
+    Spaces { repair: RepairName },
     /// `repair KIND A B n D`: asks for the repair list of a failure and a destination.
-    Repair {
-        kind: Kind,
-        from: SystemId,
-        to: SystemId,
-        n: u32,
-        dest: SystemId,
-    },
+    Repair { repair: RepairName },
     /// `walk A D K`: asks for the walk of a packet from A to D.
-    Walk {
-        from: SystemId,
-        dest: SystemId,
-        choice: u32,
-    },
+    Walk { ends: EndNames, choice: u32 },
     /// `walk KIND A B n D K`: asks for the walk of a repaired packet.
-    WalkRepair {
-        kind: Kind,
-        from: SystemId,
-        to: SystemId,
-        n: u32,
-        dest: SystemId,
-        choice: u32,
-    },
+    WalkRepair { repair: RepairName, choice: u32 },
     /// `audit`: asks for the counts over all cases.
     Audit,
     /// `audit full`: asks for the answer of each case, too.
@@ -91,10 +60,7 @@ pub enum Command {
     /// `hold`: begins an audit of the current version beside the script.
     Hold,
     /// `watch T R`: starts T watchers of R rounds each.
-    Watch {
-        watchers: u32,
-        rounds: u32,
-    },
+    Watch { watchers: u32, rounds: u32 },
     /// `join`: waits for the work beside the script, and asks for its reports.
     Join,
     /// `show`: asks for the current version, its nodes and links, the accepted depth, and how many edits are staged.

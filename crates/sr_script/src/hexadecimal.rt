@@ -2,7 +2,7 @@
 
 ghost use Rattle.std.specs.Prelude.{◌≡◌, Ok, IfOk, IfErr};
 ghost use Rattle.hex.specs.Hex.{decode_of};
-ghost use Rattle.sr_script.specs.Form.{IsHexFault};
+ghost use Rattle.sr_script.specs.Answers.{IsHexFault};
 
 use crate::digits::write_octets;
 use crate::line::LineFault;

@@ -4,26 +4,26 @@
 mod argument;
 mod blank;
 mod blank_block;
-mod case_form;
 mod command;
 mod cursor;
 mod digits;
-mod end_form;
 mod hexadecimal;
 mod law;
 mod line;
-mod link_form;
-mod lone_form;
+mod name;
 mod number;
 mod octets;
+mod readers;
 mod reading;
-mod script_word;
 #[cfg(test)]
 mod tests;
 mod words;
 
-pub use command::Command;
+pub use command::{
+    Command, MOST_CHOICE, MOST_DEPTH, MOST_LABEL, MOST_METRIC, MOST_ROUNDS, MOST_WATCHERS,
+};
 pub use law::{fault_is_unique, line_says_one_thing, said_is_not_refused};
-pub use line::{Line, LineFault};
+pub use line::{LONGEST_LINE, Line, LineFault};
+pub use name::{EndNames, LinkName, MOST_LINKS, RepairName};
 pub use octets::Octets;
 pub use reading::read_line;

@@ -4,7 +4,7 @@ ghost use Rattle.std.specs.Prelude.{◌≡◌, ◌≤◌, IfSome};
 ghost use Rattle.sr_script.specs.Number.{number_of, number_in as number_within};
 
 /// The most digits of a number.
-const MOST_DIGITS: usize = 10;
+pub const MOST_DIGITS: usize = 10;
 
 /// The number that the word writes. None exactly where the word isn't one to ten decimal digits.
 #[tactic(auto, unfolding(crate::specs::Number::number_of))]

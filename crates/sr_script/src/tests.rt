@@ -46,15 +46,15 @@ fn edits_are_read(rt: HostRuntime) -> Result<(), Fail> {
         ),
         (
             "\tcost 0000.0000.00ff  0000.0000.00FF\t \t0000000001 16777214 \r",
-            "Cost { from: SystemId { value: 255 }, to: SystemId { value: 255 }, n: 1, metric: 16777214 }",
+            "Cost { link: LinkName { from: SystemId { value: 255 }, to: SystemId { value: 255 }, n: 1 }, metric: 16777214 }",
         ),
         (
             "down 1921.6800.1001 0000.0000.0002 65535",
-            "Down { from: SystemId { value: 27631269449729 }, to: SystemId { value: 2 }, n: 65535 }",
+            "Down { link: LinkName { from: SystemId { value: 27631269449729 }, to: SystemId { value: 2 }, n: 65535 } }",
         ),
         (
             "up 0000.0000.0001 0000.0000.0002 065535\t",
-            "Up { from: SystemId { value: 1 }, to: SystemId { value: 2 }, n: 65535 }",
+            "Up { link: LinkName { from: SystemId { value: 1 }, to: SystemId { value: 2 }, n: 65535 } }",
         ),
         ("depth 12\r", "Depth { depth: 12 }"),
         (" commit\r", "Commit"),
@@ -71,11 +71,11 @@ fn questions_are_read(rt: HostRuntime) -> Result<(), Fail> {
     for (line, expected) in [
         (
             "dist 0000.0000.0001\t\t0000.0000.0002",
-            "Dist { from: SystemId { value: 1 }, to: SystemId { value: 2 } }",
+            "Dist { ends: EndNames { from: SystemId { value: 1 }, to: SystemId { value: 2 } } }",
         ),
         (
             "next  0000.0000.0001 0000.0000.0002",
-            "Next { from: SystemId { value: 1 }, to: SystemId { value: 2 } }",
+            "Next { ends: EndNames { from: SystemId { value: 1 }, to: SystemId { value: 2 } } }",
         ),
         (
             "label 0000.0000.000a 0001048575",
@@ -83,22 +83,22 @@ fn questions_are_read(rt: HostRuntime) -> Result<(), Fail> {
         ),
         (
             "spaces link 0000.0000.0001 0000.0000.0002 3 0000.0000.0004",
-            "Spaces { kind: Link, from: SystemId { value: 1 }, to: SystemId { value: 2 }, n: 3, \
-            dest: SystemId { value: 4 } }",
+            "Spaces { repair: RepairName { kind: Link, link: LinkName { from: SystemId { value: 1 }, to: SystemId { value: 2 }, n: 3 }, \
+            dest: SystemId { value: 4 } } }",
         ),
         (
             "repair node 0000.0000.0001 0000.0000.0002 3 0000.0000.0004",
-            "Repair { kind: Node, from: SystemId { value: 1 }, to: SystemId { value: 2 }, n: 3, \
-            dest: SystemId { value: 4 } }",
+            "Repair { repair: RepairName { kind: Node, link: LinkName { from: SystemId { value: 1 }, to: SystemId { value: 2 }, n: 3 }, \
+            dest: SystemId { value: 4 } } }",
         ),
         (
             "walk 0000.0000.0001 0000.0000.0004 4294967295",
-            "Walk { from: SystemId { value: 1 }, dest: SystemId { value: 4 }, choice: 4294967295 }",
+            "Walk { ends: EndNames { from: SystemId { value: 1 }, to: SystemId { value: 4 } }, choice: 4294967295 }",
         ),
         (
             "walk risk 0000.0000.0001 0000.0000.0002 3 0000.0000.0004 0",
-            "WalkRepair { kind: Risk, from: SystemId { value: 1 }, to: SystemId { value: 2 }, n: 3, \
-            dest: SystemId { value: 4 }, choice: 0 }",
+            "WalkRepair { repair: RepairName { kind: Risk, link: LinkName { from: SystemId { value: 1 }, to: SystemId { value: 2 }, n: 3 }, \
+            dest: SystemId { value: 4 } }, choice: 0 }",
         ),
     ] {
         expect_command(&rt, alloc, line, expected)?;

@@ -1,62 +1,72 @@
 //! The words of a line.
 
-ghost use Rattle.std.specs.Prelude.{◌≡◌, ℕ, List, [], take, length, slice_index_or};
+ghost use Rattle.std.specs.Prelude.{◌≡◌, ℕ, List, [], ◌<◌, min, length, slice_index_or};
 ghost use Rattle.sr_script.specs.Words.{words as words_in, word_at};
 
 use crate::cursor::next_word;
 use std::marker::Model;
 
-/// How many words are kept: no command has more than seven, so an eighth shows that there are too many.
-const MOST_WORDS: usize = 8;
+/// How many words are kept.
+pub const KEPT: usize = 8;
 
-/// The first eight words of a text. Contracts see them as a list of lists of bytes.
+/// The words of a text: the first eight, and the text behind these. Contracts see all of them, as a list of lists of
+/// bytes. Commands of more words go on behind the eighth, word by word.
 #[derive(Drop)]
 pub(crate) struct Words<'a> {
-    texts: [&'a [u8]; MOST_WORDS],
+    texts: [&'a [u8]; KEPT],
     count: usize,
+    behind: &'a [u8],
 }
 
 impl<'a> Model for Words<'a> {
-    ghost use Rattle.std.specs.Prelude.{List, ℕ, map, take, ◌≤◌};
+    ghost use Rattle.std.specs.Prelude.{List, ℕ, [], map, take, ◌++◌, ◌≡◌, ◌<◌, ◌≤◌};
+    ghost use Rattle.sr_script.specs.Words.{words as words_in};
+    ghost use Rattle.sr_script.specs.declared.words.TheConstants.{KEPT};
 
     ghost Value = { List (List ℕ) };
 
-    ghost view = { λ w. map (λ text. text.now) (take w.count w.texts) };
+    ghost view = { λ w. map (λ text. text.now) (take w.count w.texts) ++ words_in w.behind.now };
 
-    ghost invariant = { λ w. w.count ≤ 8 };
+    ghost invariant = { λ w. (w.count ≤ KEPT) × (w.count < KEPT → words_in w.behind.now ≡ []) };
 }
 
 impl<'a> Words<'a> {
-    /// The first eight words of the text.
+    /// The words of the text.
     pub fn of(text: &'a [u8]) -> Words<'a>
-        ensures { result ≡ take 8 (words_in text.now) }
+        ensures { result ≡ words_in text.now }
     {
-        let mut texts = [b"".as_slice(); MOST_WORDS];
-        let mut rest = text;
-        for count in 0..MOST_WORDS {
-            match next_word(rest) {
-                None => return Words { texts, count },
+        let mut texts = [b"".as_slice(); KEPT];
+        let mut behind = text;
+        for count in 0..KEPT {
+            match next_word(behind) {
+                None => return Words {
+                    texts,
+                    count,
+                    behind,
+                },
                 Some(next) => {
                     texts[count] = next.word;
-                    rest = next.rest;
+                    behind = next.rest;
                 }
             }
         }
         Words {
             texts,
-            count: MOST_WORDS,
+            count: KEPT,
+            behind,
         }
     }
 
     /// How many there are: 8 also stands for more.
     pub fn len(&self) -> usize
-        ensures { result ≡ length self.now }
+        ensures { result ≡ min KEPT (length self.now) }
     {
         self.count
     }
 
-    /// The word at a place, from 0, and an empty one behind the last.
+    /// The word at a place among the first eight, from 0, and an empty one behind the last.
     pub fn get(&self, place: usize) -> &'a [u8]
+        requires { place < KEPT }
         ensures { result.now ≡ word_at self.now place }
     {
         if place < self.count {

@@ -85,6 +85,7 @@ fn all_taken_in<L: Ledger>(
     ensures rows { IfOk result (λ rows. rows.items ≡ rows_in all.items) }
     ensures steps { OnOk result (steps.new ≡ steps.old + length all.items) }
     ensures most { steps.new ≤ steps.old + length all.items }
+    ensures least { steps.old ≤ steps.new }
 {
     let mut rows = Vec::with_capacity(alloc, all.len())?;
     for one in all {
@@ -105,6 +106,7 @@ pub(crate) fn rows_of<L: Ledger>(
     ensures rows { IfOk result (λ rows. AreRows graph.now rows.items (node_count graph.now)) }
     ensures steps { OnOk result (steps.new ≡ steps.old + node_count graph.now) }
     ensures most { steps.new ≤ steps.old + node_count graph.now }
+    ensures least { steps.old ≤ steps.new }
 {
     let all = all_counted(rt, alloc, graph)?;
     all_taken_in(alloc, all, steps)

@@ -10,7 +10,8 @@ pub struct Searched {
     counted: (),
 }
 
-/// How many searches for distances were made. It takes no bytes, and only `row` counts. Contracts see it as the number.
+/// How many searches for distances were counted. It takes no bytes. `row` and `row_after` count, and a search that is taken
+/// in. Contracts see it as the number.
 #[derive(Drop)]
 pub struct Steps<L: Ledger> {
     book: Book<L>,

@@ -70,6 +70,7 @@ impl Trees {
         ensures trees { IfOk result (λ t. AreTrees graph.now t) }
         ensures steps { OnOk result (steps.new ≡ steps.old + node_count graph.now) }
         ensures most { steps.new ≤ steps.old + node_count graph.now }
+        ensures least { steps.old ≤ steps.new }
     {
         let rows = rows_of(rt, alloc, graph, steps)?;
         let hops = hops_of_all(rt, alloc, graph, &rows)?;

@@ -1,8 +1,14 @@
 //! `tilfa run` reads a script from standard input, and writes the answers to standard output.
 #![tactic(auto)]
 
-use sr_base::{StdSink, StdSource};
+ghost use Rattle.std.specs.Prelude.{◌≡◌, ◌⊎◌, IfErr};
+ghost use Rattle.std.specs.Process.{exit_status};
+ghost use Rattle.sr_engine.specs.Endings.{devices_of};
+ghost use Rattle.sr_run.specs.Program.{RunsTo};
+
+use sr_base::{Runtime, Sink, Source, StdSink, StdSource};
 use sr_run::tilfa;
+use std::alloc::AllocGlobal;
 use std::env;
 use std::io::ErrorKind;
 use std::process::ExitCode;
@@ -10,17 +16,20 @@ use std::process::ExitCode;
 /// The status where the words aren't a command.
 const NO_COMMAND: u8 = 2;
 
-/// The status where memory is wanting.
+/// The status where memory ran out, or the words can't be had.
 const NO_MEMORY: u8 = 5;
 
-/// The words after the program's name, or the status that says why there are none: words that aren't text are no command.
-fn words(rt: &HostRuntime) -> Result<Vec<String>, u8> {
+/// The words after the program's name, or the status that says why there are none: words that aren't text are no command,
+/// and any other failure ends as if memory had run out.
+fn words(rt: &HostRuntime) -> Result<Vec<String>, u8>
+    ensures { IfErr result (λ status. (status ≡ 2) ⊎ (status ≡ 5)) }
+{
     let args = match env::args(rt) {
         Ok(args) => args,
         Err(error) => {
             return Err(match error.kind() {
-                ErrorKind::OutOfMemory => NO_MEMORY,
-                _ => NO_COMMAND,
+                ErrorKind::InvalidData => NO_COMMAND,
+                _ => NO_MEMORY,
             });
         }
     };
@@ -34,18 +43,33 @@ fn words(rt: &HostRuntime) -> Result<Vec<String>, u8> {
     Ok(words)
 }
 
+/// Does what the words say, and ends with the status that this has.
+fn run<R: AllocGlobal + Runtime, S: Source, K: Sink>(
+    rt: &R,
+    words: &[String],
+    source: &mut S,
+    sink: &mut K,
+) -> ExitCode
+    ensures { RunsTo words.now
+        (devices_of (S.left source.old) (K.held sink.old) (S.faults source.old) (K.faults sink.old))
+        (devices_of (S.left source.new) (K.held sink.new) (S.faults source.new) (K.faults sink.new))
+        (exit_status result) }
+{
+    ExitCode::from(tilfa(rt, words, source, sink))
+}
+
 fn main(rt: HostRuntime) -> ExitCode {
-    let status = match words(&rt) {
+    let code = match words(&rt) {
         Ok(words) => {
             let mut source = StdSource::new(rt.stdin());
             let mut sink = StdSink::new(rt.stdout());
-            tilfa(&rt, words.as_slice(), &mut source, &mut sink)
+            run(&rt, words.as_slice(), &mut source, &mut sink)
         }
-        Err(status) => status,
+        Err(status) => ExitCode::from(status),
     };
-    if status == NO_COMMAND {
+    if code == ExitCode::from(NO_COMMAND) {
         // A message that can't be written changes nothing: the status says it too.
         let _ = eprintln!(rt; "usage: tilfa run");
     }
-    ExitCode::from(status)
+    code
 }

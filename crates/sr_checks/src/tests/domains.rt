@@ -1,7 +1,7 @@
 //! Domains at the limits of nodes and links.
 
 use super::words;
-use sr_base::{SteadySink, SteadySource};
+use sr_base::{Runtime, SteadySink, SteadySource};
 use sr_lsp::{
     AdjSids, Capability, Lsp, LspId, Part, Parts, Prefix, PrefixSids, Reach, in_range, write_lsp,
 };
@@ -9,7 +9,6 @@ use sr_model::{Range, SystemId};
 use sr_run::tilfa;
 use sr_subtlv::{LinkIds, Msds, PrefixSid, Ranges, Sid, SrCap};
 use std::alloc::{AllocError, AllocGlobal, Global};
-use std::thread::Threads;
 
 /// A pair of links between two nodes, numbered from 1, with one metric both ways.
 #[derive(Clone, Copy, Debug)]
@@ -124,7 +123,7 @@ fn put_node(
 }
 
 /// What the program answers to the nodes' PDUs, a commit, and a question.
-fn answers<R: AllocGlobal + Threads + Sync>(
+fn answers<R: AllocGlobal + Runtime>(
     rt: &R,
     nodes: u32,
     pairs: &[Pair],
@@ -145,7 +144,7 @@ fn answers<R: AllocGlobal + Threads + Sync>(
 }
 
 /// The last line that the program answers to them.
-fn last_answer<R: AllocGlobal + Threads + Sync>(
+fn last_answer<R: AllocGlobal + Runtime>(
     rt: &R,
     nodes: u32,
     pairs: &[Pair],

@@ -6,8 +6,8 @@ use Rattle.sr_repair.specs.Answers.{place_of}
 use Rattle.sr_listing.proofs.LineLemmas.{case-put}
 use Rattle.sr_listing.proofs.lines.put_case.Goals as goal
 
-pub returns-clause-line : goal.returns-clause-line
-returns-clause-line c =
+pub returns-clause-lines : goal.returns-clause-lines
+returns-clause-lines c =
     let net = c.args.version.now.net in
     let case = c.case_at-case.result in
     let graph : c.graph.result.now ≡ net.graph = c.graph.ensures.value ∙ ap (λ n. n.graph) c.net-net.ensures.value in

@@ -1,26 +1,23 @@
-use Rattle.std.proofs.Common.{◌≡◌, refl, subst, true, false}
-use Rattle.sr_run.specs.Session.{Answers, Ends}
-use Rattle.sr_run.specs.State.{opening}
-use Rattle.sr_run.specs.Words.{AskRun}
-use Rattle.sr_engine.specs.Endings.{Ran}
-use Rattle.sr_engine.proofs.Statuses.{outcome-of, outcome-none, completes}
+use Rattle.std.proofs.Common.{◌≡◌, true, false, refl}
+use Rattle.sr_engine.specs.Endings.{devices_of}
+use Rattle.sr_run.proofs.ProgramLemmas.{runs-to, runs-nothing, completes}
 use Rattle.sr_run.proofs.program.tilfa.Goals as goal
 
 pub returns-then-not-ask_run-clause-outcome : goal.returns-then-not-ask_run-clause-outcome
 returns-then-not-ask_run-clause-outcome g c =
-    outcome-none (AskRun c.args.words.now) Answers Ends opening (g.S.Source.left c.args.source.now) (g.K.Sink.held c.args.sink.now) (g.S.Source.faults c.args.source.now) (g.K.Sink.faults c.args.sink.now)
-    (λ e. let f : false ≡ true = c.if-not-ask_run.ensures.1 e in cc)
+    runs-nothing c.args.words.now (devices_of (g.S.Source.left c.args.source.now) (g.K.Sink.held c.args.sink.now) (g.S.Source.faults c.args.source.now) (g.K.Sink.faults c.args.sink.now))
+    (λ ask. let no : false ≡ true = c.if-not-ask_run.ensures.1 ask in cc no)
+
+pub returns-then-not-ask_run-clause-completes : goal.returns-then-not-ask_run-clause-completes
+returns-then-not-ask_run-clause-completes g c =
+    completes c.args.words.now (devices_of (g.S.Source.left c.args.source.now) (g.K.Sink.held c.args.sink.now) (g.S.Source.faults c.args.source.now) (g.K.Sink.faults c.args.sink.now))
+    (devices_of (g.S.Source.left c.args.source.now) (g.K.Sink.held c.args.sink.now) (g.S.Source.faults c.args.source.now) (g.K.Sink.faults c.args.sink.now)) 2 (returns-then-not-ask_run-clause-outcome g c)
 
 pub returns-clause-outcome : goal.returns-clause-outcome
 returns-clause-outcome g c =
-    outcome-of (AskRun c.args.words.now) Answers Ends opening (g.S.Source.left c.args.source.now) (g.S.Source.left c.run_script-end.new.source) (g.K.Sink.held c.args.sink.now) (g.K.Sink.held c.run_script-end.new.sink)
-    (g.S.Source.faults c.args.source.now) (g.S.Source.faults c.run_script-end.new.source) (g.K.Sink.faults c.args.sink.now) (g.K.Sink.faults c.run_script-end.new.sink)
-    c.run_script-end.result.0 c.run_script-end.result.1 c.status.result (c.if-not-ask_run.ensures.0 refl)
-    (subst (λ s. Ran Answers Ends s (g.S.Source.left c.args.source.now) (g.S.Source.left c.run_script-end.new.source) (g.K.Sink.held c.args.sink.now) (g.K.Sink.held c.run_script-end.new.sink) c.run_script-end.result.0 c.run_script-end.result.1) c.new-session.ensures c.run_script-end.ensures.ran)
-    c.run_script-end.ensures.counts c.status.ensures
+    runs-to c.args.words.now _ _ c.run_script.result c.run_script.new.session c.status.result (c.if-not-ask_run.ensures.0 refl) (rw c.new-session.ensures at c.run_script.ensures.ran) c.run_script.ensures.counts c.status.ensures
 
 pub returns-clause-completes : goal.returns-clause-completes
 returns-clause-completes g c =
-    completes (AskRun c.args.words.now) Answers Ends opening (g.S.Source.left c.args.source.now) (g.S.Source.left c.run_script-end.new.source) (g.K.Sink.held c.args.sink.now) (g.K.Sink.held c.run_script-end.new.sink)
-    (g.S.Source.faults c.args.source.now) (g.S.Source.faults c.run_script-end.new.source) (g.K.Sink.faults c.args.sink.now) (g.K.Sink.faults c.run_script-end.new.sink)
-    c.status.result (returns-clause-outcome g c)
+    completes c.args.words.now (devices_of (g.S.Source.left c.args.source.now) (g.K.Sink.held c.args.sink.now) (g.S.Source.faults c.args.source.now) (g.K.Sink.faults c.args.sink.now))
+    (devices_of (g.S.Source.left c.run_script.new.source) (g.K.Sink.held c.run_script.new.sink) (g.S.Source.faults c.run_script.new.source) (g.K.Sink.faults c.run_script.new.sink)) c.status.result (returns-clause-outcome g c)

@@ -1,6 +1,6 @@
 use Rattle.std.proofs.Common.{ap, reverse}
 use Rattle.sr_fib.specs.Entries.{numbers}
-use Rattle.sr_run.proofs.ForwardLemmas.{packet_arrives, packet_fits, packet_forwarded}
+use Rattle.sr_run.proofs.ForwardLemmas.{packet-arrives, packet-forwarded}
 use Rattle.sr_run.proofs.version.forwarded.Goals as goal
 
 pub returns-in_ok-walk-in-Some-clause-forwarded : goal.returns-in_ok-walk-in-Some-clause-forwarded
@@ -9,13 +9,5 @@ returns-in_ok-walk-in-Some-clause-forwarded c =
     let one = ap reverse c.in_ok-stack-in-Some.ensures.items in
     let walked = rw c.net-net.ensures.value at c.in_ok-walk-in-Some.ensures.walked in
     let packet = rw c.net-net.ensures.value at c.in_ok-walk-in-Some.ensures.packet in
-    let arrives = packet_arrives c.args.version.now.net _ c.args.from.0 c.args.to.0 c.node_label-label.result c.in-Some._cost _ (numbers c.in_ok-walk-in-Some.walk.links.items) _ _ c.in_ok-nothing-in-Some.ensures one is c.in-Some.ensures packet in
-    packet_forwarded c.args.version.now.net _ c.args.choice c.args.from.0 c.args.to.0 c.node_label-label.result _ _ c.in_ok-walk-in-Some.walk.links.items _ _ c.in_ok-nothing-in-Some.ensures one is walked arrives
-
-pub returns-in_ok-walk-in-Some-clause-fits : goal.returns-in_ok-walk-in-Some-clause-fits
-returns-in_ok-walk-in-Some-clause-fits c =
-    let is = rw c.net-net.ensures.value at c.node_label-label.ensures in
-    let one = ap reverse c.in_ok-stack-in-Some.ensures.items in
-    let packet = rw c.net-net.ensures.value at c.in_ok-walk-in-Some.ensures.packet in
-    let arrives = packet_arrives c.args.version.now.net _ c.args.from.0 c.args.to.0 c.node_label-label.result c.in-Some._cost _ (numbers c.in_ok-walk-in-Some.walk.links.items) _ _ c.in_ok-nothing-in-Some.ensures one is c.in-Some.ensures packet in
-    packet_fits c.args.version.now.net c.args.from.0 c.args.to.0 c.in-Some._cost (numbers c.in_ok-walk-in-Some.walk.links.items) _ _ c.net-net.ensures.net.graph c.requires.from c.in-Some.ensures arrives
+    let arrives = packet-arrives c.args.version.now.net _ c.args.from.0 c.args.to.0 c.node_label-label.result c.in-Some._cost _ (numbers c.in_ok-walk-in-Some.walk.links.items) _ _ c.in_ok-nothing-in-Some.ensures one is c.in-Some.ensures packet in
+    packet-forwarded c.args.version.now.net _ c.args.choice c.args.from.0 c.args.to.0 c.node_label-label.result _ c.in-Some._cost _ c.in_ok-walk-in-Some.walk.links.items _ _ c.in_ok-nothing-in-Some.ensures one is walked c.in-Some.ensures arrives

@@ -1,14 +1,22 @@
-use Rattle.std.proofs.Common.{sym, ◌∙◌, ◌≡◌, true}
+use Rattle.std.proofs.Common.{sym, ◌∙◌, ◌≡◌, ◌≢◌, true}
+use Rattle.std.specs.Prelude.{codes}
 use Rattle.std.specs.Str.{bytes_eq}
 use Rattle.std.proofs.lemmas.Bool.{false≢true}
 use Rattle.std.proofs.lemmas.Slice.Eq.{bytes_eq-Decides}
-use Rattle.sr_script.proofs.LineLemmas.{other-is}
+use Rattle.sr_script.specs.Words.{word_at}
+use Rattle.sr_script.specs.LineSays.{SaysNothing}
+use Rattle.sr_script.proofs.LineLemmas.{unknown-is, form-refused}
 use Rattle.sr_script.proofs.reading.read_words.Goals as goal
 
-pub read_other-requires : goal.read_other-requires
-read_other-requires c =
-    other-is c.args.words.now
-    (λ said. false≢true (sym c.if-says_nothing.false ∙ c.says_nothing.ensures.1 said))
-    (λ lsp.
+pub returns-in-Unknown-clause-refused : goal.returns-in-Unknown-clause-refused
+returns-in-Unknown-clause-refused c =
+    unknown-is c.args.words.now (λ said. false≢true (sym c.if-says_nothing.false ∙ c.says_nothing.ensures.1 said)) c.in-Unknown.ensures
+
+pub returns-in-Known-None-clause-refused : goal.returns-in-Known-None-clause-refused
+returns-in-Known-None-clause-refused c =
+    let something : ¬ SaysNothing c.args.words.now = λ said. false≢true (sym c.if-says_nothing.false ∙ c.says_nothing.ensures.1 said) in
+    let other : word_at c.args.words.now 0 ≢ codes "lsp" = λ lsp.
     let same : bytes_eq c.get.result.now c.as_slice.result.now ≡ true = (bytes_eq-Decides _ _).1 (c.get.ensures ∙ lsp ∙ sym c.as_slice.ensures) in
-    false≢true (sym c.if-eq.false ∙ c.eq.ensures ∙ same))
+    false≢true (sym c.if-eq.false ∙ c.eq.ensures ∙ same) in
+    let answered = rw c.in-Known-None.field-0-is at c.in-Known-None.ensures in
+    form-refused c.args.words.now something other answered.0 answered.1

@@ -1,0 +1,67 @@
+-- What is told to a line, and how that is spelled.
+use Rattle.std.specs.Prelude.{ℕ, Bool, true, false, List, [], ◌++◌, Option}
+use Rattle.sr_model.specs.declared.link.LinkNo.{LinkNo}
+use Rattle.sr_model.specs.declared.entry.Entry.{Entry}
+use Rattle.sr_model.specs.declared.case.Case.{Case}
+use Rattle.sr_model.specs.declared.repair.Answer.{Answer}
+use Rattle.sr_model.specs.declared.audit.Item.{Item}
+use Rattle.sr_model.specs.declared.audit.Counts.{Counts}
+use Rattle.sr_model.specs.Audit.{counts_of}
+use Rattle.sr_model.specs.Graph.{Graph, node_count, link_count}
+use Rattle.sr_model.specs.Label.{Net}
+use Rattle.sr_repair.specs.Version.{Numbered}
+use Rattle.sr_print.specs.declared.refusal.Refusal.{Refusal}
+use Rattle.sr_print.specs.Printed.{staged_line, dropped_line, version_line, dist_line, show_line}
+use Rattle.sr_print.specs.Forwarding.{next_line, label_line, walk_line}
+use Rattle.sr_print.specs.Spaces.{spaces_lines}
+use Rattle.sr_print.specs.Repairs.{repair_line, uncovered_walk_line, item_lines, summary_line}
+use Rattle.sr_print.specs.Refused.{refused_line}
+
+-- what is shown of a session: the number of its last version, how many nodes and links that has, the accepted depth, and how many edits are staged
+pub record Shown : Type 0 where
+  pub version : ℕ
+  pub nodes : ℕ
+  pub links : ℕ
+  pub depth : ℕ
+  pub staged : ℕ
+
+-- what is told to a line: nothing; how many edits are staged, or were dropped; the version of a commit; a distance; next hops; what a label does; the links of a packet's walk from a node, where there is one; P, extended P and Q; the answer of a case for a destination, with its labels; why there is no repair whose packet could be walked; how many answers of each sort the audit of a version has; that audit; what is shown; or why the line is refused
+pub data Told : Type 0 where
+  Nothing : Told
+  Staged : ℕ → Told
+  Dropped : ℕ → Told
+  Version : Numbered → Told
+  Distance : Option ℕ → Told
+  NextHops : Net → List LinkNo → Told
+  Lookup : Net → Option Entry → Told
+  Walk : Net → ℕ → Option (List LinkNo) → Told
+  Spaces : Graph → List Bool → List Bool → List Bool → Told
+  Repair : Net → Case → ℕ → Answer → List ℕ → Told
+  Uncovered : Answer → Told
+  Summary : ℕ → Counts → Told
+  Audit : Numbered → List Item → Told
+  Show : Shown → Told
+  Refused : Refusal → Told
+
+-- how it is spelled; the number of the line stands in a refusal alone
+abbrev pub spelled : ℕ → Told → List ℕ
+spelled number Nothing = []
+spelled number (Staged count) = staged_line count
+spelled number (Dropped count) = dropped_line count
+spelled number (Version version) = version_line version.number (node_count version.net.graph) (link_count version.net.graph)
+spelled number (Distance cost) = dist_line cost
+spelled number (NextHops net links) = next_line net links
+spelled number (Lookup net found) = label_line net found
+spelled number (Walk net start links) = walk_line net start links
+spelled number (Spaces graph p extended q) = spaces_lines graph p extended q
+spelled number (Repair net case d answer labels) = repair_line net case d answer labels
+spelled number (Uncovered answer) = uncovered_walk_line answer
+spelled number (Summary version counts) = summary_line version counts
+spelled number (Audit version items) = item_lines version.net items ++ summary_line version.number (counts_of items)
+spelled number (Show shown) = show_line shown.version shown.nodes shown.links shown.depth shown.staged
+spelled number (Refused reason) = refused_line number reason
+
+-- whether it is a refusal
+abbrev pub is_refusal : Told → Bool
+is_refusal (Refused reason) = true
+is_refusal _ = false

@@ -1,0 +1,130 @@
+-- A line has one answer, and one next state.
+use Rattle.std.proofs.Common.{◌≡◌, ℕ, ◌+◌, ⊎_elim, List, [], ◌∷◌, length, All, refl, sym, subst, ◌∙◌, inl, inr}
+use Rattle.std.proofs.lemmas.List.Elements.{All-head}
+use Rattle.sr_model.specs.declared.name.LinkKey.{LinkKey}
+use Rattle.sr_model.specs.Key.{pair_of}
+use Rattle.sr_model.specs.Label.{Net}
+use Rattle.sr_model.specs.Rule.{IsNet}
+use Rattle.sr_lsdb.specs.Edit.{Edit}
+use Rattle.sr_lsdb.specs.Edit.Edit.{SetCost, TakeDown, BringUp, SetDepth}
+use Rattle.sr_script.specs.declared.name.LinkName.{LinkName}
+use Rattle.sr_script.specs.declared.command.Command.{Command}
+use Rattle.sr_script.specs.declared.command.Command.TheVariants.{Lsp, Cost, Down, Up, Depth, Commit, DropStaged, Dist, Next, Label, Spaces, Repair, Walk, WalkRepair, Audit, AuditFull, Hold, Watch, Join, Show}
+use Rattle.sr_script.specs.declared.line.Line.{Line}
+use Rattle.sr_script.specs.declared.line.Line.TheVariants.{Nothing as NoWord, Word}
+use Rattle.sr_script.specs.declared.line.LineFault.{LineFault}
+use Rattle.sr_script.specs.declared.line.LineFault.TheVariants as fault
+use Rattle.sr_script.specs.LineSays.{LineSays, IsLineFault, IsMemory}
+use Rattle.sr_print.specs.declared.refusal.Refusal.{Refusal}
+use Rattle.sr_print.specs.declared.refusal.Refusal.TheVariants as refusal
+use Rattle.sr_print.specs.Told.{Told}
+use Rattle.sr_print.specs.Told.Told.{Nothing}
+use Rattle.sr_repair.specs.Version.{Numbered, version_of}
+use Rattle.sr_run.specs.Domain.{Domain, last_version}
+use Rattle.sr_run.specs.Edits.{Refuses, EditsNamed}
+use Rattle.sr_run.specs.Questions.{TellsDistance, TellsNextHops, TellsLookup, TellsWalk}
+use Rattle.sr_run.specs.Failures.{TellsSpaces, TellsRepair, TellsRepairWalk, TellsSummary, TellsAudit}
+use Rattle.sr_run.specs.Session.{TellsOf, Asks, Tells, TellsLine, IsRefusedAs}
+use Rattle.sr_run.specs.Laws.{AreNets, LinesHaveOneAnswer}
+use Rattle.sr_run.proofs.DeterminedWords.{said-one, fault-one, said-not_refused}
+use Rattle.sr_run.proofs.DeterminedTold.{AreAlike, AreOne, alike, alike-refused, one-refused}
+use Rattle.sr_run.proofs.DeterminedEdits.{staged-one, announces-one, link-edited-one, dropped-one, commit-one}
+use Rattle.sr_run.proofs.DeterminedQuestions.{distance-alike, hops-alike, lookup-alike, walk-alike}
+use Rattle.sr_run.proofs.DeterminedFailures.{spaces-alike, repair-alike, repair-walk-alike, summary-alike, audit-alike}
+
+-- no line is refused for want of memory
+memory-not_told : (fault : LineFault) (reason : Refusal) → IsMemory fault → IsRefusedAs fault reason → ⊥
+memory-not_told fault.TooLong reason m r = m
+memory-not_told fault.UnknownWord reason m r = m
+memory-not_told fault.BadForm reason m r = m
+memory-not_told fault.BadHex reason m r = m
+memory-not_told (fault.Memory error) reason m r = r
+
+-- a fault is one reason
+reason-one : (fault : LineFault) (reason other : Refusal) → IsRefusedAs fault reason → IsRefusedAs fault other → reason ≡ other
+reason-one fault.TooLong reason other p q = p ∙ sym q
+reason-one fault.UnknownWord reason other p q = p ∙ sym q
+reason-one fault.BadForm reason other p q = p ∙ sym q
+reason-one fault.BadHex reason other p q = p ∙ sym q
+reason-one (fault.Memory error) reason other p q = absurd p
+
+-- what is said has no fault that is told
+said-not_told : (line : List ℕ) (said : Line) (fault : LineFault) (reason : Refusal) → LineSays line said → IsLineFault line fault → IsRefusedAs fault reason → ⊥
+said-not_told line said fault reason s f r = memory-not_told fault reason (said-not_refused line said fault s f) r
+
+nothing-not_word : (line : List ℕ) (c : Command) → LineSays line NoWord → LineSays line (Word c) → ⊥
+nothing-not_word line c x y = let e : NoWord ≡ Word c = said-one line NoWord (Word c) x y in absurd (cc)
+
+words-one : (line : List ℕ) (c d : Command) → LineSays line (Word c) → LineSays line (Word d) → c ≡ d
+words-one line c d x y = let e : Word c ≡ Word d = said-one line (Word c) (Word d) x y in cc
+
+module _ (old : Domain) (nets : AreNets old) (a b : Told) (new next : Domain) where
+  -- a question about the last version
+  told-alike : (last : List Net) → All IsNet last → (tells : Numbered → Told → Type 0) → ((version : Numbered) → IsNet version.net → tells version a → tells version b → AreAlike a b)
+      → TellsOf tells (last_version last) a → TellsOf tells (last_version last) b → AreAlike a b
+  told-alike [] are tells one p q = alike-refused a b refusal.NoVersion p q
+  told-alike (net ∷ earlier) are tells one p q = one (version_of (length earlier + 1) net) (All-head IsNet net earlier are) p q
+
+  asked-one : (tells : Numbered → Told → Type 0) → ((version : Numbered) → IsNet version.net → tells version a → tells version b → AreAlike a b) → Asks tells old a new → Asks tells old b next → AreOne a b new next
+  asked-one tells one p q = record { told = told-alike old.nets nets tells one p.0 q.0; state = p.1 ∙ sym q.1 }
+
+  -- an edit of a link
+  edited-one : (edit : LinkKey → Edit) (link : LinkName) (last : List Net) → All IsNet last → EditsNamed edit link (last_version last) old a new → EditsNamed edit link (last_version last) old b next → AreOne a b new next
+  edited-one edit link [] are p q = one-refused old a b new next refusal.NoVersion p q
+  edited-one edit link (net ∷ earlier) are p q = link-edited-one old a b new next edit link (version_of (length earlier + 1) net) (All-head IsNet net earlier are).named p q
+
+  refused-one : (reason : Refusal) → Refuses old a new reason → Refuses old b next reason → AreOne a b new next
+  refused-one reason = one-refused old a b new next reason
+
+  -- a command
+  pub tells-one : (command : Command) → Tells old command a new → Tells old command b next → AreOne a b new next
+  tells-one (Lsp octets) p q = announces-one old a b new next octets p q
+  tells-one (Cost link metric) p q = edited-one (λ key. SetCost key metric) link old.nets nets p q
+  tells-one (Down link) p q = edited-one (λ key. TakeDown (pair_of key)) link old.nets nets p q
+  tells-one (Up link) p q = edited-one (λ key. BringUp (pair_of key)) link old.nets nets p q
+  tells-one (Depth depth) p q = staged-one old a b new next (SetDepth depth) p q
+  tells-one Commit p q = commit-one old a b new next p q
+  tells-one DropStaged p q = dropped-one old a b new next p q
+  tells-one (Dist ends) p q = asked-one (TellsDistance ends) (λ version net. distance-alike version net a b ends) p q
+  tells-one (Next ends) p q = asked-one (TellsNextHops ends) (λ version net. hops-alike version net a b ends) p q
+  tells-one (Label node label) p q = asked-one (TellsLookup node label) (λ version net. lookup-alike version net a b node label) p q
+  tells-one (Spaces repair) p q = asked-one (TellsSpaces repair) (λ version net. spaces-alike version net a b repair) p q
+  tells-one (Repair repair) p q = asked-one (TellsRepair repair) (λ version net. repair-alike version net a b repair) p q
+  tells-one (Walk ends choice) p q = asked-one (TellsWalk ends choice) (λ version net. walk-alike version net a b ends choice) p q
+  tells-one (WalkRepair repair choice) p q = asked-one (TellsRepairWalk repair choice) (λ version net. repair-walk-alike version net a b repair choice) p q
+  tells-one Audit p q = asked-one TellsSummary (λ version net. summary-alike version net a b) p q
+  tells-one AuditFull p q = asked-one TellsAudit (λ version net. audit-alike version net a b) p q
+  tells-one Hold p q = refused-one refusal.NotBuilt p q
+  tells-one (Watch watchers rounds) p q = refused-one refusal.NotBuilt p q
+  tells-one Join p q = refused-one refusal.NotBuilt p q
+  tells-one Show p q = record { told = alike a b _ _ p.0 q.0 refl; state = p.1 ∙ sym q.1 }
+
+  -- a line has one fault that is told
+  faults-one : (line : List ℕ) (fault also : LineFault) (reason other : Refusal) → IsLineFault line fault → IsLineFault line also → IsRefusedAs fault reason → IsRefusedAs also other → Refuses old a new reason → Refuses old b next other → AreOne a b new next
+  faults-one line fault also reason other x y r s p q =
+      ⊎_elim
+      (λ (e : fault ≡ also).
+      let same : reason ≡ other = reason-one also reason other (subst (λ (f : LineFault). IsRefusedAs f reason) e r) s in
+      one-refused old a b new next other (subst (Refuses old a new) same p) q)
+      (λ m. absurd (⊎_elim (λ here. memory-not_told fault reason here r) (λ there. memory-not_told also other there s) m))
+      (fault-one line fault also x y)
+
+  -- a line
+  pub line-one : (line : List ℕ) → TellsLine old line a new → TellsLine old line b next → AreOne a b new next
+  line-one line (inl p) (inl q) = faults-one line p.0 q.0 p.1 q.1 p.2 q.2 p.3 q.3 p.4 q.4
+  line-one line (inl p) (inr (inl q)) = absurd (said-not_told line NoWord p.0 p.1 q.0 p.2 p.3)
+  line-one line (inl p) (inr (inr q)) = absurd (said-not_told line (Word q.0) p.0 p.1 q.1 p.2 p.3)
+  line-one line (inr (inl p)) (inl q) = absurd (said-not_told line NoWord q.0 q.1 p.0 q.2 q.3)
+  line-one line (inr (inl p)) (inr (inl q)) = record { told = alike a b Nothing Nothing p.1 q.1 refl; state = p.2 ∙ sym q.2 }
+  line-one line (inr (inl p)) (inr (inr q)) = absurd (nothing-not_word line q.0 p.0 q.1)
+  line-one line (inr (inr p)) (inl q) = absurd (said-not_told line (Word p.0) q.0 q.1 p.1 q.2 q.3)
+  line-one line (inr (inr p)) (inr (inl q)) = absurd (nothing-not_word line p.0 q.0 p.1)
+  line-one line (inr (inr p)) (inr (inr q)) =
+      let same : q.0 ≡ p.0 = words-one line q.0 p.0 q.1 p.1 in
+      tells-one p.0 p.2 (subst (λ (c : Command). Tells old c b next) same q.2)
+
+-- from a state, a line has one answer, is refused or not, and has one next state
+pub lines-determined : LinesHaveOneAnswer
+lines-determined old number line out other refused again new next nets p q =
+    let one = line-one old nets p.0 q.0 new next line p.1 q.1 in
+    (p.2 ∙ one.told.text number ∙ sym q.2, p.3 ∙ one.told.refusal ∙ sym q.3, one.state)

@@ -1,0 +1,84 @@
+-- The status tells how a run ended.
+use Rattle.std.proofs.Common.{◌≡◌, ℕ, ◌≤◌, ◌⊎◌, true, false, List, [], length, refl, ap, subst, arith, length-append, inl, inr, ⊎_elim, None, Some}
+use Rattle.std.specs.Prelude.{String}
+use Rattle.std.specs.declared.option.Option.{Option}
+use Rattle.std.specs.declared.alloc.Global.{Global}
+use Rattle.std.specs.Io.KnownBytes.{Consumes}
+use Rattle.std.proofs.KnownBytes.{Appends-nil, Consumes-nil}
+use Rattle.sr_base.specs.Faults.{Rose}
+use Rattle.sr_engine.specs.Lines.{most_bytes}
+use Rattle.sr_engine.specs.Endings.{Devices, Ran, CountsShow, OutputIs, status_of}
+use Rattle.sr_engine.specs.declared.end.End.{End}
+use Rattle.sr_engine.specs.declared.end.End.TheVariants.{Done, ReadFailed, WriteFailed, Memory, TooMuch}
+use Rattle.sr_run.specs.Domain.{opening}
+use Rattle.sr_run.specs.State.{State, shown}
+use Rattle.sr_run.specs.Session.{conduct}
+use Rattle.sr_run.specs.Handlers.{session_conduct}
+use Rattle.sr_run.specs.Program.{Run, EndShows, RunsTo, RunsThrough}
+use Rattle.sr_run.specs.Words.{AskRun}
+use Rattle.sr_run.proofs.Likeness.{answered-like, script-like, begins-like}
+use Rattle.sr_run.proofs.Simulation.{IsShown, session-follows, script-delivers}
+
+-- what a run of the session shows holds of the domain that it shows
+end-shows : (run : Run) (end : End) (final : State) → OutputIs session_conduct run.new.left (record { opening = shown opening; taken = run.taken; out = run.out; final = final }) end
+    → CountsShow run.old run.new end → EndShows run end
+end-shows run (Done refused) final output counts =
+    let script = script-like session_conduct conduct IsShown session-follows (shown opening) final opening run.taken run.out refused output.2 refl in
+    record {
+      at_end = output.0;
+      few = output.1;
+      final = script.0;
+      script = script.1;
+      delivers = script-delivers run.taken run.out refused script.0 script.1;
+      reads = counts.0;
+      writes = counts.1;
+    }
+end-shows run ReadFailed final output counts = (answered-like session_conduct conduct IsShown session-follows (shown opening) opening run.taken run.out output refl, counts.0, counts.1)
+end-shows run WriteFailed final output counts = (begins-like session_conduct conduct IsShown session-follows (shown opening) opening run.new.left run.taken run.out output refl, counts.0, counts.1)
+end-shows run Memory final output counts = (begins-like session_conduct conduct IsShown session-follows (shown opening) opening run.new.left run.taken run.out output refl, counts.0, counts.1)
+end-shows run TooMuch final output counts = (output.0, answered-like session_conduct conduct IsShown session-follows (shown opening) opening _ run.out output.1 refl, counts.0, counts.1)
+
+-- a run over a script
+pub runs-to : (words : List (String Global)) (old new : Devices) (end : End) (final : State) (status : ℕ) → AskRun words
+    → Ran session_conduct (shown opening) old new end final → CountsShow old new end → status ≡ status_of end → RunsTo words old new status
+runs-to words old new end final status ask ran counts is =
+    let run : Run = record { old = old; new = new; taken = ran.taken; out = ran.out } in
+    record {
+      taken = ran.taken;
+      took = ran.took;
+      few = ran.few;
+      out = ran.out;
+      appended = ran.appended;
+      shows = inl (ask, end, is, end-shows run end final ran.output counts);
+    }
+
+-- words that are no command
+pub runs-nothing : (words : List (String Global)) (devices : Devices) → ¬ AskRun words → RunsTo words devices devices 2
+runs-nothing words devices none = record {
+  taken = [];
+  took = Consumes-nil devices.left;
+  few = omega arith;
+  out = [];
+  appended = Appends-nil devices.held;
+  shows = inr (none, refl, record { taken = refl; out = refl; reads = refl; writes = refl });
+}
+
+took-few : (bytes taken : List ℕ) (left : Option (List ℕ)) → Consumes (Some bytes) left taken → length taken ≤ length bytes
+took-few bytes taken None t = absurd t
+took-few bytes taken (Some rest) t = omega (arith, ap length t, length-append taken rest)
+
+-- a run that meets no fault ends with 0, 1 or 5
+end-known : (run : Run) (end : End) (status : ℕ) → length run.taken ≤ most_bytes → ¬ Rose run.old.read_faults run.new.read_faults → ¬ Rose run.old.write_faults run.new.write_faults
+    → status ≡ status_of end → EndShows run end → (status ≡ 0) ⊎ (status ≡ 1) ⊎ (status ≡ 5)
+end-known run (Done false) status few reads writes is shows = inl is
+end-known run (Done true) status few reads writes is shows = inr (inl is)
+end-known run ReadFailed status few reads writes is shows = absurd (reads shows.1)
+end-known run WriteFailed status few reads writes is shows = absurd (writes shows.1)
+end-known run Memory status few reads writes is shows = inr (inr is)
+end-known run TooMuch status few reads writes is shows = absurd (omega (arith, few, shows.0))
+
+pub completes : (words : List (String Global)) (old new : Devices) (status : ℕ) → RunsTo words old new status → RunsThrough words old new status
+completes words old new status r = λ bytes is ask few reads writes.
+    let run : Run = record { old = old; new = new; taken = r.taken; out = r.out } in
+    let took : length r.taken ≤ length bytes = took-few bytes r.taken new.left (subst (λ (o : Option (List ℕ)). Consumes o new.left r.taken) is r.took) in
+    ⊎_elim (λ ended. end-known run ended.1 status (omega (arith, took, few)) reads writes ended.2 ended.3) (λ none. absurd (none.0 ask)) r.shows

@@ -1,0 +1,15 @@
+//! Laws of sessions, proved over the definitions alone. Each is what a function with an empty body ensures; its statement
+//! stands in `specs/`.
+ghost use Rattle.sr_run.specs.Laws.{AcceptedNetsDeliver, LinesHaveOneAnswer, ScriptsHaveOneOutput};
+
+/// From a state, a line has one answer and one next state, and a script has one output.
+pub fn answers_are_determined()
+    ensures lines { LinesHaveOneAnswer }
+    ensures scripts { ScriptsHaveOneOutput }
+{}
+
+/// Whatever lines were answered, in the net of each accepted commit every repair of every case has a stack, and delivers
+/// under it.
+pub fn accepted_nets_deliver()
+    ensures { AcceptedNetsDeliver }
+{}

@@ -1,0 +1,50 @@
+-- What the readers of commands answer.
+use Rattle.std.specs.Prelude.{◌≡◌, ◌≢◌, ◌⊎◌, List, ℕ, ◌+◌, None, Option, MatchOption, IsErr}
+use Rattle.hex.specs.Hex.{decode_of}
+use Rattle.sr_script.specs.Words.{word_at}
+use Rattle.sr_script.specs.Says.{Says, first_word, kind_text}
+use Rattle.sr_script.specs.Number.{number_in}
+use Rattle.sr_script.specs.declared.name.TheConstants.{MOST_LINKS}
+use Rattle.sr_model.specs.declared.case.Kind.{Kind}
+use Rattle.sr_model.specs.SystemText.{system_read}
+use Rattle.sr_script.specs.LineSays.{BeginsCommand}
+use Rattle.sr_script.specs.declared.command.Command.{Command}
+use Rattle.sr_script.specs.declared.line.LineFault.{LineFault}
+use Rattle.sr_script.specs.declared.line.LineFault.TheVariants.{BadHex, Memory}
+use Rattle.sr_script.specs.declared.readers.Reading.{Reading}
+use Rattle.sr_script.specs.declared.readers.Reading.TheVariants.{Unknown, Known}
+
+-- the word is for no kind of failure
+abbrev pub NamesNoKind : List ℕ → Type 0
+NamesNoKind word = (kind : Kind) → word ≢ kind_text kind
+
+-- one of the two words from place i on is no system id
+abbrev pub NamesNoEnds : List (List ℕ) → ℕ → Type 0
+NamesNoEnds ws i = (system_read (word_at ws i) ≡ None) ⊎ (system_read (word_at ws (i + 1)) ≡ None)
+
+-- one of the three words from place i on is no system id, or no place of a link
+abbrev pub NamesNoLink : List (List ℕ) → ℕ → Type 0
+NamesNoLink ws i = NamesNoEnds ws i ⊎ (number_in 1 MOST_LINKS (word_at ws (i + 2)) ≡ None)
+
+-- one of the five words from place i on isn't of a failure's kind, a link and a destination
+abbrev pub NamesNoRepair : List (List ℕ) → ℕ → Type 0
+NamesNoRepair ws i = NamesNoKind (word_at ws i) ⊎ NamesNoLink ws (i + 1) ⊎ (system_read (word_at ws (i + 4)) ≡ None)
+
+-- the command that the words say, or none where they say none
+abbrev pub Answers : List (List ℕ) → Option Command → Type 0
+Answers ws answer = MatchOption answer ((command : Command) → ¬ Says ws command) (Says ws)
+
+-- the first word begins no command, or the words are answered
+abbrev pub IsReading : List (List ℕ) → Reading → Type 0
+IsReading ws Unknown = ¬ BeginsCommand (word_at ws 0)
+IsReading ws (Known answer) = BeginsCommand (word_at ws 0) × Answers ws answer
+
+-- no other command begins with the word of this one
+abbrev pub IsOnly : Command → Type 0
+IsOnly command = (other : Command) → first_word other ≡ first_word command → other ≡ command
+
+-- the text isn't pairs of hexadecimal digits, or memory ran out
+abbrev pub IsHexFault : List ℕ → LineFault → Type 0
+IsHexFault text BadHex = IsErr (decode_of text)
+IsHexFault text (Memory error) = Unit {0}
+IsHexFault text _ = ⊥
