@@ -1,6 +1,6 @@
 -- Groups that two lists share, and the links that fail.
 use Rattle.std.proofs.Common.{◌≡◌, ◌≢◌, ◌↔◌, ℕ, ◌+◌, ◌<◌, ◌≤◌, ◌⊎◌, inl, inr, ⊎_elim, Bool, true, false, List, length, set, replicate, refl, arith, ap, sym, ◌∙◌, subst, Err}
-use Rattle.std.specs.Prelude.{slice_index, Contains}
+use Rattle.std.specs.Prelude.{Contains}
 use Rattle.std.specs.declared.cmp.Ordering.TheVariants.{Less, Equal}
 use Rattle.std.specs.Ordering.{nat_cmp}
 use Rattle.std.specs.List.Sorted.{IsStrictlyIncreasing, IsBinarySearchResult}
@@ -13,7 +13,7 @@ use Rattle.sr_model.specs.declared.link.LinkNo.{LinkNo}
 use Rattle.sr_model.specs.declared.name.LinkKey.{LinkKey}
 use Rattle.sr_model.specs.Key.{KeyLt, mirror}
 use Rattle.sr_model.specs.Graph.{Graph, link_count, tail, head, has, groups_at, IsNamed}
-use Rattle.sr_model.specs.Case.{key_at, Touches, IsFailedSet, FailsWith}
+use Rattle.sr_model.specs.Case.{key_at, Touches, ShareGroup, IsFailedSet, FailsWith}
 use Rattle.sr_model.proofs.KeyOrderLemmas.{key_cmp-lt, key_cmp-same}
 use Rattle.sr_graph.specs.Failed.{HaveCommon}
 use Rattle.sr_graph.specs.Members.{number_at, IsListed, IsInRange, IsWidened}
@@ -24,26 +24,6 @@ use Rattle.sr_graph.proofs.NumbersLemmas.{nowhere}
 -- a search that found nothing
 pub not_in : (xs : List ℕ) (x i : ℕ) → IsStrictlyIncreasing xs → IsBinarySearchResult (λ y. nat_cmp y x) xs (Err i) → Contains xs x → ⊥
 not_in xs x i up is held = nowhere xs x i up is held.0 held.1 (get_or_default xs held.0 0 x held.1 ∙ held.2)
-
--- none of the first n stands in the other list
-pub record AreApart (one other : List ℕ) (n : ℕ) : Type 0 where
-  pub each : (k : ℕ) → k < n → Contains other (slice_index one k) → ⊥
-
-pub apart-none : (one other : List ℕ) → AreApart one other 0
-apart-none one other = record { each = λ k lt. absurd (omega arith) }
-
-pub apart-more : (one other : List ℕ) (n : ℕ) → AreApart one other n → (Contains other (slice_index one n) → ⊥) → AreApart one other (n + 1)
-apart-more one other n apart here = record {
-  each = λ k lt held. ⊎_elim
-      (λ (e : k ≡ n). here (subst (λ j. Contains other (slice_index one j)) e held))
-      (λ (ne : k ≢ n). apart.each k (omega arith) held)
-      (cases_eq k n);
-}
-
-pub apart-all : (one other : List ℕ) (n : ℕ) → length one ≤ n → AreApart one other n → HaveCommon one other → ⊥
-apart-all one other n le apart common =
-    let within : common.1.0 < length one = common.1.1 in
-    apart.each common.1.0 (omega arith) (subst (λ y. Contains other y) (sym (get_or_default one common.1.0 0 common.0 within ∙ common.1.2)) common.2)
 
 -- an empty list shares nothing
 no_common : (one other : List ℕ) → length other ≡ 0 → HaveCommon one other → ⊥
@@ -123,23 +103,22 @@ module _ (g : Graph) (p : LinkNo) where
       failed-from_widened NodeKind n (λ l. IsInRange i j l ⊎ IsListed links l) y count (widened-then (replicate n false) x y (IsInRange i j) (IsListed links) first second)
       (λ l lt. let P : ℕ → Type 0 = λ w. (IsInRange i j l ⊎ IsListed links l) ↔ Touches g l w in subst P e (touches-either v i j links holds ending l lt))
 
-  -- the link has an end at the node, and shares one of the groups
-  pub failed-risk : (v i j : ℕ) (links : List LinkNo) (groups : List ℕ) (x y z : List Bool) → v ≡ tail g p.0 → groups ≡ groups_at g p.0 → HoldsLinks g v i j → EndAt g v links → IsFailedSet g (case_of LinkKind) x
-      → IsWidened x (λ l. IsInRange i j l × HaveCommon (groups_at g l) groups) y → IsWidened y (λ l. IsListed links l × HaveCommon (groups_at g l) groups) z → IsFailedSet g (case_of RiskKind) z
-  failed-risk v i j links groups x y z e same holds ending failed first second =
-      let Begins : ℕ → Type 0 = λ l. IsInRange i j l × HaveCommon (groups_at g l) groups in
-      let Ends : ℕ → Type 0 = λ l. IsListed links l × HaveCommon (groups_at g l) groups in
+  -- the link has an end at the node, and shares a group
+  pub failed-risk : (v i j : ℕ) (links : List LinkNo) (x y z : List Bool) → v ≡ tail g p.0 → HoldsLinks g v i j → EndAt g v links → IsFailedSet g (case_of LinkKind) x
+      → IsWidened x (λ l. IsInRange i j l × ShareGroup g l p.0) y → IsWidened y (λ l. IsListed links l × ShareGroup g l p.0) z → IsFailedSet g (case_of RiskKind) z
+  failed-risk v i j links x y z e holds ending failed first second =
+      let Begins : ℕ → Type 0 = λ l. IsInRange i j l × ShareGroup g l p.0 in
+      let Ends : ℕ → Type 0 = λ l. IsListed links l × ShareGroup g l p.0 in
       failed-widened LinkKind RiskKind (λ l. Begins l ⊎ Ends l) x z failed (widened-then x y z Begins Ends first second) (λ l lt.
       let touch : (IsInRange i j l ⊎ IsListed links l) ↔ Touches g l v = touches-either v i j links holds ending l lt in
-      let P : List ℕ → Type 0 = λ list. HaveCommon (groups_at g l) list in
       let Q : ℕ → Type 0 = λ w. Touches g l w in (
         λ either. ⊎_elim (λ pair. inl pair) (λ new. inr (⊎_elim
-            (λ begins. (subst Q e (touch.0 (inl begins.0)), subst P same begins.1))
-            (λ ends. (subst Q e (touch.0 (inr ends.0)), subst P same ends.1))
+            (λ begins. (subst Q e (touch.0 (inl begins.0)), begins.1))
+            (λ ends. (subst Q e (touch.0 (inr ends.0)), ends.1))
             new)) either,
         λ fails. ⊎_elim (λ pair. inl pair) (λ risk. inr (⊎_elim
-            (λ begins. inl (begins, subst P (sym same) risk.1))
-            (λ ends. inr (ends, subst P (sym same) risk.1))
+            (λ begins. inl (begins, risk.1))
+            (λ ends. inr (ends, risk.1))
             (touch.1 (subst Q (sym e) risk.0)))) fails,
       ))
 
@@ -156,22 +135,22 @@ module _ (g : Graph) (p : LinkNo) where
     );
   }
 
--- of the first i listed links, those that share one of the groups
-abbrev pub Sharing : Graph → List ℕ → List LinkNo → ℕ → ℕ → Type 0
-Sharing g groups links i n = ((k : ℕ) × (k < i) × (number_at links k ≡ n)) × HaveCommon (groups_at g n) groups
+-- of the first i listed links, those that share a group with link p
+abbrev pub Sharing : Graph → ℕ → List LinkNo → ℕ → ℕ → Type 0
+Sharing g p links i n = ((k : ℕ) × (k < i) × (number_at links k ≡ n)) × ShareGroup g n p
 
-module _ (g : Graph) (groups : List ℕ) (links : List LinkNo) (i : ℕ) where
-  later : (n : ℕ) → Sharing g groups links i n → Sharing g groups links (i + 1) n
+module _ (g : Graph) (p : ℕ) (links : List LinkNo) (i : ℕ) where
+  later : (n : ℕ) → Sharing g p links i n → Sharing g p links (i + 1) n
   later n s = ((s.0.0, omega (arith, s.0.1), s.0.2), s.1)
 
   -- one listed link more
-  pub sharing-more : (before set' : List Bool) → number_at links i < length before → HaveCommon (groups_at g (number_at links i)) groups → IsWidened before (Sharing g groups links i) set' → IsWidened before (Sharing g groups links (i + 1)) (set set' (number_at links i) true)
-  sharing-more before set' within common k =
+  pub sharing-more : (before set' : List Bool) → number_at links i < length before → ShareGroup g (number_at links i) p → IsWidened before (Sharing g p links i) set' → IsWidened before (Sharing g p links (i + 1)) (set set' (number_at links i) true)
+  sharing-more before set' within shared k =
       let one : IsWidened set' (λ n. n ≡ number_at links i) (set set' (number_at links i) true) = widened-one set' (number_at links i) (omega (arith, k.long)) in
-      widened-as before (set set' (number_at links i) true) (λ n. Sharing g groups links i n ⊎ (n ≡ number_at links i)) (Sharing g groups links (i + 1)) (widened-then before set' (set set' (number_at links i) true) (Sharing g groups links i) (λ n. n ≡ number_at links i) k one) (λ n lt. (
+      widened-as before (set set' (number_at links i) true) (λ n. Sharing g p links i n ⊎ (n ≡ number_at links i)) (Sharing g p links (i + 1)) (widened-then before set' (set set' (number_at links i) true) (Sharing g p links i) (λ n. n ≡ number_at links i) k one) (λ n lt. (
         λ either. ⊎_elim
             (λ s. later n s)
-            (λ (e : n ≡ number_at links i). let P : ℕ → Type 0 = λ m. Sharing g groups links (i + 1) m in subst P (sym e) ((i, omega arith, refl), common))
+            (λ (e : n ≡ number_at links i). let P : ℕ → Type 0 = λ m. Sharing g p links (i + 1) m in subst P (sym e) ((i, omega arith, refl), shared))
             either,
         λ s. ⊎_elim
             (λ (e : s.0.0 ≡ i). inr (sym s.0.2 ∙ ap (number_at links) e))
@@ -180,12 +159,12 @@ module _ (g : Graph) (groups : List ℕ) (links : List LinkNo) (i : ℕ) where
       ))
 
   -- one listed link more, which shares none
-  pub sharing-skip : (before set' : List Bool) → (HaveCommon (groups_at g (number_at links i)) groups → ⊥) → IsWidened before (Sharing g groups links i) set' → IsWidened before (Sharing g groups links (i + 1)) set'
+  pub sharing-skip : (before set' : List Bool) → (ShareGroup g (number_at links i) p → ⊥) → IsWidened before (Sharing g p links i) set' → IsWidened before (Sharing g p links (i + 1)) set'
   sharing-skip before set' apart k =
-      widened-as before set' (Sharing g groups links i) (Sharing g groups links (i + 1)) k (λ n lt. (
+      widened-as before set' (Sharing g p links i) (Sharing g p links (i + 1)) k (λ n lt. (
         λ s. later n s,
         λ s. ⊎_elim
-            (λ (e : s.0.0 ≡ i). let P : ℕ → Type 0 = λ m. HaveCommon (groups_at g m) groups in absurd (apart (subst P (sym s.0.2 ∙ ap (number_at links) e) s.1)))
+            (λ (e : s.0.0 ≡ i). let P : ℕ → Type 0 = λ m. ShareGroup g m p in absurd (apart (subst P (sym s.0.2 ∙ ap (number_at links) e) s.1)))
             (λ (ne : s.0.0 ≢ i). ((s.0.0, omega (arith, s.0.1), s.0.2), s.1))
             (cases_eq s.0.0 i),
       ))

@@ -24,6 +24,7 @@ use Rattle.sr_graph.specs.declared.edges.Edge.{Edge}
 use Rattle.sr_graph.specs.Numbers.{IsNumbered}
 use Rattle.sr_graph.specs.Edges.{edge_of}
 use Rattle.sr_graph.specs.Ranges.{end_in, AreByTail, AreStarts, AreListedByEnd}
+use Rattle.sr_graph.specs.Sharing.{AreSharing}
 use Rattle.sr_graph.specs.Built.{drafted, IsBuilt, IsLaidOut}
 use Rattle.sr_graph.proofs.LinksLemmas.{ascend-from_once}
 use Rattle.sr_graph.proofs.OrderLemmas.{far-below}
@@ -156,9 +157,9 @@ module _ (nodes : List ℕ) (ys : List DraftLink) (ks : List Link) (d : IsDraft 
       let Q : List Bool → Type 0 = λ bs. IsBuilt (draft_of nodes ys) (graph_with (map groups_in ys) bs) in
       subst P (sym is) (subst Q (sym none) is_built)
 
-  pub laid_out_from : (groups : List (List ℕ)) (overloaded : List Bool) (edges : List Edge) (starts : List ℕ) (lists : List (List LinkNo)) → groups ≡ map groups_in ys → overloaded ≡ [] → edges ≡ map edge_of ks → AreStarts (length nodes) ks starts
-      → AreListedByEnd edges (length edges) (length nodes) lists → IsLaidOut (record { systems = nodes; links = ks; groups = groups; overloaded = overloaded }) edges starts lists
-  laid_out_from groups overloaded edges starts lists is none at_edges at_starts at_ends =
+  pub laid_out_from : (groups : List (List ℕ)) (overloaded : List Bool) (edges : List Edge) (starts : List ℕ) (lists : List (List LinkNo)) (sets : List (List ℕ)) → groups ≡ map groups_in ys → overloaded ≡ [] → edges ≡ map edge_of ks → AreStarts (length nodes) ks starts
+      → AreListedByEnd edges (length edges) (length nodes) lists → AreSharing groups sets → IsLaidOut (record { systems = nodes; links = ks; groups = groups; overloaded = overloaded }) edges starts lists sets
+  laid_out_from groups overloaded edges starts lists sets is none at_edges at_starts at_ends at_sets =
       let b = built_from groups overloaded is none in
       let P : List Edge → Type 0 = λ es. AreListedByEnd es (length es) (length nodes) lists in
       record {
@@ -168,7 +169,12 @@ module _ (nodes : List ℕ) (ys : List DraftLink) (ks : List Link) (d : IsDraft 
         edges = at_edges;
         starts = at_starts;
         incoming = incoming-from_listed (graph_with groups overloaded) lists (subst P at_edges at_ends);
+        sharing = at_sets;
       }
+
+  -- groups are listed for at most so many links
+  pub few_groups : (groups : List (List ℕ)) → groups ≡ map groups_in ys → length groups ≤ 2048
+  few_groups groups is = rw (is, length-map) accepted.few_links
 
   -- the edges of the links end at nodes
   pub ends_within : (edges : List Edge) → edges ≡ map edge_of ks → (l : ℕ) → l < length edges → end_in edges l < length nodes

@@ -4,6 +4,8 @@ pub mod RangesLemmas
 pub mod NumbersLemmas
 pub mod EdgesLemmas
 pub mod IncomingLemmas
+pub mod BitsLemmas
+pub mod SharingLemmas
 pub mod FailedLemmas
 pub mod MemberLemmas
 pub mod MarkLemmas

@@ -34,10 +34,10 @@ module _ (systems overloaded : List ℕ) where
   }
 
 -- other tests change nothing else that is kept
-pub laid_out-marked : (systems : List ℕ) (links : List Link) (groups : List (List ℕ)) (before after : List Bool) (edges : List Edge) (places : List ℕ) (lists : List (List LinkNo))
-    → IsLaidOut (record { systems = systems; links = links; groups = groups; overloaded = before }) edges places lists
-    → IsLaidOut (record { systems = systems; links = links; groups = groups; overloaded = after }) edges places lists
-laid_out-marked systems links groups before after edges places lists k = record {
+pub laid_out-marked : (systems : List ℕ) (links : List Link) (groups : List (List ℕ)) (before after : List Bool) (edges : List Edge) (places : List ℕ) (lists : List (List LinkNo)) (sets : List (List ℕ))
+    → IsLaidOut (record { systems = systems; links = links; groups = groups; overloaded = before }) edges places lists sets
+    → IsLaidOut (record { systems = systems; links = links; groups = groups; overloaded = after }) edges places lists sets
+laid_out-marked systems links groups before after edges places lists sets k = record {
   graph = record { few_nodes = k.graph.few_nodes; few_links = k.graph.few_links; each = k.graph.each; by_tail = k.graph.by_tail };
   named = record { ascending = k.named.ascending; ends = k.named.ends; keys = k.named.keys };
   grouped = record { long = k.grouped.long; ascending = k.grouped.ascending; pairs = k.grouped.pairs };
@@ -47,4 +47,5 @@ laid_out-marked systems links groups before after edges places lists k = record 
     long = k.incoming.long;
     each = λ v within. let ends = k.incoming.each v within in record { each = ends.each; all = ends.all; ascending = ends.ascending };
   };
+  sharing = k.sharing;
 }

@@ -8,6 +8,7 @@ use Rattle.sr_graph.specs.declared.draft.Draft.{Draft}
 use Rattle.sr_graph.specs.declared.edges.Edge.{Edge}
 use Rattle.sr_model.specs.declared.link.LinkNo.{LinkNo}
 use Rattle.sr_graph.specs.Ranges.{AreStarts, AreIncoming}
+use Rattle.sr_graph.specs.Sharing.{AreSharing}
 use Rattle.sr_graph.specs.Edges.{edge_of}
 
 -- links with their groups, as a draft lists them
@@ -26,10 +27,11 @@ pub record IsBuilt (draft : Draft) (g : Graph) : Type 0 where
   pub grouped : IsGrouped g
 
 -- what every graph of the program keeps
-pub record IsLaidOut (g : Graph) (listed : List Edge) (places : List ℕ) (lists : List (List LinkNo)) : Type 0 where
+pub record IsLaidOut (g : Graph) (listed : List Edge) (places : List ℕ) (lists : List (List LinkNo)) (sets : List (List ℕ)) : Type 0 where
   pub graph : IsGraph g
   pub named : IsNamed g
   pub grouped : IsGrouped g
   pub edges : listed ≡ map edge_of g.links
   pub starts : AreStarts (node_count g) g.links places
   pub incoming : AreIncoming g lists
+  pub sharing : AreSharing g.groups sets

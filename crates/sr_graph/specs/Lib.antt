@@ -4,5 +4,8 @@ pub mod Ranges
 pub mod Edges
 pub mod Built
 pub mod Failed
+pub mod Bits
+pub mod Sharing
+pub mod Holdings
 pub mod Members
 pub mod Marks

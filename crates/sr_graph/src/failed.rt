@@ -1,11 +1,10 @@
 //! The links that fail in a case.
-ghost use Rattle.std.specs.Prelude.{◌≡◌, ◌↔◌, ℕ, ◌<◌, ◌≤◌, true, length, IsTrue, IfOk, OnOk, Contains};
-ghost use Rattle.std.specs.List.Sorted.{IsStrictlyIncreasing};
+ghost use Rattle.std.specs.Prelude.{◌≡◌, ◌↔◌, ℕ, ◌<◌, ◌≤◌, true, length, IsTrue, IfOk, OnOk};
 ghost use Rattle.sr_model.specs.declared.case.Kind.TheVariants.{Link as LinkKind, Node as NodeKind, Risk as RiskKind};
 ghost use Rattle.sr_model.specs.Key.{IsSamePair};
-ghost use Rattle.sr_model.specs.Graph.{link_count, groups_at};
-ghost use Rattle.sr_model.specs.Case.{IsCase, IsFailedSet};
-ghost use Rattle.sr_graph.specs.Failed.{HaveCommon, AddsNothing, FailsAsLink};
+ghost use Rattle.sr_model.specs.Graph.{link_count};
+ghost use Rattle.sr_model.specs.Case.{IsCase, IsFailedSet, ShareGroup};
+ghost use Rattle.sr_graph.specs.Failed.{AddsNothing, FailsAsLink};
 ghost use Rattle.sr_graph.specs.Members.{number_at, IsListed, IsInRange, IsWidened};
 
 use crate::graph::Graph;
@@ -21,65 +20,41 @@ fn is_pair(one: &LinkKey, other: &LinkKey) -> bool
     *one == *other || *one == other.mirrored()
 }
 
-/// Whether the group stands in the list.
-fn stands(groups: &[u32], group: u32) -> bool
-    requires { IsStrictlyIncreasing groups.now }
-    ensures { (result ≡ true) ↔ Contains groups.now group }
-{
-    match groups.binary_search(&group) {
-        Ok(_) => true,
-        Err(_) => false,
-    }
-}
-
-/// Whether some group stands in both lists.
-fn share(one: &[u32], other: &[u32]) -> bool
-    requires { IsStrictlyIncreasing other.now }
-    ensures { (result ≡ true) ↔ HaveCommon one.now other.now }
-{
-    for group in one {
-        if stands(other, *group) {
-            return true;
-        }
-    }
-    false
-}
-
 impl Graph {
-    /// Adds the links of the range that share one of the groups.
+    /// Adds the links of the range that share a group with the protected link.
     fn add_sharing_in_range(
         &self,
         set: &mut LinkSet,
-        groups: &[u32],
+        protected: LinkNo,
         range: LinkRange,
     ) -> Result<(), AllocError>
         requires long { length set.old ≡ link_count self.now }
         requires within { range.end ≤ link_count self.now }
-        requires groups { IsStrictlyIncreasing groups.now }
-        ensures { OnOk result (IsWidened set.old (λ l. IsInRange range.first range.end l × HaveCommon (groups_at self.now l) groups.now) set.new) }
+        requires protected { protected.0 < link_count self.now }
+        ensures { OnOk result (IsWidened set.old (λ l. IsInRange range.first range.end l × ShareGroup self.now l protected.0) set.new) }
     {
         for link in range.first..range.end {
-            if share(self.groups(LinkNo(link)), groups) {
+            if self.shares(LinkNo(link), protected) {
                 set.add(LinkNo(link))?;
             }
         }
         Ok(())
     }
 
-    /// Adds those of the listed links that share one of the groups.
+    /// Adds those of the listed links that share a group with the protected link.
     fn add_sharing_listed(
         &self,
         set: &mut LinkSet,
-        groups: &[u32],
+        protected: LinkNo,
         links: &[LinkNo],
     ) -> Result<(), AllocError>
         requires long { length set.old ≡ link_count self.now }
         requires within { (i : ℕ) → i < length links.now → number_at links.now i < link_count self.now }
-        requires groups { IsStrictlyIncreasing groups.now }
-        ensures { OnOk result (IsWidened set.old (λ l. IsListed links.now l × HaveCommon (groups_at self.now l) groups.now) set.new) }
+        requires protected { protected.0 < link_count self.now }
+        ensures { OnOk result (IsWidened set.old (λ l. IsListed links.now l × ShareGroup self.now l protected.0) set.new) }
     {
         for link in links {
-            if share(self.groups(*link), groups) {
+            if self.shares(*link, protected) {
                 set.add(*link)?;
             }
         }
@@ -121,12 +96,11 @@ impl Graph {
         ensures { IfOk result (IsFailedSet self.now (record { kind = RiskKind; link = protected })) }
     {
         let mut set = self.failed_with_link(alloc, protected)?;
-        let groups = self.groups(protected);
         // Most links have no group.
-        if !groups.is_empty() {
+        if !self.groups(protected).is_empty() {
             let node = self.edge(protected).from;
-            self.add_sharing_in_range(&mut set, groups, self.links_from(node))?;
-            self.add_sharing_listed(&mut set, groups, self.links_to(node))?;
+            self.add_sharing_in_range(&mut set, protected, self.links_from(node))?;
+            self.add_sharing_listed(&mut set, protected, self.links_to(node))?;
         }
         Ok(set)
     }
@@ -152,8 +126,7 @@ impl Graph {
         requires link { link.0 < link_count self.now }
         ensures { (result ≡ true) ↔ AddsNothing self.now protected.0 link.0 }
     {
-        !share(self.groups(link), self.groups(protected))
-            || is_pair(&self.link(link).key, &self.link(protected).key)
+        !self.shares(link, protected) || is_pair(&self.link(link).key, &self.link(protected).key)
     }
 
     /// Whether the risk adds nothing at the links of the range.

@@ -1,8 +1,9 @@
 //! The graph: how it is built, and what it answers.
-ghost use Rattle.std.specs.Prelude.{◌≡◌, ◌≢◌, [], ℕ, ◌<◌, ◌≤◌, length, IfSome, IfNone, IfOk, IfErr};
+ghost use Rattle.std.specs.Prelude.{◌≡◌, ◌≢◌, ◌↔◌, [], ℕ, ◌<◌, ◌≤◌, true, length, IfSome, IfNone, IfOk, IfErr};
 ghost use Rattle.sr_model.specs.declared.link.NodeNo.{NodeNo as Node};
 ghost use Rattle.sr_model.specs.declared.link.LinkNo.{LinkNo as Number};
 ghost use Rattle.sr_model.specs.Graph.{node_count, link_count, link_at, tail, head, metric, system_at, groups_at, is_overloaded, carries, IsGraph, IsNamed, IsGrouped};
+ghost use Rattle.sr_model.specs.Case.{ShareGroup};
 ghost use Rattle.sr_graph.specs.Draft.{IsDraft, AreSorted, IsAccepted, IsRefusal};
 ghost use Rattle.sr_graph.specs.Built.{IsBuilt};
 ghost use Rattle.sr_graph.specs.Ranges.{HoldsLinks, EndAt};
@@ -11,10 +12,12 @@ use crate::draft::{Draft, DraftLink, Groups};
 use crate::edges::{Edge, edges_of};
 use crate::fault::GraphFault;
 use crate::incoming::{Incoming, lists_by_end};
+use crate::link_bits::LinkBits;
 use crate::link_set::LinkSet;
 use crate::numbers::{find, number_all, place};
 use crate::order::{refusal, sort};
 use crate::ranges::{LinkRange, starts};
+use crate::sharing::sharing;
 use sr_model::{Link, LinkKey, LinkNo, NodeNo, SystemId};
 use std::alloc::{AllocError, Global};
 use std::marker::Model;
@@ -29,6 +32,7 @@ pub struct Graph {
     pub(crate) overloaded: Vec<bool>,
     starts: Vec<u16>,
     incoming: Vec<Incoming>,
+    sharing: Vec<LinkBits>,
 }
 
 impl Model for Graph {
@@ -39,7 +43,7 @@ impl Model for Graph {
 
     ghost view = { λ a. record { systems = a.systems.items; links = a.links.items; groups = a.groups.items; overloaded = a.overloaded.items } };
 
-    ghost invariant = { λ a. IsLaidOut (record { systems = a.systems.items; links = a.links.items; groups = a.groups.items; overloaded = a.overloaded.items }) a.edges.items a.starts.items a.incoming.items };
+    ghost invariant = { λ a. IsLaidOut (record { systems = a.systems.items; links = a.links.items; groups = a.groups.items; overloaded = a.overloaded.items }) a.edges.items a.starts.items a.incoming.items a.sharing.items };
 }
 
 impl Graph {
@@ -81,6 +85,7 @@ impl Graph {
         let starts = starts(alloc, &numbered.links, systems.len())?;
         let edges = edges_of(alloc, &numbered.links)?;
         let incoming = lists_by_end(alloc, &edges, systems.len())?;
+        let sharing = sharing(alloc, &numbered.groups)?;
         Ok(Graph {
             systems,
             links: numbered.links,
@@ -89,6 +94,7 @@ impl Graph {
             overloaded: Vec::new(alloc),
             starts,
             incoming,
+            sharing,
         })
     }
 
@@ -149,6 +155,16 @@ impl Graph {
         ensures grouped { IsGrouped self.now }
     {
         self.groups[link.0 as usize].as_slice()
+    }
+
+    /// Whether the links share a group.
+    pub(crate) fn shares(&self, link: LinkNo, other: LinkNo) -> bool
+        requires link { link.0 < link_count self.now }
+        requires other { other.0 < link_count self.now }
+        ensures { (result ≡ true) ↔ ShareGroup self.now link.0 other.0 }
+    {
+        let place = other.0 as usize;
+        place < self.sharing.len() && self.sharing[place].has(link)
     }
 
     /// The node of this system id. None exactly where the graph has none.

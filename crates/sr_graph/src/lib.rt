@@ -7,11 +7,13 @@ mod failed;
 mod fault;
 mod graph;
 mod incoming;
+mod link_bits;
 mod link_set;
 mod mark;
 mod numbers;
 mod order;
 mod ranges;
+mod sharing;
 #[cfg(test)]
 mod tests;
 

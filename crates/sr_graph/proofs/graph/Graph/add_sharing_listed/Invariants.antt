@@ -3,4 +3,4 @@ use Rattle.sr_graph.proofs.FailedLemmas.{Sharing}
 use Rattle.sr_graph.proofs.graph.Graph.add_sharing_listed.Given as goal
 
 abbrev pub invariant-loop-link : goal.invariant-loop-link
-invariant-loop-link l = IsWidened l.fn.set (Sharing l.self l.groups l.links l.link-index) l.set
+invariant-loop-link l = IsWidened l.fn.set (Sharing l.self l.protected.0 l.links l.link-index) l.set

@@ -5,7 +5,8 @@ use Rattle.sr_graph.specs.Numbers.{IsNumbered}
 use Rattle.sr_graph.specs.Ranges.{AreStarts, AreListedByEnd}
 use Rattle.sr_graph.specs.Edges.{edge_of}
 use Rattle.sr_graph.proofs.ZipLemmas.{zip-length}
-use Rattle.sr_graph.proofs.GraphLemmas.{by_tail, ends_within, built_from, laid_out_from}
+use Rattle.sr_graph.specs.Sharing.{AreSharing}
+use Rattle.sr_graph.proofs.GraphLemmas.{by_tail, ends_within, few_groups, built_from, laid_out_from}
 use Rattle.sr_graph.proofs.graph.Graph.assemble.Goals as goal
 
 pub number_all-requires-clause-ends : goal.number_all-requires-clause-ends
@@ -33,6 +34,11 @@ lists_by_end-requires c =
       ends = ends_within _ _ _ c.requires.draft c.requires.accepted c.requires.sorted numbered _ edges;
     })
 
+pub sharing-requires : goal.sharing-requires
+sharing-requires c =
+    let numbered : AllZip (IsNumbered c.args.systems.items) c.args.links.items c.in_ok-numbered.numbered.links.items = rw c.deref.ensures.value at c.in_ok-numbered.ensures.links in
+    rw c.deref-5.ensures.value (few_groups _ _ _ c.requires.draft c.requires.accepted c.requires.sorted numbered _ c.in_ok-numbered.ensures.groups)
+
 pub invariant_of-result : goal.invariant_of-result
 invariant_of-result c =
     let numbered : AllZip (IsNumbered c.args.systems.items) c.args.links.items c.in_ok-numbered.numbered.links.items = rw c.deref.ensures.value at c.in_ok-numbered.ensures.links in
@@ -41,7 +47,8 @@ invariant_of-result c =
     let edges : c.in_ok-edges.edges.items ≡ map edge_of c.in_ok-numbered.numbered.links.items = rw c.deref-3.ensures.value at c.in_ok-edges.ensures in
     let same-2 : c.len-2.result ≡ length c.args.systems.items = search rules in
     let ends : AreListedByEnd c.in_ok-edges.edges.items (length c.in_ok-edges.edges.items) (length c.args.systems.items) c.in_ok-incoming.incoming.items = rw (c.deref-4.ensures.value, same-2) at c.in_ok-incoming.ensures in
-    laid_out_from _ _ _ c.requires.draft c.requires.accepted c.requires.sorted numbered _ _ _ _ _ c.in_ok-numbered.ensures.groups c.new.ensures.items edges starts ends
+    let sets : AreSharing c.in_ok-numbered.numbered.groups.items c.in_ok-sharing.sharing.items = rw c.deref-5.ensures.value at c.in_ok-sharing.ensures in
+    laid_out_from _ _ _ c.requires.draft c.requires.accepted c.requires.sorted numbered _ _ _ _ _ _ c.in_ok-numbered.ensures.groups c.new.ensures.items edges starts ends sets
 
 pub returns : goal.returns
 returns c =
