@@ -20,13 +20,11 @@ use Rattle.sr_graph.proofs.OrderLemmas.{far-below}
 use Rattle.sr_lsdb.specs.declared.facts.Facts.{Facts}
 use Rattle.sr_domain.specs.declared.links.FoundLink.{FoundLink}
 use Rattle.sr_domain.specs.Announced.{announcements_of}
-use Rattle.sr_domain.specs.Groups.{notes_of, same_number, is_group_of}
-use Rattle.sr_domain.proofs.GroupsLemmas.{in-table}
-use Rattle.sr_domain.specs.declared.groups.PairGroup.{PairGroup}
-use Rattle.sr_domain.specs.GroupTables.{draft_link, gives, groups_in, AreByPair}
+use Rattle.sr_domain.specs.Groups.{notes_of, same_number}
+use Rattle.sr_model.specs.declared.name.PairKey.{PairKey}
+use Rattle.sr_domain.specs.GroupTables.{draft_link, GivesGroups}
 use Rattle.sr_domain.specs.Links.{KeysAscend, link_key, link_label, labelled}
 use Rattle.sr_domain.specs.Steps.{IsGraphOf}
-use Rattle.sr_domain.proofs.NetLemmas.{found-at}
 use Rattle.std.specs.declared.cmp.Ordering.TheVariants.{Less}
 use Rattle.sr_domain.proofs.SortedLemmas.{Rises, rises-from_far, same-sorted}
 
@@ -53,12 +51,12 @@ rises-graph g named grouped = rises-from_far (drafted g.links g.groups) (λ i j 
 rises-drafts : (drafts : List DraftLink) → AreSorted drafts → NoneTwice drafts → Rises drafts
 rises-drafts drafts sorted once = rises-from_far drafts (λ i j d lt within. far-below key_total key_of drafts (ascend-from_once drafts sorted once).at i j d lt within)
 
-sorted-map : (m : List PairGroup) (links : List FoundLink) → IsSortedByKey link_key key_cmp links → AreSorted (map (draft_link m) links)
+sorted-map : (m : PairKey → List ℕ) (links : List FoundLink) → IsSortedByKey link_key key_cmp links → AreSorted (map (draft_link m) links)
 sorted-map m links sorted k d low high =
     let next : k + 1 < length links = omega (arith, length-map links (draft_link m)) in
     rw (get_or-map (draft_link m) links (k + 1) no_found d next, get_or-map (draft_link m) links k no_found d (omega arith)) (sorted k no_found low next)
 
-pub keys-ascend : (m : List PairGroup) (links : List FoundLink) (drafts : List DraftLink) → drafts ≡ map (draft_link m) links → IsSortedByKey link_key key_cmp links → NoneTwice drafts → KeysAscend links
+pub keys-ascend : (m : PairKey → List ℕ) (links : List FoundLink) (drafts : List DraftLink) → drafts ≡ map (draft_link m) links → IsSortedByKey link_key key_cmp links → NoneTwice drafts → KeysAscend links
 keys-ascend m links drafts are sorted once k d within =
     let made : List DraftLink = map (draft_link m) links in
     let e : DraftLink = draft_link m d in
@@ -76,7 +74,7 @@ drafts-same g drafts named grouped sorted once moved = same-sorted (drafted g.li
 head-same : (x y : DraftLink) (xs ys : List DraftLink) → x ∷ xs ≡ y ∷ ys → (x ≡ y) × (xs ≡ ys)
 head-same x y xs ys e = (cc, cc)
 
-module _ (m : List PairGroup) where
+module _ (m : PairKey → List ℕ) where
   labelled-same : (ls : List Link) (gs : List (List ℕ)) (fs : List FoundLink) → length gs ≡ length ls → drafted ls gs ≡ map (draft_link m) fs → labelled ls (map link_label fs) ≡ fs
   labelled-same [] gs [] e same = refl
   labelled-same [] gs (f ∷ fs) e same = absurd (cc)
@@ -88,21 +86,18 @@ module _ (m : List PairGroup) where
       ap (λ (d : DraftLink). let x : FoundLink = record { key = d.key; metric = d.metric; label = f.label } in x ∷ labelled ls (map link_label fs)) parts.0
       ∙ ap (λ r. f ∷ r) rest
 
-  groups-same : (ls : List Link) (gs : List (List ℕ)) (fs : List FoundLink) → length gs ≡ length ls → drafted ls gs ≡ map (draft_link m) fs → (i : ℕ) → i < length ls → get_or gs i [] ≡ groups_in m (pair_of (get_or ls i no_link).key)
+  groups-same : (ls : List Link) (gs : List (List ℕ)) (fs : List FoundLink) → length gs ≡ length ls → drafted ls gs ≡ map (draft_link m) fs → (i : ℕ) → i < length ls → get_or gs i [] ≡ m (pair_of (get_or ls i no_link).key)
   groups-same [] gs fs e same i lt = absurd (omega arith)
   groups-same (l ∷ ls) [] fs e same i lt = absurd (omega arith)
   groups-same (l ∷ ls) (g ∷ gs) [] e same i lt = absurd (cc)
   groups-same (l ∷ ls) (g ∷ gs) (f ∷ fs) e same zero lt =
       let parts = head-same (record { key = l.key; metric = l.metric; groups = g }) (draft_link m f) (drafted ls gs) (map (draft_link m) fs) same in
-      ap (λ (d : DraftLink). d.groups) parts.0 ∙ ap (λ (d : DraftLink). groups_in m (pair_of d.key)) (sym parts.0)
+      ap (λ (d : DraftLink). d.groups) parts.0 ∙ ap (λ (d : DraftLink). m (pair_of d.key)) (sym parts.0)
   groups-same (l ∷ ls) (g ∷ gs) (f ∷ fs) e same (suc i) lt =
       let parts = head-same (record { key = l.key; metric = l.metric; groups = g }) (draft_link m f) (drafted ls gs) (map (draft_link m) fs) same in
       groups-same ls gs fs (omega arith) parts.1 i (omega arith)
 
-groups-at : (facts : Facts) (m : List PairGroup) (links : List FoundLink) (key : LinkKey) (x : FoundLink) → AreByPair m links (announcements_of facts) (notes_of facts) → Contains links x → x.key ≡ key → (group : ℕ) → list_any (gives (pair_of key) group) m ≡ is_group_of (announcements_of facts) (notes_of facts) (pair_of key) group
-groups-at facts m links key x groups there e group = subst (λ (k : LinkKey). list_any (gives (pair_of k) group) m ≡ is_group_of (announcements_of facts) (notes_of facts) (pair_of k) group) e (groups x group there)
-
-pub graph-of : (facts : Facts) (m : List PairGroup) (nodes : List ℕ) (links : List FoundLink) (drafts : List DraftLink) (g : Graph) → drafts ≡ map (draft_link m) links → IsSortedByKey link_key key_cmp links → NoneTwice drafts → AreByPair m links (announcements_of facts) (notes_of facts) → IsBuilt (record { nodes = nodes; links = drafts }) g → IsGraphOf facts nodes links g
+pub graph-of : (facts : Facts) (m : PairKey → List ℕ) (nodes : List ℕ) (links : List FoundLink) (drafts : List DraftLink) (g : Graph) → drafts ≡ map (draft_link m) links → IsSortedByKey link_key key_cmp links → NoneTwice drafts → GivesGroups m (announcements_of facts) (notes_of facts) → IsBuilt (record { nodes = nodes; links = drafts }) g → IsGraphOf facts nodes links g
 graph-of facts m nodes links drafts g are sorted once groups built =
     let sorted' : AreSorted drafts = subst (λ (ds : List DraftLink). AreSorted ds) (sym are) (sorted-map m links sorted) in
     let same : drafted g.links g.groups ≡ map (draft_link m) links = drafts-same g drafts built.named built.grouped sorted' once built.links ∙ are in
@@ -117,10 +112,9 @@ graph-of facts m nodes links drafts g are sorted once groups built =
       long = long';
       same = labelled-same m g.links g.groups links long same;
       groups = λ l lt.
-          let here : groups_at g l ≡ groups_in m (pair_of (link_at g l).key) = groups-same m g.links g.groups links long same l lt in
-          let found = found-at g.links links (sym long') (labelled-same m g.links g.groups links long same) l lt in
+          let here : groups_at g l ≡ m (pair_of (link_at g l).key) = groups-same m g.links g.groups links long same l lt in
           record {
             ascending = built.grouped.ascending l lt;
-            each = λ group. ap (list_any (same_number group)) here ∙ in-table m (pair_of (link_at g l).key) group ∙ groups-at facts m links (link_at g l).key found.0 groups found.1 found.2 group;
+            each = λ group. ap (list_any (same_number group)) here ∙ groups (pair_of (link_at g l).key) group;
           };
     }

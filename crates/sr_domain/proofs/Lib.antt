@@ -1,5 +1,6 @@
 pub mod AnnouncedLemmas
 pub mod NodesLemmas
+pub mod NumbersLemmas
 pub mod GroupsLemmas
 pub mod RunsLemmas
 pub mod KeptLemmas
@@ -17,7 +18,6 @@ pub mod GatheredLemmas
 pub mod AdjLemmas
 pub mod NetLemmas
 pub mod KeyLemmas
-pub mod NamesLemmas
 pub mod DeterminedLists
 pub mod DeterminedNets
 pub mod DeterminedRules

@@ -7,7 +7,7 @@ use Rattle.sr_graph.specs.declared.fault.GraphFault.TheVariants.{ZeroMetric, Dup
 use Rattle.sr_graph.specs.Draft.{HasZero, IsTwice, NoZero, NoneTwice, IsAccepted, IsRefusal}
 use Rattle.sr_lsdb.specs.declared.facts.Facts.{Facts}
 use Rattle.sr_domain.specs.declared.links.FoundLink.{FoundLink}
-use Rattle.sr_domain.specs.declared.groups.PairGroup.{PairGroup}
+use Rattle.sr_model.specs.declared.name.PairKey.{PairKey}
 use Rattle.sr_domain.specs.GroupTables.{draft_link}
 use Rattle.sr_domain.specs.Links.{links_of}
 use Rattle.sr_domain.specs.Nodes.{nodes_of}
@@ -16,7 +16,7 @@ use Rattle.sr_domain.specs.Rules.{AreKept, IsDomainFault, HasZeroMetric, IsRepea
 use Rattle.sr_domain.proofs.KeptLemmas.{kept-metrics, kept-keys, kept-few_nodes, kept-few_links}
 use Rattle.sr_domain.proofs.TopologyLemmas.{least-moved, zero-to, zero-from, twice-to, twice-from, length-same}
 
-module _ (facts : Facts) (m : List PairGroup) (nodes : List ℕ) (links : List FoundLink) (drafts : List DraftLink) (its : nodes ≡ nodes_of facts) (moved : IsPermutation (links_of facts) links) (are : drafts ≡ map (draft_link m) links) (kept : AreKept facts 5) where
+module _ (facts : Facts) (m : PairKey → List ℕ) (nodes : List ℕ) (links : List FoundLink) (drafts : List DraftLink) (its : nodes ≡ nodes_of facts) (moved : IsPermutation (links_of facts) links) (are : drafts ≡ map (draft_link m) links) (kept : AreKept facts 5) where
   no-zero : NoZero drafts → AreKept facts 6
   no-zero none = kept-metrics facts kept (λ k z. none k (zero-from m (links_of facts) links drafts moved are k z))
 

@@ -13,15 +13,15 @@ use Rattle.sr_laws.proofs.PairKeys.{same-pair}
 use Rattle.sr_graph.specs.declared.draft.DraftLink.{DraftLink}
 use Rattle.sr_graph.specs.Draft.{IsDraft, AreLeast, HasZero, IsTwice}
 use Rattle.sr_domain.specs.declared.links.FoundLink.{FoundLink}
-use Rattle.sr_domain.specs.declared.groups.PairGroup.{PairGroup}
-use Rattle.sr_domain.specs.GroupTables.{draft_link, groups_in}
+use Rattle.sr_model.specs.declared.name.PairKey.{PairKey}
+use Rattle.sr_domain.specs.GroupTables.{draft_link}
 use Rattle.sr_domain.specs.Links.{HasEnds}
 use Rattle.sr_domain.specs.Rules.{HasZeroMetric, IsRepeated}
 use Rattle.sr_domain.specs.Steps.{IsBelowMaximum}
 use Rattle.sr_domain.proofs.MemberLemmas.{mapped-from, mapped-to}
 
 -- what a graph is built from
-pub draft-fits : (m : List PairGroup) (nodes : List ℕ) (links : List FoundLink) (drafts : List DraftLink) → IsStrictlyIncreasing nodes → All (HasEnds nodes) links → All IsBelowMaximum links → drafts ≡ map (draft_link m) links → All (λ (d : DraftLink). IsStrictlyIncreasing d.groups) drafts → IsDraft (record { nodes = nodes; links = drafts })
+pub draft-fits : (m : PairKey → List ℕ) (nodes : List ℕ) (links : List FoundLink) (drafts : List DraftLink) → IsStrictlyIncreasing nodes → All (HasEnds nodes) links → All IsBelowMaximum links → drafts ≡ map (draft_link m) links → All (λ (d : DraftLink). IsStrictlyIncreasing d.groups) drafts → IsDraft (record { nodes = nodes; links = drafts })
 draft-fits m nodes links drafts up ends metrics are groups = record {
   nodes = up;
   ends = subst (λ (ds : List DraftLink). All (λ (d : DraftLink). Contains nodes d.key.from × Contains nodes d.key.to × (d.key.from ≢ d.key.to)) ds) (sym are) (All-map (λ (d : DraftLink). Contains nodes d.key.from × Contains nodes d.key.to × (d.key.from ≢ d.key.to)) (draft_link m) links ends);
@@ -32,13 +32,13 @@ draft-fits m nodes links drafts up ends metrics are groups = record {
       let y = mapped-from (draft_link m) links b (subst (λ (ds : List DraftLink). Contains ds b) are in_b) in
       let differ : b.key.from ≢ b.key.to = subst (λ (d : DraftLink). d.key.from ≢ d.key.to) y.2 (All-contains (HasEnds nodes) links y.0 ends y.1).2 in
       ap (λ (d : DraftLink). d.groups) (sym x.2)
-      ∙ ap (λ (k : LinkKey). groups_in m (pair_of k)) (ap (λ (d : DraftLink). d.key) x.2)
-      ∙ ap (λ p. groups_in m p) (same-pair a.key b.key differ same)
-      ∙ ap (λ (k : LinkKey). groups_in m (pair_of k)) (sym (ap (λ (d : DraftLink). d.key) y.2))
+      ∙ ap (λ (k : LinkKey). m (pair_of k)) (ap (λ (d : DraftLink). d.key) x.2)
+      ∙ ap (λ p. m p) (same-pair a.key b.key differ same)
+      ∙ ap (λ (k : LinkKey). m (pair_of k)) (sym (ap (λ (d : DraftLink). d.key) y.2))
       ∙ ap (λ (d : DraftLink). d.groups) y.2;
 }
 
-pub few-links : (m : List PairGroup) (links : List FoundLink) (drafts : List DraftLink) → drafts ≡ map (draft_link m) links → length drafts ≤ 2048 → length links ≤ 2048
+pub few-links : (m : PairKey → List ℕ) (links : List FoundLink) (drafts : List DraftLink) → drafts ≡ map (draft_link m) links → length drafts ≤ 2048 → length links ≤ 2048
 few-links m links drafts are few = omega (arith, ap length are, length-map links (draft_link m))
 
 -- facts on keys carry over
@@ -50,7 +50,7 @@ least-moved P Q forth back from to a = record {
   is = record { holds = forth a.key a.is.holds; least = λ other q. a.is.least other (back other q) };
 }
 
-module _ (m : List PairGroup) (found links : List FoundLink) (drafts : List DraftLink) (moved : IsPermutation found links) (are : drafts ≡ map (draft_link m) links) where
+module _ (m : PairKey → List ℕ) (found links : List FoundLink) (drafts : List DraftLink) (moved : IsPermutation found links) (are : drafts ≡ map (draft_link m) links) where
   pub zero-to : (k : LinkKey) → HasZero drafts k → HasZeroMetric found k
   zero-to k z =
       let x = mapped-from (draft_link m) links z.0 (subst (λ (ds : List DraftLink). Contains ds z.0) are z.1) in

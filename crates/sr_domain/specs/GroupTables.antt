@@ -1,5 +1,5 @@
--- Tables of shared-risk groups: notes in order of names, and the groups of pairs in order (this project's rules).
-use Rattle.std.specs.Prelude.{◌≡◌, ℕ, Bool, true, false, ◌&&◌, ◌||◌, List, [], ◌∷◌, ◌++◌, Option, Some, None, Contains, map}
+-- Tables of shared-risk groups: the names of pairs in order, and notes in order of names (this project's rules).
+use Rattle.std.specs.Prelude.{◌≡◌, ℕ, Bool, true, false, ◌==◌, ◌&&◌, if◌then◌else◌, List, [], ◌∷◌, ◌++◌, Option, Some, None, map, nat_lt}
 use Rattle.std.specs.declared.cmp.Ordering.{Ordering}
 use Rattle.std.specs.List.{list_any, filter}
 use Rattle.std.specs.List.Sorted.{IsPartitionPoint, IsSortedByKey, IsStrictlySortedBy}
@@ -9,16 +9,20 @@ use Rattle.sr_model.specs.Key.{pair_of}
 use Rattle.sr_graph.specs.declared.draft.DraftLink.{DraftLink}
 use Rattle.sr_domain.specs.declared.links.FoundLink.{FoundLink}
 use Rattle.sr_domain.specs.declared.announced.Announcement.{Announcement}
-use Rattle.sr_domain.specs.declared.groups.PairGroup.{PairGroup}
+use Rattle.sr_domain.specs.declared.groups.RiskTable.{RiskTable}
 use Rattle.sr_domain.specs.declared.names.PairName.{PairName}
 use Rattle.sr_domain.specs.declared.risks.RiskName.{RiskName}
 use Rattle.sr_domain.specs.declared.risks.RiskNote.{RiskNote}
-use Rattle.sr_domain.specs.contracts.groups.PairGroupOrd.TheImpl as pair_group
+use Rattle.sr_domain.specs.contracts.names.PairNameOrd.TheImpl as pair_name
 use Rattle.sr_domain.specs.Groups.{name_cmp, is_name, numbered_name, unnumbered_name, same_name, same_number, same_pair, is_group_of}
 
 -- the name that the note gives
 abbrev pub note_name : RiskNote → RiskName
 note_name note = note.name
+
+-- the group that the note gives
+abbrev pub note_group : RiskNote → ℕ
+note_group note = note.group
 
 -- every test finds the same in both lists of notes
 abbrev pub HaveSameNotes : List RiskNote → List RiskNote → Type 0
@@ -32,10 +36,6 @@ AreInOrder = IsSortedByKey note_name name_cmp
 abbrev pub comes_before : RiskName → RiskNote → Bool
 comes_before name note = is_lt (name_cmp note.name name)
 
--- the notes before the place are of earlier names, and no others are
-abbrev pub BeginsAt : List RiskNote → RiskName → ℕ → Type 0
-BeginsAt notes name at = IsPartitionPoint (λ (n : RiskNote). comes_before name n ≡ true) (λ (n : RiskNote). comes_before name n ≡ false) notes at
-
 -- the note is under the name
 abbrev pub is_under : RiskName → RiskNote → Bool
 is_under name note = same_name name note.name
@@ -43,38 +43,6 @@ is_under name note = same_name name note.name
 -- some note under the name that there may be gives the group
 abbrev pub is_noted : List RiskNote → Option RiskName → ℕ → Bool
 is_noted notes name group = list_any (λ (n : RiskNote). same_number group n.group && is_name n.name name) notes
-
--- groups of pairs, in order of pairs and then of numbers
-abbrev pub entry_cmp : PairGroup → PairGroup → Ordering
-entry_cmp = pair_group.cmp-value.it
-
--- the pair with the group of the note
-abbrev pub entry_of : PairKey → RiskNote → PairGroup
-entry_of pair note = record { pair = pair; group = note.group }
-
--- every test finds the same in both lists of entries
-abbrev pub HaveSameEntries : List PairGroup → List PairGroup → Type 0
-HaveSameEntries old new = (test : PairGroup → Bool) → list_any test new ≡ list_any test old
-
--- the entry is of the pair
-abbrev pub is_of : PairKey → PairGroup → Bool
-is_of pair entry = same_pair pair entry.pair
-
--- the entry gives the pair the group
-abbrev pub gives : PairKey → ℕ → PairGroup → Bool
-gives pair group entry = same_pair pair entry.pair && same_number group entry.group
-
--- the number of the entry's group
-abbrev pub entry_group : PairGroup → ℕ
-entry_group entry = entry.group
-
--- the groups that the table gives the pair, in its order
-abbrev pub groups_in : List PairGroup → PairKey → List ℕ
-groups_in table pair = map entry_group (filter (is_of pair) table)
-
--- the table gives each pair the groups of the old one, and this pair those that are added too
-abbrev pub AddsAll : List PairGroup → List PairGroup → PairKey → (ℕ → Bool) → Type 0
-AddsAll old new pair is_added = (q : PairKey) (v : ℕ) → list_any (gives q v) new ≡ (list_any (gives q v) old || same_pair q pair && is_added v)
 
 -- the pair with the name that there may be
 abbrev pub named : PairKey → Option RiskName → List PairName
@@ -90,31 +58,46 @@ abbrev pub names_from : List Announcement → List PairName
 names_from [] = []
 names_from (announcement ∷ announcements) = pair_names announcement ++ names_from announcements
 
--- the pair of a link
-abbrev pub link_pair : FoundLink → PairKey
-link_pair link = pair_of link.key
+-- pairs with names, in order of pairs and then of names
+abbrev pub pair_name_cmp : PairName → PairName → Ordering
+pair_name_cmp = pair_name.cmp-value.it
 
--- the pair of the name is among these
-abbrev pub is_in : List PairKey → PairName → Bool
-is_in pairs name = list_any (same_pair name.pair) pairs
+-- every test finds the same in both lists of names
+abbrev pub HaveSameNames : List PairName → List PairName → Type 0
+HaveSameNames old new = (test : PairName → Bool) → list_any test new ≡ list_any test old
 
--- every test finds the same names of the links' pairs in both lists
-abbrev pub HaveSameNames : List FoundLink → List PairName → List PairName → Type 0
-HaveSameNames links old new = (link : FoundLink) (test : PairName → Bool) → Contains links link → list_any (λ (n : PairName). same_pair (link_pair link) n.pair && test n) new ≡ list_any (λ (n : PairName). same_pair (link_pair link) n.pair && test n) old
+-- the name is one of the pair
+abbrev pub is_of : PairKey → PairName → Bool
+is_of pair name = same_pair pair name.pair
 
--- the table gives each pair the groups that the notes give its names
-abbrev pub HasNamedGroups : List PairGroup → List PairName → List RiskNote → Type 0
-HasNamedGroups table names notes = (pair : PairKey) (g : ℕ) → list_any (gives pair g) table ≡ list_any (λ (n : PairName). same_pair pair n.pair && is_noted notes (Some n.name) g) names
+-- the groups that the notes give these names, with repeats
+abbrev pub groups_said : List PairName → List RiskNote → List ℕ
+groups_said [] notes = []
+groups_said (name ∷ names) notes = map note_group (filter (is_under name.name) notes) ++ groups_said names notes
 
--- the same, and the table is in strict order
-pub record AreByName (table : List PairGroup) (names : List PairName) (notes : List RiskNote) : Type 0 where
-  pub ascending : IsStrictlySortedBy entry_cmp table
-  pub each : HasNamedGroups table names notes
+-- ascending numbers with one more, unless it is among them
+abbrev pub put : ℕ → List ℕ → List ℕ
+put n [] = n ∷ []
+put n (x ∷ xs) = if nat_lt n x then n ∷ x ∷ xs else if n == x then x ∷ xs else x ∷ put n xs
 
--- the table gives the pair of each link its groups
-abbrev pub AreByPair : List PairGroup → List FoundLink → List Announcement → List RiskNote → Type 0
-AreByPair table links announcements notes = (link : FoundLink) (g : ℕ) → Contains links link → list_any (gives (link_pair link) g) table ≡ is_group_of announcements notes (link_pair link) g
+-- the numbers of the list, ascending, each once
+abbrev pub ascending : List ℕ → List ℕ
+ascending [] = []
+ascending (n ∷ ns) = put n (ascending ns)
+
+-- the groups that the table gives the pair, ascending
+abbrev pub groups_in : RiskTable → PairKey → List ℕ
+groups_in table pair = ascending (groups_said (filter (is_of pair) table.names.items) table.notes.items)
+
+-- the names are in order, each once, and the notes in order of names
+pub record IsTable (table : RiskTable) : Type 0 where
+  pub names : IsStrictlySortedBy pair_name_cmp table.names.items
+  pub notes : AreInOrder table.notes.items
+
+-- each pair has by these lists its groups
+abbrev pub GivesGroups : (PairKey → List ℕ) → List Announcement → List RiskNote → Type 0
+GivesGroups groups announcements notes = (pair : PairKey) (g : ℕ) → list_any (same_number g) (groups pair) ≡ is_group_of announcements notes pair g
 
 -- the link as a graph takes it, with the groups of its pair
-abbrev pub draft_link : List PairGroup → FoundLink → DraftLink
-draft_link table link = record { key = link.key; metric = link.metric; groups = groups_in table (pair_of link.key) }
+abbrev pub draft_link : (PairKey → List ℕ) → FoundLink → DraftLink
+draft_link groups link = record { key = link.key; metric = link.metric; groups = groups (pair_of link.key) }

@@ -1,15 +1,15 @@
 //! The links of a domain as a graph takes them, with their shared-risk groups.
-ghost use Rattle.std.specs.Prelude.{◌≡◌, ◌≤◌, false, length, map, All, IfOk};
-ghost use Rattle.std.specs.List.Sorted.{IsPermutation, IsSortedByKey, IsStrictlyIncreasing, IsStrictlySortedBy};
+ghost use Rattle.std.specs.Prelude.{◌≡◌, ◌≤◌, false, [], length, map, All, IfOk};
+ghost use Rattle.std.specs.List.Sorted.{IsPermutation, IsSortedByKey, IsStrictlyIncreasing};
 ghost use Rattle.sr_model.specs.KeyOrder.{key_cmp};
 ghost use Rattle.sr_graph.specs.declared.draft.DraftLink.{DraftLink as Drafted};
 ghost use Rattle.sr_domain.specs.Announced.{announcements_of};
 ghost use Rattle.sr_domain.specs.Groups.{notes_of};
-ghost use Rattle.sr_domain.specs.GroupTables.{AreByPair, draft_link, entry_cmp};
+ghost use Rattle.sr_domain.specs.GroupTables.{GivesGroups, IsTable, draft_link, groups_in};
 ghost use Rattle.sr_domain.specs.Links.{KeysAscend, link_key, link_label};
 
 use crate::announced::Announcement;
-use crate::groups::{PairGroup, by_name, by_pair, groups_of};
+use crate::groups::{RiskTable, by_name, groups_of};
 use crate::links::FoundLink;
 use crate::names::names_of;
 use crate::risks::notes;
@@ -52,44 +52,55 @@ fn are_refused(links: &[FoundLink]) -> bool
     has_repeat(links)
 }
 
-/// The groups of the links' pairs, of links in order of key. Links that no graph has get none, so that they cost none.
-pub(crate) fn pair_groups(
+/// The table without names and notes, which gives no groups.
+fn no_table(alloc: Global) -> RiskTable
+    ensures names { result.names.items ≡ [] }
+    ensures notes { result.notes.items ≡ [] }
+{
+    RiskTable {
+        names: Vec::new(alloc),
+        notes: Vec::new(alloc),
+    }
+}
+
+/// What is said of the risks of pairs, where the links are in order of key. Links that no graph has get an empty table,
+/// so that they cost no groups.
+pub(crate) fn risk_table(
     alloc: Global,
     facts: &Facts,
     announced: &[Announcement],
     links: &[FoundLink],
-) -> Result<Vec<PairGroup>, AllocError>
+) -> Result<RiskTable, AllocError>
     requires { announced.now ≡ announcements_of facts.now }
-    ensures ascending { IfOk result (λ v. IsStrictlySortedBy entry_cmp v.items) }
-    ensures groups { IfOk result (λ v. length links.now ≤ 2048 → KeysAscend links.now →
-        AreByPair v.items links.now (announcements_of facts.now) (notes_of facts.now)) }
+    ensures order { IfOk result IsTable }
+    ensures groups { IfOk result (λ t. length links.now ≤ 2048 → KeysAscend links.now →
+        GivesGroups (groups_in t) (announcements_of facts.now) (notes_of facts.now)) }
 {
     if are_refused(links) {
-        return Ok(Vec::new(alloc));
+        return Ok(no_table(alloc));
     }
     let said = notes(alloc, facts)?;
     if said.as_slice().is_empty() {
-        return Ok(Vec::new(alloc));
+        return Ok(no_table(alloc));
     }
-    let ordered = by_name(said);
-    let names = names_of(alloc, links, announced)?;
-    let table = by_pair(alloc, &names, &ordered)?;
-    Ok(table)
+    let notes = by_name(said);
+    let names = names_of(alloc, announced)?;
+    Ok(RiskTable { names, notes })
 }
 
 /// The links with the groups of their pairs.
 pub(crate) fn draft_links(
     alloc: Global,
-    by_pair: &[PairGroup],
+    table: &RiskTable,
     links: &[FoundLink],
 ) -> Result<Vec<DraftLink>, AllocError>
-    requires { IsStrictlySortedBy entry_cmp by_pair.now }
-    ensures links { IfOk result (λ v. v.items ≡ map (draft_link by_pair.now) links.now) }
+    requires { IsTable table.now }
+    ensures links { IfOk result (λ v. v.items ≡ map (draft_link (groups_in table.now)) links.now) }
     ensures groups { IfOk result (λ v. All (λ (d : Drafted). IsStrictlyIncreasing d.groups) v.items) }
 {
     let mut out = Vec::with_capacity(alloc, links.len())?;
     for link in links {
-        let groups = groups_of(alloc, by_pair, &link.key.pair())?;
+        let groups = groups_of(alloc, table, &link.key.pair())?;
         out.push(DraftLink {
             key: link.key,
             metric: link.metric,

@@ -12,7 +12,7 @@ ghost use Rattle.sr_domain.specs.Net.{IsNetOf};
 
 use crate::announced::Announcement;
 use crate::clash::check_labels;
-use crate::draft::{label_list, pair_groups, sort};
+use crate::draft::{label_list, risk_table, sort};
 use crate::fault::DomainFault;
 use crate::gathered::{Gathered, gather};
 use crate::labels::node_labels;
@@ -72,8 +72,8 @@ fn net_with(
     } = gathered;
     sort(&mut links);
     let overloaded = first_overloaded(facts, &nodes);
-    let by_pair = pair_groups(alloc, facts, &announced, &links)?;
-    let graph = graph_of(alloc, facts, nodes, &links, &by_pair)?;
+    let table = risk_table(alloc, facts, &announced, &links)?;
+    let graph = graph_of(alloc, facts, nodes, &links, &table)?;
     match overloaded {
         Some(node) => return Err(DomainFault::Rule(DomainRule::Overload { node })),
         None => {}

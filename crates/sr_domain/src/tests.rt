@@ -3,7 +3,7 @@ ghost use Rattle.std.specs.Prelude.{◌≡◌, ◌<◌, IfOk};
 ghost use Rattle.sr_lsp.specs.InRange.{IsInRange};
 
 use crate::announced::Announcement;
-use crate::groups::{by_name, by_pair, groups_of};
+use crate::groups::{RiskTable, by_name, groups_of};
 use crate::names::names_of;
 use crate::net_of;
 use crate::risks::{RiskName, RiskNote, unnumbered_name};
@@ -124,10 +124,11 @@ fn a_pair_has_the_groups_that_either_end_gives_it(rt: HostRuntime) -> Result<(),
         },
     ]
     .to_vec(rt.alloc())?;
-    let named = by_name(notes);
     let all = [there, back].to_vec(rt.alloc())?;
-    let names = names_of(rt.alloc(), &[], &all)?;
-    let table = by_pair(rt.alloc(), &names, &named)?;
+    let table = RiskTable {
+        names: names_of(rt.alloc(), &all)?,
+        notes: by_name(notes),
+    };
     let groups = groups_of(rt.alloc(), &table, &back.key.pair())?;
     assert_eq!(rt; groups.as_slice(), [7, 9].as_slice());
     Ok(())

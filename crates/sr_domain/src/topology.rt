@@ -1,11 +1,11 @@
 //! The graph of a domain.
 ghost use Rattle.std.specs.Prelude.{◌≡◌, ◌≤◌, length, All, IfOk, IfErr};
-ghost use Rattle.std.specs.List.Sorted.{IsPermutation, IsSortedByKey, IsStrictlyIncreasing, IsStrictlySortedBy};
+ghost use Rattle.std.specs.List.Sorted.{IsPermutation, IsSortedByKey, IsStrictlyIncreasing};
 ghost use Rattle.sr_model.specs.KeyOrder.{key_cmp};
 ghost use Rattle.sr_domain.specs.Announced.{announcements_of};
 ghost use Rattle.sr_domain.specs.Nodes.{nodes_of};
 ghost use Rattle.sr_domain.specs.Groups.{notes_of};
-ghost use Rattle.sr_domain.specs.GroupTables.{AreByPair, entry_cmp};
+ghost use Rattle.sr_domain.specs.GroupTables.{GivesGroups, IsTable, groups_in};
 ghost use Rattle.sr_domain.specs.Links.{links_of, link_key, HasEnds, KeysAscend};
 ghost use Rattle.sr_domain.specs.Rules.{AreKept, IsDomainFault};
 ghost use Rattle.sr_domain.specs.Named.{domain_fault as domain_fault_of};
@@ -13,7 +13,7 @@ ghost use Rattle.sr_domain.specs.Steps.{IsBelowMaximum, IsGraphOf};
 
 use crate::draft::draft_links;
 use crate::fault::DomainFault;
-use crate::groups::PairGroup;
+use crate::groups::RiskTable;
 use crate::links::FoundLink;
 use sr_graph::{Draft, DraftLinks, Graph, GraphFault, SystemIds};
 use sr_lsdb::Facts;
@@ -49,7 +49,7 @@ pub(crate) fn graph_of(
     facts: &Facts,
     nodes: Vec<SystemId>,
     links: &[FoundLink],
-    by_pair: &[PairGroup],
+    table: &RiskTable,
 ) -> Result<Graph, DomainFault>
     requires nodes { nodes.items ≡ nodes_of facts.now }
     requires ascending { IsStrictlyIncreasing nodes.items }
@@ -57,15 +57,15 @@ pub(crate) fn graph_of(
     requires sorted { IsSortedByKey link_key key_cmp links.now }
     requires ends { All (HasEnds nodes.items) links.now }
     requires metrics { All IsBelowMaximum links.now }
-    requires table { IsStrictlySortedBy entry_cmp by_pair.now }
+    requires table { IsTable table.now }
     requires groups { length links.now ≤ 2048 → KeysAscend links.now →
-        AreByPair by_pair.now links.now (announcements_of facts.now) (notes_of facts.now) }
+        GivesGroups (groups_in table.now) (announcements_of facts.now) (notes_of facts.now) }
     requires kept { AreKept facts.now 5 }
     ensures graph { IfOk result (IsGraphOf facts.now nodes.items links.now) }
     ensures kept { IfOk result (λ _. AreKept facts.now 9) }
     ensures fault { IfErr result (IsDomainFault facts.now) }
 {
-    let drafts = draft_links(alloc, by_pair, links)?;
+    let drafts = draft_links(alloc, table, links)?;
     let draft = Draft {
         nodes: SystemIds::new(nodes),
         links: DraftLinks::new(drafts),
