@@ -28,7 +28,8 @@ use Rattle.sr_domain.specs.declared.announced.Announcement.{Announcement}
 use Rattle.sr_domain.specs.declared.links.FoundLink.{FoundLink}
 use Rattle.sr_domain.specs.Announced.{is_live, first_id, is_present, counts, parts_of, announced_by, announcement_of, announced_in, announcements_of, is_announced, two_way_of}
 use Rattle.sr_domain.specs.Nodes.{node_by, nodes_of}
-use Rattle.sr_domain.specs.Links.{effective_metric, is_down, is_in_use, link_by, link_of, links_of, HasEnds}
+use Rattle.sr_lsdb.specs.Tables.{is_down}
+use Rattle.sr_domain.specs.Links.{effective_metric, is_in_use, link_by, link_of, links_of, HasEnds}
 use Rattle.sr_domain.specs.Steps.{IsBelowMaximum}
 use Rattle.sr_domain.proofs.MemberLemmas.{here, kept_by}
 
@@ -196,7 +197,7 @@ link-good facts range a link two e = by (is_in_use facts a) refl e
         let small : effective_metric facts a < 16777216 = metric-small_by a.metric (lookup (is_at (key_cmp a.key)) facts.costs) two.sound.metric (lookup-cost (is_at (key_cmp a.key)) facts.costs range.costs) in
         let good : IsGoodLink facts (link_of facts a) = record {
           ends = (present-node facts a.key.from two.sound.present, present-node facts a.key.to two.other, two.sound.differ);
-          below = metric-below (effective_metric facts a) small (and-left (not (effective_metric facts a == 16777215)) (not (is_down facts (pair_of a.key))) used);
+          below = metric-below (effective_metric facts a) small (and-left (not (effective_metric facts a == 16777215)) (not (is_down facts.downs (pair_of a.key))) used);
         } in
         subst (λ (l : FoundLink). IsGoodLink facts l) (some_same (link_of facts a) link h) good
 

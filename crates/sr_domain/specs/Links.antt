@@ -1,18 +1,15 @@
 -- The links of a domain: two-way announcements with their effective metrics, and the adjacency labels with the nodes that give them (this project's rules).
 use Rattle.std.specs.Prelude.{◌≡◌, ◌≢◌, Contains, ℕ, ◌+◌, ◌<◌, length, slice_index_or, Bool, not, ◌==◌, ◌&&◌, if◌then◌else◌, List, [], ◌∷◌, Option, Some, None}
-use Rattle.std.specs.List.{filter_map, list_any}
+use Rattle.std.specs.List.{filter_map}
 use Rattle.std.specs.Option.{unwrap_or, option_map}
-use Rattle.std.specs.BTreeMap.{is_at}
-use Rattle.std.specs.Map.{lookup}
 use Rattle.std.specs.declared.cmp.Ordering.TheVariants.{Less}
 use Rattle.sr_model.specs.declared.name.LinkKey.{LinkKey}
-use Rattle.sr_model.specs.declared.name.PairKey.{PairKey}
 use Rattle.sr_model.specs.declared.label.AdjLabel.{AdjLabel}
 use Rattle.sr_model.specs.declared.link.Link.{Link}
 use Rattle.sr_model.specs.Key.{pair_of}
 use Rattle.sr_model.specs.KeyOrder.{key_cmp}
 use Rattle.sr_lsdb.specs.declared.facts.Facts.{Facts}
-use Rattle.sr_lsdb.specs.Order.{pair_cmp}
+use Rattle.sr_lsdb.specs.Tables.{metric_at, is_down}
 use Rattle.sr_domain.specs.declared.announced.Announcement.{Announcement}
 use Rattle.sr_domain.specs.declared.links.FoundLink.{FoundLink}
 use Rattle.sr_domain.specs.Announced.{two_way_of}
@@ -20,15 +17,11 @@ use Rattle.sr_domain.specs.Nodes.{nodes_of}
 
 -- the effective metric: the one that is set for the key, otherwise the announced one
 abbrev pub effective_metric : Facts → Announcement → ℕ
-effective_metric facts announcement = unwrap_or (lookup (is_at (key_cmp announcement.key)) facts.costs) announcement.metric
-
--- the pair is down
-abbrev pub is_down : Facts → PairKey → Bool
-is_down facts pair = list_any (is_at (pair_cmp pair)) facts.downs
+effective_metric facts announcement = unwrap_or (metric_at facts.costs announcement.key) announcement.metric
 
 -- neither the maximum metric (RFC 5305, 3: it isn't considered in the computation) nor a pair that is down
 abbrev pub is_in_use : Facts → Announcement → Bool
-is_in_use facts announcement = not (effective_metric facts announcement == 16777215) && not (is_down facts (pair_of announcement.key))
+is_in_use facts announcement = not (effective_metric facts announcement == 16777215) && not (is_down facts.downs (pair_of announcement.key))
 
 -- the link of an announcement
 abbrev pub link_of : Facts → Announcement → FoundLink

@@ -1,7 +1,7 @@
 //! What the nodes announce of their links.
 ghost use Rattle.std.specs.Prelude.{◌≡◌, ◌++◌, IfOk, OnOk};
 ghost use Rattle.std.specs.List.{filter_map};
-ghost use Rattle.sr_domain.specs.Announced.{is_present as is_present_in, ident_by_ids, ident_of, adj_sid_label, adj_label, least, adj_sid_labels, lesser, announced_by, announcements_of};
+ghost use Rattle.sr_domain.specs.Announced.{first_id, is_present as is_present_in, ident_by_ids, ident_of, adj_sid_label, adj_label, least, adj_sid_labels, lesser, announced_by, announcements_of};
 
 use crate::draft::MOST_LINKS;
 use sr_lsdb::Facts;
@@ -30,16 +30,22 @@ pub struct Announcement {
     pub ids: Option<LinkIds>,
 }
 
+/// The id of the node's LSP with pseudonode 0 and fragment 0.
+pub(crate) fn first_id(node: SystemId) -> LspId
+    ensures { result ≡ first_id node }
+{
+    LspId {
+        system: node,
+        pseudonode: 0,
+        fragment: 0,
+    }
+}
+
 /// Whether the node's LSP with pseudonode 0 and fragment 0 is live.
 pub(crate) fn is_present(facts: &Facts, node: SystemId) -> bool
     ensures { result ≡ is_present_in facts.now node }
 {
-    let first = LspId {
-        system: node,
-        pseudonode: 0,
-        fragment: 0,
-    };
-    match facts.database.as_map().get(&first) {
+    match facts.database.get(&first_id(node)) {
         Some(stored) => stored.live.is_some(),
         None => false,
     }

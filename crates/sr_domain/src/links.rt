@@ -23,8 +23,8 @@ pub(crate) struct FoundLink {
 fn effective_metric(facts: &Facts, announcement: &Announcement) -> u32
     ensures { result ≡ effective_metric facts.now announcement.now }
 {
-    match facts.costs.as_map().get(&announcement.key) {
-        Some(metric) => *metric,
+    match facts.costs.get(&announcement.key) {
+        Some(metric) => metric,
         None => announcement.metric,
     }
 }
@@ -34,7 +34,7 @@ fn link_by(facts: &Facts, announcement: &Announcement) -> Option<FoundLink>
     ensures { result ≡ link_by facts.now announcement.now }
 {
     let metric = effective_metric(facts, announcement);
-    if metric != MAXIMUM && !facts.downs.as_set().contains(&announcement.key.pair()) {
+    if metric != MAXIMUM && !facts.downs.contains(&announcement.key.pair()) {
         Some(FoundLink {
             key: announcement.key,
             metric,

@@ -6,6 +6,7 @@ ghost use Rattle.std.specs.List.Sorted.{IsStrictlyIncreasing};
 ghost use Rattle.sr_domain.specs.Nodes.{past_own, nodes_of, first_ranges, srgb_of as srgb_in, node_sid_by, lesser_sid, least_sid, sid_of_part, least_of_parts, node_sid_of, is_overloaded as is_overloaded_in};
 ghost use Rattle.sr_domain.specs.Announced.{first_id};
 
+use crate::announced::first_id;
 use sr_lsdb::Facts;
 use sr_lsp::{LspId, Part};
 use sr_model::{Range, SystemId};
@@ -54,6 +55,7 @@ pub(crate) fn node_list(alloc: Global, facts: &Facts) -> Result<Vec<SystemId>, A
     ensures nodes { IfOk result (λ v. v.items ≡ nodes_of facts.now) }
     ensures ascending { IfOk result (λ v. IsStrictlyIncreasing v.items) }
 {
+    // Nothing is done with the count. What `len` promises says that the database is in order, which `as_map` doesn't.
     let _count = facts.database.as_map().len();
     let out = gather_nodes(alloc, facts)?;
     Ok(out)
@@ -80,11 +82,7 @@ fn own_ids(node: SystemId) -> (LspId, LspId)
     ensures { result ≡ (first_id node, past_own node) }
 {
     (
-        LspId {
-            system: node,
-            pseudonode: 0,
-            fragment: 0,
-        },
+        first_id(node),
         LspId {
             system: node,
             pseudonode: 1,
@@ -211,12 +209,7 @@ pub(crate) fn node_sid(facts: &Facts, node: SystemId) -> Option<NodeSid>
 pub(crate) fn is_overloaded(facts: &Facts, node: SystemId) -> bool
     ensures { result ≡ is_overloaded_in facts.now node }
 {
-    let first = LspId {
-        system: node,
-        pseudonode: 0,
-        fragment: 0,
-    };
-    match facts.database.as_map().get(&first) {
+    match facts.database.get(&first_id(node)) {
         Some(stored) => match &stored.live {
             Some(shared) => shared.lsp().flags & OVERLOAD != 0,
             None => false,
