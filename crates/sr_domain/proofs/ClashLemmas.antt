@@ -1,10 +1,11 @@
 -- The first broken rule on labels, in the words of the facts.
-use Rattle.std.proofs.Common.{◌≡◌, ℕ, ◌<◌, List, length, arith, sym, subst, Option, Some, None}
+use Rattle.std.proofs.Common.{◌≡◌, ℕ, ◌<◌, List, length, refl, arith, sym, subst, Option, Some, None}
 use Rattle.std.specs.Prelude.{slice_get}
 use Rattle.sr_model.specs.declared.label.AdjLabel.{AdjLabel}
 use Rattle.sr_model.specs.declared.label.LabelRule.{LabelRule}
 use Rattle.sr_model.specs.declared.label.LabelRule.TheVariants.{DuplicateIndex, IndexOutside, AdjLabelClash}
 use Rattle.sr_model.specs.declared.rule.DomainRule.{DomainRule}
+use Rattle.sr_model.specs.declared.rule.DomainRule.TheVariants.{DuplicateIndex as SharedIndex, IndexOutside as FarIndex, AdjLabelClash as Clash}
 use Rattle.sr_model.specs.Label.{Labels}
 use Rattle.sr_model.specs.Rule.{IsFirstBroken as IsFirstClash}
 use Rattle.sr_labels.specs.Rules.{AreOfNodes}
@@ -13,7 +14,7 @@ use Rattle.sr_domain.specs.Nodes.{nodes_of, all_labels}
 use Rattle.sr_domain.specs.Links.{found_adj_labels}
 use Rattle.sr_domain.specs.Rules.{AreKept, IsFirstBroken}
 use Rattle.sr_domain.specs.Named.{AreWithin, Names}
-use Rattle.sr_domain.proofs.KeptLemmas.{kept-indices, kept-inside, kept-adj_labels}
+use Rattle.sr_domain.proofs.KeptLemmas.{kept-more}
 
 -- places of nodes
 pub clash-within : (nodes : List Labels) (adj : List AdjLabel) (rule : LabelRule) (count : ℕ) → length nodes ≡ count → AreOfNodes count adj → IsFirstClash nodes adj (Some rule) → AreWithin count rule
@@ -31,7 +32,7 @@ module _ (facts : Facts) (nodes : List ℕ) (labels : List Labels) (adj : List A
   moved o first = subst (λ (a : List AdjLabel). IsFirstClash (all_labels facts) a o) theirs (subst (λ (l : List Labels). IsFirstClash l adj o) its first)
 
   pub clash-none : IsFirstClash labels adj None → AreKept facts 5
-  clash-none first = let f = moved None first in kept-adj_labels facts (kept-inside facts (kept-indices facts kept f.0) f.1) f.2
+  clash-none first = let f = moved None first in kept-more facts 4 (Clash 0 0) refl (kept-more facts 3 (FarIndex 0 0) refl (kept-more facts 2 (SharedIndex 0 0 0) refl kept f.0) f.1) f.2
 
   at : (place node : ℕ) → slice_get nodes place ≡ Some node → slice_get (nodes_of facts) place ≡ Some node
   at place node e = subst (λ (l : List ℕ). slice_get l place ≡ Some node) are e
@@ -47,11 +48,11 @@ module _ (facts : Facts) (nodes : List ℕ) (labels : List Labels) (adj : List A
       let f = moved (Some (IndexOutside index node)) first in
       subst (λ (r : DomainRule). IsFirstBroken facts r) (sym is.1) (record {
         broken = record { place = node; least = f.1; node_is = at node is.0 is.2 };
-        earlier = kept-indices facts kept f.0;
+        earlier = kept-more facts 2 (SharedIndex 0 0 0) refl kept f.0;
       })
   clash-some (AdjLabelClash label node) named first is =
       let f = moved (Some (AdjLabelClash label node)) first in
       subst (λ (r : DomainRule). IsFirstBroken facts r) (sym is.1) (record {
         broken = record { place = node; least = f.2; node_is = at node is.0 is.2 };
-        earlier = kept-inside facts (kept-indices facts kept f.0) f.1;
+        earlier = kept-more facts 3 (FarIndex 0 0) refl (kept-more facts 2 (SharedIndex 0 0 0) refl kept f.0) f.1;
       })

@@ -13,7 +13,7 @@ use Rattle.sr_graph.specs.Draft.{AreLeast, EndsLe}
 use Rattle.sr_lsdb.specs.declared.facts.Facts.{Facts}
 use Rattle.sr_domain.specs.Nodes.{nodes_of, all_labels}
 use Rattle.sr_domain.specs.Links.{links_of, found_adj_labels}
-use Rattle.sr_domain.specs.Rules.{IsLeastNode, LacksSrgb, HasBadSrgb, IsOverloaded, HasZeroMetric, IsRepeated, IsNodeAt, IsBroken, rank, AreKept, IsFirstBroken}
+use Rattle.sr_domain.specs.Rules.{IsLeastNode, LacksSrgb, HasBadSrgb, IsOverloaded, HasZeroMetric, IsRepeated, IsNodeAt, IsBroken, Keeps, rank, IsFirstBroken}
 use Rattle.sr_domain.specs.Net.{IsNetOf}
 
 node-one : (nodes : List ℕ) (P : ℕ → Type 0) (a b : ℕ) → IsLeastNode nodes P a → IsLeastNode nodes P b → a ≡ b
@@ -105,17 +105,17 @@ broken-one facts (Overload v) (Overload w) e x y = ap Overload (node-one (nodes_
 broken-one facts a b e x y = absurd (omega arith)
 
 -- a rule that is kept isn't broken
-broken-not_kept : (facts : Facts) (rule : DomainRule) (count : ℕ) → rank rule < count → IsBroken facts rule → AreKept facts count → ⊥
-broken-not_kept facts (NoSrgb v) count lt x kept = kept.srgbs lt v x.among x.holds
-broken-not_kept facts (SrgbBad v) count lt x kept = kept.ranges lt v x.among x.holds
-broken-not_kept facts (DuplicateIndex i low high) count lt x kept = kept.indices lt i x.low_place x.high_place x.least.duplicate
-broken-not_kept facts (IndexOutside i v) count lt x kept = kept.inside lt i x.place x.least.outside
-broken-not_kept facts (AdjLabelClash t v) count lt x kept = kept.adj_labels lt x.least.clash.0 x.least.clash.1
-broken-not_kept facts (ZeroMetric from to) count lt x kept = kept.metrics lt x.key x.is.holds
-broken-not_kept facts (DuplicateLink from to) count lt x kept = kept.keys lt x.key x.is.holds
-broken-not_kept facts (TooManyNodes n) count lt x kept = let few : length (nodes_of facts) ≤ 256 = kept.few_nodes lt in let many : 256 < n = x.0 in let is : n ≡ length (nodes_of facts) = x.1 in omega arith
-broken-not_kept facts (TooManyLinks n) count lt x kept = let few : length (links_of facts) ≤ 2048 = kept.few_links lt in let many : 2048 < n = x.0 in let is : n ≡ length (links_of facts) = x.1 in omega arith
-broken-not_kept facts (Overload v) count lt x kept = kept.overload lt v x.among x.holds
+broken-not_kept : (facts : Facts) (rule : DomainRule) → IsBroken facts rule → Keeps facts rule → ⊥
+broken-not_kept facts (NoSrgb v) x keeps = keeps v x.among x.holds
+broken-not_kept facts (SrgbBad v) x keeps = keeps v x.among x.holds
+broken-not_kept facts (DuplicateIndex i low high) x keeps = keeps i x.low_place x.high_place x.least.duplicate
+broken-not_kept facts (IndexOutside i v) x keeps = keeps i x.place x.least.outside
+broken-not_kept facts (AdjLabelClash t v) x keeps = keeps x.least.clash.0 x.least.clash.1
+broken-not_kept facts (ZeroMetric from to) x keeps = keeps x.key x.is.holds
+broken-not_kept facts (DuplicateLink from to) x keeps = keeps x.key x.is.holds
+broken-not_kept facts (TooManyNodes n) x keeps = let many : 256 < n = x.0 in let is : n ≡ length (nodes_of facts) = x.1 in omega arith
+broken-not_kept facts (TooManyLinks n) x keeps = let many : 2048 < n = x.0 in let is : n ≡ length (links_of facts) = x.1 in omega arith
+broken-not_kept facts (Overload v) x keeps = keeps v x.among x.holds
 
 rank-below : (rule : DomainRule) → rank rule < 10
 rank-below (NoSrgb v) = omega arith
@@ -135,10 +135,10 @@ fault-one facts a b x y =
     ⊎_elim
     (λ (same : rank a ≡ rank b). broken-one facts a b same x.broken y.broken)
     (⊎_elim
-    (λ (lt : rank a < rank b). absurd (broken-not_kept facts a (rank b) lt x.broken y.earlier))
-    (λ (gt : rank b < rank a). absurd (broken-not_kept facts b (rank a) gt y.broken x.earlier)))
+    (λ (lt : rank a < rank b). absurd (broken-not_kept facts a x.broken (y.earlier a lt)))
+    (λ (gt : rank b < rank a). absurd (broken-not_kept facts b y.broken (x.earlier b gt))))
     (cases_order (rank a) (rank b))
 
 -- facts that break a rule have no net
 pub broken-no_net : (facts : Facts) (rule : DomainRule) (net : Net) → IsFirstBroken facts rule → IsNetOf facts net → ⊥
-broken-no_net facts rule net x is = broken-not_kept facts rule 10 (rank-below rule) x.broken is.kept
+broken-no_net facts rule net x is = broken-not_kept facts rule x.broken (is.kept rule (rank-below rule))

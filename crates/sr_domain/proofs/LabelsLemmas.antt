@@ -14,7 +14,7 @@ use Rattle.sr_lsdb.specs.declared.facts.Facts.{Facts}
 use Rattle.sr_domain.specs.Nodes.{nodes_of, srgb_of, ranges_of, labels_of, labels_with, node_sid_of}
 use Rattle.sr_domain.specs.Rules.{AreKept, IsFirstBroken, LacksSrgb, HasBadSrgb, NoNode, IsLeastNode}
 use Rattle.sr_domain.proofs.LeastLemmas.{NoneBelow, none-yet, none-more, none-all, least-at}
-use Rattle.sr_domain.proofs.KeptLemmas.{kept-nothing, kept-srgbs, kept-ranges}
+use Rattle.sr_domain.proofs.KeptLemmas.{kept-nothing, kept-more}
 
 -- one more element of a list that maps another
 pub mapped-more : {X Y : Type 0} (f : X → Y) (xs : List X) (i : ℕ) (x : X) (y : Y) (out out' : List Y) → i < length xs → x ≡ get_or xs i x → out ≡ map f (take i xs) → y ≡ f x → out' ≡ out ++ y ∷ [] → out' ≡ map f (take (i + 1) xs)
@@ -44,7 +44,7 @@ ranges-more facts nodes i node ranges out out' within is before found pushed = r
 }
 
 pub ranges-kept : (facts : Facts) (nodes : List ℕ) (count : ℕ) (out : List (List Range)) → nodes ≡ nodes_of facts → length nodes ≤ count → RangesMade facts nodes count out → AreKept facts 1
-ranges-kept facts nodes count out are all made = kept-srgbs facts (kept-nothing facts) (subst (λ (l : List ℕ). NoNode l (LacksSrgb facts)) are (none-all nodes (LacksSrgb facts) count all made.none))
+ranges-kept facts nodes count out are all made = kept-more facts 0 (NoSrgb 0) refl (kept-nothing facts) (subst (λ (l : List ℕ). NoNode l (LacksSrgb facts)) are (none-all nodes (LacksSrgb facts) count all made.none))
 
 pub srgb-lacks : (facts : Facts) (nodes : List ℕ) (i node : ℕ) (out : List (List Range)) → nodes ≡ nodes_of facts → IsStrictlyIncreasing nodes → i < length nodes → node ≡ get_or nodes i node → RangesMade facts nodes i out → None ≡ srgb_of facts node → IsFirstBroken facts (NoSrgb node)
 srgb-lacks facts nodes i node out are up within is made lacks = record {
@@ -72,7 +72,7 @@ pub record LabelsMade (facts : Facts) (nodes : List ℕ) (out : List Labels) (le
 module _ (facts : Facts) (nodes : List ℕ) (are : nodes ≡ nodes_of facts) (kept : AreKept facts 1) where
   srgb-some : (node : ℕ) (ranges : List Range) → Contains nodes node → ranges ≡ ranges_of facts node → srgb_of facts node ≡ Some ranges
   srgb-some node ranges there e =
-      let none : NoNode nodes (LacksSrgb facts) = subst (λ (l : List ℕ). NoNode l (LacksSrgb facts)) (sym are) (kept.srgbs (omega arith)) in
+      let none : NoNode nodes (LacksSrgb facts) = subst (λ (l : List ℕ). NoNode l (LacksSrgb facts)) (sym are) (kept (NoSrgb 0) (omega arith)) in
       srgb-some_by (srgb_of facts node) ranges (λ lacks. none node there lacks) e
 
   pub labels-bad : (out : List Labels) (node : ℕ) (ranges : List Range) (left : List (List Range)) (fault : SrgbBad) → IsStrictlyIncreasing nodes → LabelsMade facts nodes out (ranges ∷ left) → node ≡ get_or nodes (length out) node → IsRefusal ranges fault → IsFirstBroken facts (BadSrgb node)
@@ -105,7 +105,7 @@ module _ (facts : Facts) (nodes : List ℕ) (are : nodes ≡ nodes_of facts) (ke
   pub labels-kept : (out : List Labels) (left : List (List Range)) → LabelsMade facts nodes out left → length left ≡ 0 → (out ≡ map (labels_of facts) nodes) × AreKept facts 2
   labels-kept out left made empty =
       let all : length nodes ≤ length out = none_left nodes (length out) (sym (no_length left empty) ∙ made.left_are) in
-      (made.made ∙ ap (map (labels_of facts)) (take_all (length out) nodes all), kept-ranges facts kept (subst (λ (l : List ℕ). NoNode l (HasBadSrgb facts)) are (none-all nodes (HasBadSrgb facts) (length out) all made.none)))
+      (made.made ∙ ap (map (labels_of facts)) (take_all (length out) nodes all), kept-more facts 1 (BadSrgb 0) refl kept (subst (λ (l : List ℕ). NoNode l (HasBadSrgb facts)) are (none-all nodes (HasBadSrgb facts) (length out) all made.none)))
     where
       no_length : (l : List (List Range)) → length l ≡ 0 → l ≡ []
       no_length [] e = refl

@@ -7,6 +7,7 @@ use Rattle.std.specs.List.Sorted.{IsPermutation, IsStrictlyIncreasing}
 use Rattle.std.specs.Ordering.{is_eq}
 use Rattle.std.specs.declared.cmp.Ordering.{Ordering}
 use Rattle.std.specs.declared.cmp.Ordering.TheVariants.{Less, Equal, Greater}
+use Rattle.sr_model.specs.declared.rule.DomainRule.TheVariants.{DuplicateIndex, IndexOutside, AdjLabelClash}
 use Rattle.std.proofs.lemmas.Cmp.{tied_itself}
 use Rattle.std.proofs.lemmas.List.{length-map, get_or_default}
 use Rattle.std.proofs.lemmas.List.Folds.{list_any_at}
@@ -114,7 +115,7 @@ module _ (facts : Facts) (links : List FoundLink) (g : Graph) (is : IsGraphOf fa
 
   clear : NoAdjClash (all_labels facts) (adj_labels_of g.links (map link_label links))
   clear = subst (λ (l : List AdjLabel). NoAdjClash (all_labels facts) l) (sym (adj-made (nodes_of facts) g.links links (sym is.long) is.same placed))
-      (clash-moved (all_labels facts) (adj_label_by (nodes_of facts)) (links_of facts) links moved (kept.adj_labels (omega arith)))
+      (clash-moved (all_labels facts) (adj_label_by (nodes_of facts)) (links_of facts) links moved (kept (AdjLabelClash 0 0) (omega arith)))
 
   announced-of : (keys : List LinkKey) → AreKeysOf (two_way_of facts) keys → AreAnnounced g keys
   announced-of keys are = record {
@@ -137,7 +138,7 @@ module _ (facts : Facts) (links : List FoundLink) (g : Graph) (is : IsGraphOf fa
     nodes = ap length its ∙ length-map (nodes_of facts) (labels_of facts) ∙ ap length (sym is.systems);
     links = length-map links link_label ∙ sym is.long;
     ranges = srgbs;
-    rules = subst (λ (l : List Labels). IsFirstBroken l (adj_labels_of g.links (map link_label links)) None) (sym its) (kept.indices (omega arith), kept.inside (omega arith), clear);
+    rules = subst (λ (l : List Labels). IsFirstBroken l (adj_labels_of g.links (map link_label links)) None) (sym its) (kept (DuplicateIndex 0 0 0) (omega arith), kept (IndexOutside 0 0) (omega arith), clear);
     announced = announced-of keys are;
     depth = deep;
   }

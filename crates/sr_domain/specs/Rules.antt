@@ -99,18 +99,22 @@ rank (TooManyNodes count) = 7
 rank (TooManyLinks count) = 8
 rank (Overload node) = 9
 
+-- the rule is kept: nothing breaks it, whatever it names
+abbrev pub Keeps : Facts → DomainRule → Type 0
+Keeps facts (NoSrgb node) = NoNode (nodes_of facts) (LacksSrgb facts)
+Keeps facts (SrgbBad node) = NoNode (nodes_of facts) (HasBadSrgb facts)
+Keeps facts (DuplicateIndex index low high) = NoDuplicate (all_labels facts)
+Keeps facts (IndexOutside index node) = NoOutside (all_labels facts)
+Keeps facts (AdjLabelClash label node) = NoAdjClash (all_labels facts) (found_adj_labels facts)
+Keeps facts (ZeroMetric from to) = NoKey (HasZeroMetric (links_of facts))
+Keeps facts (DuplicateLink from to) = NoKey (IsRepeated (links_of facts))
+Keeps facts (TooManyNodes count) = length (nodes_of facts) ≤ 256
+Keeps facts (TooManyLinks count) = length (links_of facts) ≤ 2048
+Keeps facts (Overload node) = NoNode (nodes_of facts) (IsOverloaded facts)
+
 -- the first so many of the ten rules are kept
-pub record AreKept (facts : Facts) (count : ℕ) : Type 0 where
-  pub srgbs : 0 < count → NoNode (nodes_of facts) (LacksSrgb facts)
-  pub ranges : 1 < count → NoNode (nodes_of facts) (HasBadSrgb facts)
-  pub indices : 2 < count → NoDuplicate (all_labels facts)
-  pub inside : 3 < count → NoOutside (all_labels facts)
-  pub adj_labels : 4 < count → NoAdjClash (all_labels facts) (found_adj_labels facts)
-  pub metrics : 5 < count → NoKey (HasZeroMetric (links_of facts))
-  pub keys : 6 < count → NoKey (IsRepeated (links_of facts))
-  pub few_nodes : 7 < count → length (nodes_of facts) ≤ 256
-  pub few_links : 8 < count → length (links_of facts) ≤ 2048
-  pub overload : 9 < count → NoNode (nodes_of facts) (IsOverloaded facts)
+abbrev pub AreKept : Facts → ℕ → Type 0
+AreKept facts count = (rule : DomainRule) → rank rule < count → Keeps facts rule
 
 -- the rule is broken, and all earlier ones are kept
 pub record IsFirstBroken (facts : Facts) (rule : DomainRule) : Type 0 where

@@ -1,12 +1,13 @@
-use Rattle.std.proofs.Common.{◌≡◌, ◌∙◌, List, ℕ, subst, sym}
+use Rattle.std.proofs.Common.{◌≡◌, ◌∙◌, List, ℕ, refl, subst, sym}
 use Rattle.std.specs.Prelude.{All}
 use Rattle.std.proofs.lemmas.List.{with_items_is}
 use Rattle.std.proofs.lemmas.List.Sorted.{All-permutation, length_permutation}
 use Rattle.sr_domain.specs.declared.links.FoundLink.{FoundLink}
+use Rattle.sr_model.specs.declared.rule.DomainRule.TheVariants.{Overload}
 use Rattle.sr_domain.specs.Links.{HasEnds}
 use Rattle.sr_domain.specs.Rules.{NoNode, IsOverloaded}
 use Rattle.sr_domain.specs.Steps.{IsBelowMaximum}
-use Rattle.sr_domain.proofs.KeptLemmas.{kept-overload}
+use Rattle.sr_domain.proofs.KeptLemmas.{kept-more}
 use Rattle.sr_domain.proofs.net.net_with.Goals as goal
 
 pub graph_of-requires-clause-ends : goal.graph_of-requires-clause-ends
@@ -24,4 +25,4 @@ graph_of-requires-clause-metrics c =
     (subst (λ (l : List FoundLink). All IsBelowMaximum l) (sym c.deref_mut.ensures.value) c.requires.gathered.metrics))
 
 pub assemble-requires-clause-kept : goal.assemble-requires-clause-kept
-assemble-requires-clause-kept c = kept-overload c.args.facts.now c.in_ok-graph.ensures.kept (subst (λ (l : List ℕ). NoNode l (IsOverloaded c.args.facts.now)) (c.deref.ensures.value ∙ c.requires.gathered.nodes) c.in-None.ensures)
+assemble-requires-clause-kept c = kept-more c.args.facts.now 9 (Overload 0) refl c.in_ok-graph.ensures.kept (subst (λ (l : List ℕ). NoNode l (IsOverloaded c.args.facts.now)) (c.deref.ensures.value ∙ c.requires.gathered.nodes) c.in-None.ensures)
