@@ -1,12 +1,10 @@
 -- The graph that is built has the links of its draft, in order, with their labels and groups.
 use Rattle.std.proofs.Common.{◌≡◌, ℕ, zero, suc, ◌+◌, ◌<◌, List, [], ◌∷◌, map, length, get_or, refl, arith, ap, sym, ◌∙◌, subst, None}
-use Rattle.std.specs.Prelude.{Contains}
 use Rattle.std.specs.List.{list_any}
 use Rattle.std.specs.List.Sorted.{IsPermutation, IsSortedByKey}
 use Rattle.std.proofs.lemmas.List.{length-map, get_or-map}
 use Rattle.std.proofs.lemmas.List.Sorted.{IsPermutation-sym, Contains-permutation}
 use Rattle.sr_model.specs.declared.name.Ident.TheVariants.{None as NoIdent}
-use Rattle.sr_model.specs.declared.name.LinkKey.{LinkKey}
 use Rattle.sr_model.specs.declared.link.Link.{Link}
 use Rattle.sr_model.specs.Key.{pair_of}
 use Rattle.sr_model.specs.KeyOrder.{key_cmp}

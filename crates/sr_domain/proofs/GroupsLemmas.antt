@@ -1,5 +1,4 @@
 -- The groups of pairs, by the names of their announcements.
-use Rattle.std.specs.Prelude.{Contains}
 use Rattle.std.proofs.Common.{◌≡◌, ℕ, ◌+◌, arith, ◌||◌, ◌&&◌, Bool, true, false, cond, List, [], ◌∷◌, ◌++◌, map, filter, length, get_or, Option, Some, None, refl, ap, sym, ◌∙◌, append_assoc}
 use Rattle.std.specs.Cmp.{IsTotalOrder, IsEquivalence, both_ways}
 use Rattle.std.specs.List.{list_any, dedup}
