@@ -2,6 +2,7 @@ pub mod AnnouncedLemmas
 pub mod NodesLemmas
 pub mod NumbersLemmas
 pub mod GroupsLemmas
+pub mod TakenLemmas
 pub mod RunsLemmas
 pub mod KeptLemmas
 pub mod LeastLemmas

@@ -70,6 +70,14 @@ HaveSameNames old new = (test : PairName → Bool) → list_any test new ≡ lis
 abbrev pub is_of : PairKey → PairName → Bool
 is_of pair name = same_pair pair name.pair
 
+-- the name without its pair
+abbrev pub link_name : PairName → RiskName
+link_name name = name.name
+
+-- the names ascend, so that no two are alike
+abbrev pub AreApart : List PairName → Type 0
+AreApart names = IsStrictlySortedBy name_cmp (map link_name names)
+
 -- the groups that the notes give these names, with repeats
 abbrev pub groups_said : List PairName → List RiskNote → List ℕ
 groups_said [] notes = []

@@ -7,7 +7,7 @@ ghost use Rattle.sr_lsdb.specs.Order.{pair_cmp};
 ghost use Rattle.sr_domain.specs.Groups.{name_cmp};
 ghost use Rattle.sr_domain.specs.declared.names.PairName.{PairName as Named};
 ghost use Rattle.sr_domain.specs.declared.risks.RiskNote.{RiskNote as Spoken};
-ghost use Rattle.sr_domain.specs.GroupTables.{AreInOrder, HaveSameNotes, IsTable, groups_in, groups_said, is_of, is_under, note_group, pair_name_cmp};
+ghost use Rattle.sr_domain.specs.GroupTables.{AreApart, AreInOrder, HaveSameNotes, IsTable, groups_in, groups_said, is_of, is_under, note_group, pair_name_cmp};
 
 use crate::names::PairName;
 use crate::risks::{RiskName, RiskNote};
@@ -95,14 +95,17 @@ fn add_groups(notes: &[RiskNote], out: &mut Vec<u32>) -> Result<(), AllocError>
     Ok(())
 }
 
-/// The groups that the notes, in order of names, give these names, with repeats.
+/// The groups that the notes, in order of names, give these names, with repeats. No two names are alike, so that each
+/// note is taken once at most.
 fn groups_said(
     alloc: Global,
     names: &[PairName],
     notes: &[RiskNote],
 ) -> Result<Vec<u32>, AllocError>
-    requires { AreInOrder notes.now }
-    ensures { IfOk result (λ v. v.items ≡ groups_said names.now notes.now) }
+    requires order { AreInOrder notes.now }
+    requires apart { AreApart names.now }
+    ensures groups { IfOk result (λ v. v.items ≡ groups_said names.now notes.now) }
+    ensures bound { IfOk result (λ v. length v.items ≤ length notes.now) }
 {
     let mut out = Vec::new(alloc);
     for named in names {
