@@ -12,7 +12,7 @@ not_none : (staged : ℕ) → (staged + 1 == 0) ≡ false
 not_none staged = grind (arith, nat_tests)
 
 pub latest-draft : (staged : ℕ) (sides : Sides) → latest (staged + 1 == 0) sides ≡ sides.back
-latest-draft staged sides = ap (λ fresh. latest fresh sides) (not_none staged)
+latest-draft staged sides = ap (λ idle. latest idle sides) (not_none staged)
 
 pub AreKept-staged : (edit : Edit) (old new : Sides) (staged : ℕ) → IsEditInRange edit → AreKept old staged → staged < 4096 → new.front ≡ old.front → IsNoted new → new.back ≡ apply edit (latest (staged == 0) old) → AreKept new (staged + 1)
 AreKept-staged edit old new staged fits kept room front noted back = record {

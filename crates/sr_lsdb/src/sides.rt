@@ -36,11 +36,11 @@ impl Sides {
         }
     }
 
-    /// The latest facts: the accepted ones where nothing is staged, else the draft.
-    pub(crate) fn latest(&self, fresh: bool) -> &Facts
-        ensures { result.now ≡ latest fresh self.now }
+    /// The latest facts: the accepted ones where nothing is staged (`idle`, here and below), else the draft.
+    pub(crate) fn latest(&self, idle: bool) -> &Facts
+        ensures { result.now ≡ latest idle self.now }
     {
-        if fresh { &self.front } else { &self.back }
+        if idle { &self.front } else { &self.back }
     }
 
     /// The draft comes to the front, and the facts that were accepted go to the back.
@@ -70,78 +70,73 @@ impl Sides {
     }
 
     /// Has the draft start from the latest facts: from the accepted ones where nothing is staged.
-    fn refresh(&mut self, fresh: bool) -> Result<(), AllocError>
+    fn refresh(&mut self, idle: bool) -> Result<(), AllocError>
         requires { IsNoted self.old }
-        ensures { Drafts fresh (latest fresh self.old) self.old self.new result }
+        ensures { Drafts idle (latest idle self.old) self.old self.new result }
     {
-        if fresh { self.catch_up() } else { Ok(()) }
+        if idle { self.catch_up() } else { Ok(()) }
     }
 
     /// Has the draft start from the latest facts, and notes what is to differ.
-    fn start(&mut self, fresh: bool, name: Touched) -> Result<(), AllocError>
+    fn start(&mut self, idle: bool, name: Touched) -> Result<(), AllocError>
         requires { IsNoted self.old }
-        ensures draft { Drafts fresh (latest fresh self.old) self.old self.new result }
+        ensures draft { Drafts idle (latest idle self.old) self.old self.new result }
         ensures named { OnOk result (EndsIn self.new.touched.items name) }
     {
-        self.refresh(fresh)?;
+        self.refresh(idle)?;
         self.touched.push(name)?;
         Ok(())
     }
 
     /// Stores under an id in the draft.
-    pub(crate) fn store(
-        &mut self,
-        fresh: bool,
-        id: &LspId,
-        stored: Stored,
-    ) -> Result<(), AllocError>
+    pub(crate) fn store(&mut self, idle: bool, id: &LspId, stored: Stored) -> Result<(), AllocError>
         requires { IsNoted self.old }
-        ensures { Drafts fresh (with_stored id.now stored (latest fresh self.old)) self.old self.new result }
+        ensures { Drafts idle (with_stored id.now stored (latest idle self.old)) self.old self.new result }
     {
-        self.start(fresh, Touched::Lsp(*id))?;
+        self.start(idle, Touched::Lsp(*id))?;
         self.back.database.insert(*id, stored)
     }
 
     /// Sets the metric of a link in the draft.
     pub(crate) fn set_cost(
         &mut self,
-        fresh: bool,
+        idle: bool,
         key: &LinkKey,
         metric: u32,
     ) -> Result<(), AllocError>
         requires { IsNoted self.old }
-        ensures { Drafts fresh (apply (SetCost key.now metric) (latest fresh self.old))
+        ensures { Drafts idle (apply (SetCost key.now metric) (latest idle self.old))
             self.old self.new result }
     {
-        self.start(fresh, Touched::Cost(*key))?;
+        self.start(idle, Touched::Cost(*key))?;
         self.back.costs.insert(*key, metric)
     }
 
     /// Takes a pair down in the draft.
-    pub(crate) fn take_down(&mut self, fresh: bool, pair: &PairKey) -> Result<(), AllocError>
+    pub(crate) fn take_down(&mut self, idle: bool, pair: &PairKey) -> Result<(), AllocError>
         requires { IsNoted self.old }
-        ensures { Drafts fresh (apply (TakeDown pair.now) (latest fresh self.old)) self.old self.new result }
+        ensures { Drafts idle (apply (TakeDown pair.now) (latest idle self.old)) self.old self.new result }
     {
-        self.start(fresh, Touched::Pair(*pair))?;
+        self.start(idle, Touched::Pair(*pair))?;
         self.back.downs.insert(*pair)
     }
 
     /// Brings a pair up in the draft.
-    pub(crate) fn bring_up(&mut self, fresh: bool, pair: &PairKey) -> Result<(), AllocError>
+    pub(crate) fn bring_up(&mut self, idle: bool, pair: &PairKey) -> Result<(), AllocError>
         requires { IsNoted self.old }
-        ensures { Drafts fresh (apply (BringUp pair.now) (latest fresh self.old)) self.old self.new result }
+        ensures { Drafts idle (apply (BringUp pair.now) (latest idle self.old)) self.old self.new result }
     {
-        self.start(fresh, Touched::Pair(*pair))?;
+        self.start(idle, Touched::Pair(*pair))?;
         self.back.downs.remove(pair);
         Ok(())
     }
 
     /// Sets the depth in the draft.
-    pub(crate) fn set_depth(&mut self, fresh: bool, depth: u8) -> Result<(), AllocError>
+    pub(crate) fn set_depth(&mut self, idle: bool, depth: u8) -> Result<(), AllocError>
         requires { IsNoted self.old }
-        ensures { Drafts fresh (apply (SetDepth depth) (latest fresh self.old)) self.old self.new result }
+        ensures { Drafts idle (apply (SetDepth depth) (latest idle self.old)) self.old self.new result }
     {
-        self.refresh(fresh)?;
+        self.refresh(idle)?;
         self.back.depth = depth;
         Ok(())
     }
