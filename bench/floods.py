@@ -5,7 +5,7 @@ usage: floods.py PROGRAM [RUNS]
 
 own-1000      a router with 1,024 pairs of links to 255 others, and 1,000 groups of its own for each pair
 shared-1000   1,024 pairs of links between two routers, all with one pair of identifiers, by which 1,000 groups are said
-again-5000    45 routers with a link between any two, one of which is announced 5,800 times more at the maximum metric, with 5,000 groups
+again-5000    45 routers with links between any two, one announced 5,800 times more at the maximum metric, 5,000 groups
 again-20000   the same with 20,000 groups
 
 RUNS (3 if none is given) is how often each program runs on each script. A line is printed for each: the size of the
@@ -13,13 +13,14 @@ script, and for each program the least time of the commit, without that of the s
 the most memory that its process held. No destination has an index, so that the commit is little more than its net. A
 program gets 8 GiB of address space; where it doesn't end with status 0, its status stands in place of the time.
 
-Where the variable PEER names the folder of a second implementation, with its build.sh, it is built there and measured
-beside the program.
+Where the variable PEER names the folder of a second implementation, with its sources and its build.sh, it is copied and
+built in a temporary folder, and measured beside the program.
 """
 
 import os
 import pathlib
 import resource
+import shutil
 import subprocess
 import sys
 import tempfile
@@ -112,48 +113,72 @@ def floods():
     return {"own-1000": own(1000), "shared-1000": shared(1000), "again-5000": again(5000), "again-20000": again(20_000)}
 
 
-def run(command, script):
-    """The status, the seconds and the most KiB of a run."""
+def started(command, script):
     with open(script, "rb") as given:
-        start = time.perf_counter()
-        child = subprocess.Popen(
+        return subprocess.Popen(
             command,
             stdin=given,
             stdout=subprocess.DEVNULL,
             preexec_fn=lambda: resource.setrlimit(resource.RLIMIT_AS, (MOST_MEMORY, MOST_MEMORY)),
         )
-        _, status, used = os.wait4(child.pid, 0)
-        child.returncode = os.waitstatus_to_exitcode(status)
-        return child.returncode, time.perf_counter() - start, used.ru_maxrss
 
 
-def least(command, script, runs):
-    """The status that isn't 0 if there is one, the least seconds, and the most KiB."""
-    done = [run(command, script) for _ in range(runs)]
-    return max(abs(one[0]) for one in done), min(one[1] for one in done), max(one[2] for one in done)
+def seconds(command, script):
+    start = time.perf_counter()
+    started(command, script).wait()
+    return time.perf_counter() - start
+
+
+def held(process):
+    """The most KiB that the process held until now, or nothing where it has ended, or is still a copy of this one."""
+    try:
+        if os.readlink(f"/proc/{process.pid}/exe") == os.readlink("/proc/self/exe"):
+            return 0
+        told = pathlib.Path(f"/proc/{process.pid}/status").read_text()
+    except OSError:
+        return 0
+    return max([int(line.split()[1]) for line in told.splitlines() if line.startswith("VmHWM:")], default=0)
+
+
+def memory(command, script):
+    """The status of a run, and the most MiB that it held. What the system tells of an ended process counts the copy of
+    this one too that it was at first, so it is asked while it runs."""
+    process, most = started(command, script), 0
+    while process.poll() is None:
+        most = max(most, held(process))
+        time.sleep(0.001)
+    return process.returncode, most / 1024
 
 
 def measured(command, folder, name, lines, runs):
     for end in ("commit", "drop"):
         (folder / f"{name}.{end}").write_text("".join(line + "\n" for line in lines + [end]))
-    status, whole, memory = least(command, folder / f"{name}.commit", runs)
-    _, read, _ = least(command, folder / f"{name}.drop", runs)
+    status, most = memory(command, folder / f"{name}.commit")
+    whole, read = (min(seconds(command, folder / f"{name}.{end}") for _ in range(runs)) for end in ("commit", "drop"))
     took = f"{1000 * (whole - read):.1f} ms" if status == 0 else f"status {status}"
-    return f"{took:>12} {memory / 1024:>8.0f} MiB"
+    return f"{took:>12} {most:>8.0f} MiB"
+
+
+def built(peer, work):
+    """The program of the second implementation."""
+    folder = work / "peer"
+    shutil.copytree(peer, folder)
+    subprocess.run(["chmod", "-R", "u+w", folder], check=True)
+    subprocess.run([folder / "build.sh"], check=True, stdout=sys.stderr)
+    return folder / "peer"
 
 
 def main():
     programs = {"tilfa": [sys.argv[1], "run"]}
     runs = int(sys.argv[2]) if len(sys.argv) > 2 else 3
-    peer = os.environ.get("PEER")
-    if peer:
-        subprocess.run([pathlib.Path(peer) / "build.sh"], check=True)
-        programs["peer"] = [pathlib.Path(peer) / "peer", "run"]
-    print(f"{'script':<14}{'octets':>12}" + "".join(f"{name:>25}" for name in programs))
-    with tempfile.TemporaryDirectory() as work:
+    with tempfile.TemporaryDirectory() as folder:
+        work = pathlib.Path(folder)
+        if os.environ.get("PEER"):
+            programs["peer"] = [built(os.environ["PEER"], work), "run"]
+        print(f"{'script':<14}{'octets':>12}" + "".join(f"{name:>25}" for name in programs))
         for name, lines in floods().items():
             size = sum(len(line) + 1 for line in lines)
-            shown = [measured(command, pathlib.Path(work), name, lines, runs) for command in programs.values()]
+            shown = [measured(command, work, name, lines, runs) for command in programs.values()]
             print(f"{name:<14}{size:>12}" + "".join(f"{one:>25}" for one in shown), flush=True)
 
 
