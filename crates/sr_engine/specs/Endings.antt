@@ -84,7 +84,7 @@ CountsShow old new WriteFailed = Rose old.write_faults new.write_faults × (new.
 CountsShow old new Memory = (new.read_faults ≡ old.read_faults) × (new.write_faults ≡ old.write_faults)
 CountsShow old new TooMuch = (new.read_faults ≡ old.read_faults) × (new.write_faults ≡ old.write_faults)
 
--- the run took these bytes from the source, none past the first one too many, appended those to the sink, and ended so with the session in this state
+-- the run took these bytes from the source, none past the first one too many, appended those to the sink, and ended so; where the script was answered whole, the session is in this state, and else nothing is said of its state
 pub record Ran {S : Type 0} (conduct : Conduct S) (opening : S) (old new : Devices) (end : End) (final : S) : Type 0 where
   pub taken : List ℕ
   pub took : Consumes old.left new.left taken

@@ -95,7 +95,3 @@ pub record Broke {S : Type 0} (allowed : Allowed S) (before after : Written) (fa
 -- an allowed answer was answered, or at a fault a beginning of one
 abbrev pub Gives : {S : Type 0} → Allowed S → Written → Written → Result Bool SinkFault → S → Type 0
 Gives allowed before after result new = MatchResult result (λ refused. Gave allowed before after refused new) (Broke allowed before after)
-
--- the end of the script was answered, or at a fault a beginning of it
-abbrev pub GivesEnd : {S : Type 0} → Closing S → S → Written → Written → Result (Unit {0}) SinkFault → S → Type 0
-GivesEnd ends old before after result new = MatchResult result (λ _. Gave (AtEnd ends old) before after false new) (Broke (AtEnd ends old) before after)
