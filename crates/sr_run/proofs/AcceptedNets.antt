@@ -1,9 +1,8 @@
 -- What holds of every net holds of the nets of the accepted commits, whatever lines were answered.
-use Rattle.std.proofs.Common.{ℕ, ◌+◌, Bool, List, [], ◌∷◌, All, sym, subst, ⊎_elim, inl, inr, Option, Some, None}
+use Rattle.std.proofs.Common.{ℕ, ◌+◌, Bool, List, [], ◌∷◌, All, sym, subst, inl, inr, Option, Some, None}
 use Rattle.std.proofs.lemmas.List.Elements.{All-cons}
 use Rattle.sr_model.specs.declared.name.LinkKey.{LinkKey}
 use Rattle.sr_model.specs.Key.{pair_of}
-use Rattle.sr_model.specs.Graph.{Graph}
 use Rattle.sr_model.specs.Label.{Net}
 use Rattle.sr_model.specs.Rule.{IsNet}
 use Rattle.sr_laws.proofs.Accepted.{net-from_accepted}
@@ -11,24 +10,14 @@ use Rattle.sr_lsdb.specs.Edit.{Edit}
 use Rattle.sr_lsdb.specs.Edit.Edit.{Announce, SetCost, TakeDown, BringUp, SetDepth}
 use Rattle.sr_script.specs.declared.name.LinkName.{LinkName}
 use Rattle.sr_script.specs.declared.command.Command.{Command}
-use Rattle.sr_script.specs.declared.command.Command.TheVariants.{Lsp, Cost, Down, Up, Depth, Commit, DropStaged, Dist, Next, Label, Spaces, Repair, Walk, WalkRepair, Audit, AuditFull, Hold, Watch, Join, Show}
-use Rattle.sr_print.specs.declared.refusal.Refusal.{Refusal}
+use Rattle.sr_script.specs.declared.command.Command.TheVariants.{Lsp, Cost, Down, Up, Depth, Commit}
 use Rattle.sr_print.specs.Told.{Told}
 use Rattle.sr_repair.specs.Version.{Numbered}
 use Rattle.sr_engine.specs.Replies.{Replies}
 use Rattle.sr_run.specs.Domain.{Domain, last_version}
 use Rattle.sr_run.specs.Edits.{Refuses, StagesEdit, EditsNamed, Announces, Commits}
-use Rattle.sr_run.specs.Names.{OfNode, OfAnnounced}
 use Rattle.sr_run.specs.Session.{Answers, Tells, TellsLine}
-
--- what follows from each refusal and from what is there follows
-node-then : (R : Type 0) (Q : Refusal → Type 0) (g : Graph) (system : ℕ) (B : ℕ → Type 0) → ((r : Refusal) → Q r → R) → ((v : ℕ) → B v → R) → OfNode Q g system B → R
-node-then R Q g system B refused held (inl none) = refused _ none.1
-node-then R Q g system B refused held (inr there) = held there.0 there.2
-
-announced-then : (R : Type 0) (Q : Refusal → Type 0) (net : Net) (name : LinkName) (B : LinkKey → Type 0) → ((r : Refusal) → Q r → R) → ((key : LinkKey) → B key → R) → OfAnnounced Q net name B → R
-announced-then R Q net name B refused held =
-    node-then R Q net.graph name.from _ refused (λ u. node-then R Q net.graph name.to _ refused (λ v x. ⊎_elim (λ none. refused _ none.1) (λ there. held there.0 there.2) x))
+use Rattle.sr_run.proofs.NameLemmas.{announced-then}
 
 module _ (P : Net → Type 0) (each : (net : Net) → IsNet net → P net) where
   -- this holds of each net of the state
@@ -57,6 +46,7 @@ module _ (P : Net → Type 0) (each : (net : Net) → IsNet net → P net) where
   commit-holds old told new (inr (room, inr accepts)) h =
       subst Holds (sym accepts.accepted) (All-cons P accepts.net old.nets (each accepts.net (net-from_accepted accepts.net accepts.is_net.accepted)) h)
 
+  -- the last clause serves all commands that no other names: they change nothing, or drop what is staged
   tells-hold : (old : Domain) (command : Command) (told : Told) (new : Domain) → Tells old command told new → Holds old → Holds new
   tells-hold old (Lsp octets) told new t h = pdu-holds octets old told new t h
   tells-hold old (Cost link metric) told new t h = link-holds (λ key. SetCost key metric) link (last_version old.nets) old told new t h
@@ -64,20 +54,7 @@ module _ (P : Net → Type 0) (each : (net : Net) → IsNet net → P net) where
   tells-hold old (Up link) told new t h = link-holds (λ key. BringUp (pair_of key)) link (last_version old.nets) old told new t h
   tells-hold old (Depth depth) told new t h = staged-holds (SetDepth depth) old told new t h
   tells-hold old Commit told new t h = commit-holds old told new t h
-  tells-hold old DropStaged told new t h = subst Holds (sym t.1) h
-  tells-hold old (Dist ends) told new t h = subst Holds (sym t.1) h
-  tells-hold old (Next ends) told new t h = subst Holds (sym t.1) h
-  tells-hold old (Label node label) told new t h = subst Holds (sym t.1) h
-  tells-hold old (Spaces repair) told new t h = subst Holds (sym t.1) h
-  tells-hold old (Repair repair) told new t h = subst Holds (sym t.1) h
-  tells-hold old (Walk ends choice) told new t h = subst Holds (sym t.1) h
-  tells-hold old (WalkRepair repair choice) told new t h = subst Holds (sym t.1) h
-  tells-hold old Audit told new t h = subst Holds (sym t.1) h
-  tells-hold old AuditFull told new t h = subst Holds (sym t.1) h
-  tells-hold old Hold told new t h = subst Holds (sym t.1) h
-  tells-hold old (Watch watchers rounds) told new t h = subst Holds (sym t.1) h
-  tells-hold old Join told new t h = subst Holds (sym t.1) h
-  tells-hold old Show told new t h = subst Holds (sym t.1) h
+  tells-hold old command told new t h = subst Holds (sym t.1) h
 
   line-holds : (old : Domain) (line : List ℕ) (told : Told) (new : Domain) → TellsLine old line told new → Holds old → Holds new
   line-holds old line told new (inl fault) h = subst Holds (sym fault.4.1) h

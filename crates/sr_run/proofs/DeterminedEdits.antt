@@ -37,16 +37,13 @@ stale-not_taken None lsp number own p q = p
 stale-not_taken (Some stored) lsp number own p q = p.0 q
 
 module _ (old : Domain) (a b : Told) (new next : Domain) where
-  refused : (reason : Refusal) → Refuses old a new reason → Refuses old b next reason → AreOne a b new next
-  refused reason = one-refused old a b new next reason
-
   -- both are told the same of one state
   same : (told : Told) (state : Domain) → a ≡ told → b ≡ told → new ≡ state → next ≡ state → AreOne a b new next
   same told state p q r s = record { told = alike a b told told p q refl; state = r ∙ sym s }
 
   -- an edit is staged, or too many are
   pub staged-one : (edit : Edit) → StagesEdit edit old a new → StagesEdit edit old b next → AreOne a b new next
-  staged-one edit (inl p) (inl q) = refused StagedFull p.1 q.1
+  staged-one edit (inl p) (inl q) = one-refused old a b new next StagedFull p.1 q.1
   staged-one edit (inl p) (inr q) = absurd (omega (arith, p.0, q.0))
   staged-one edit (inr p) (inl q) = absurd (omega (arith, p.0, q.0))
   staged-one edit (inr p) (inr q) = same (Staged (old.editing.staged + 1)) (with_staged old edit) p.1 q.1 p.2 q.2
@@ -55,7 +52,7 @@ module _ (old : Domain) (a b : Told) (new next : Domain) where
   pdu-one lsp (inl p) (inl q) =
       let e = stale-one (stored_under old.editing.tentative lsp.id) lsp p.0 p.1 q.0 q.1 p.2 q.2 in
       let reason : Stale q.0 q.1 ≡ Stale p.0 p.1 = ap (λ (n : ℕ). Stale n q.1) (sym e.0) ∙ ap (Stale p.0) (sym e.1) in
-      refused (Stale p.0 p.1) p.3 (subst (Refuses old b next) reason q.3)
+      one-refused old a b new next (Stale p.0 p.1) p.3 (subst (Refuses old b next) reason q.3)
   pdu-one lsp (inl p) (inr q) = absurd (stale-not_taken (stored_under old.editing.tentative lsp.id) lsp p.0 p.1 p.2 q.0)
   pdu-one lsp (inr p) (inl q) = absurd (stale-not_taken (stored_under old.editing.tentative lsp.id) lsp q.0 q.1 q.2 p.0)
   pdu-one lsp (inr p) (inr q) = staged-one (Announce lsp) p.1 q.1
@@ -64,7 +61,7 @@ module _ (old : Domain) (a b : Told) (new next : Domain) where
   pub announces-one : (octets : List ℕ) → Announces octets old a new → Announces octets old b next → AreOne a b new next
   announces-one octets (inl p) (inl q) =
       let e : q.0 ≡ p.0 = same_fault octets q.0 p.0 q.1 p.1 in
-      refused (malformed_pdu p.0) p.2 (subst (λ (m : Malformed). Refuses old b next (malformed_pdu m)) e q.2)
+      one-refused old a b new next (malformed_pdu p.0) p.2 (subst (λ (m : Malformed). Refuses old b next (malformed_pdu m)) e q.2)
   announces-one octets (inl p) (inr q) = absurd (not_broken octets q.0 p.0 q.1 p.1)
   announces-one octets (inr p) (inl q) = absurd (not_broken octets p.0 q.0 p.1 q.1)
   announces-one octets (inr p) (inr q) =
@@ -74,7 +71,7 @@ module _ (old : Domain) (a b : Told) (new next : Domain) where
   -- a name means one announced link, or what is missing of it is one thing
   pub link-edited-one : (edit : LinkKey → Edit) (link : LinkName) (version : Numbered) → IsNamed version.net.graph → EditsNamed edit link (Some version) old a new → EditsNamed edit link (Some version) old b next → AreOne a b new next
   link-edited-one edit link version named =
-      of-announced (AreOne a b new next) (Refuses old a new) (Refuses old b next) refused version.net named link _ _ (λ key. staged-one (edit key))
+      of-announced (AreOne a b new next) (Refuses old a new) (Refuses old b next) (one-refused old a b new next) version.net named link _ _ (λ key. staged-one (edit key))
 
   -- the staged edits are dropped
   pub dropped-one : DropsStaged old a new → DropsStaged old b next → AreOne a b new next
@@ -82,7 +79,7 @@ module _ (old : Domain) (a b : Told) (new next : Domain) where
 
   -- a commit is rejected by one rule, or makes one net
   pub commit-one : Commits old a new → Commits old b next → AreOne a b new next
-  commit-one (inl p) (inl q) = refused VersionsFull p.1 q.1
+  commit-one (inl p) (inl q) = one-refused old a b new next VersionsFull p.1 q.1
   commit-one (inl p) (inr q) = absurd (omega (arith, p.0, q.0))
   commit-one (inr p) (inl q) = absurd (omega (arith, p.0, q.0))
   commit-one (inr (room, inl p)) (inr (more, inl q)) =

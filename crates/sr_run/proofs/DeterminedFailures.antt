@@ -102,16 +102,19 @@ repair-walked-one n net case d choice links more p q =
 
 -- ---- the questions
 
--- what is told of a failure
+-- P, extended P and Q are told
 abbrev SpacesAre : Net → Told → Case → ℕ → Type 0
 SpacesAre n told case d = (p : List Bool) × (extended : List Bool) × (q : List Bool) × AreSpaces n.graph case d p extended q × (told ≡ Spaces n.graph p extended q)
 
+-- the answer and its labels are told
 abbrev RepairIs : Net → Told → Case → ℕ → Type 0
 RepairIs n told case d = (answer : Answer) × (labels : List ℕ) × IsRepaired n case d answer labels × (told ≡ Repair n case d answer labels)
 
+-- why there is no repair is told
 abbrev IsUncovered : Net → Told → Case → ℕ → Type 0
 IsUncovered n told case d = (answer : Answer) × IsCaseAnswer n case d answer × (is_least answer ≡ false) × (told ≡ Uncovered answer)
 
+-- the links of the repaired packet are told
 abbrev WalkIs : Net → ℕ → Told → Case → ℕ → Type 0
 WalkIs n choice told case d = (links : List LinkNo) × IsRepairWalked n case d choice links × (told ≡ Walk n (source_of n.graph case) (Some links))
 

@@ -26,7 +26,7 @@ use Rattle.sr_run.specs.Questions.{TellsDistance, TellsNextHops, TellsLookup, Te
 use Rattle.sr_run.specs.Failures.{TellsSpaces, TellsRepair, TellsRepairWalk, TellsSummary, TellsAudit}
 use Rattle.sr_run.specs.Session.{TellsOf, Asks, Tells, TellsLine, IsRefusedAs}
 use Rattle.sr_run.specs.Laws.{AreNets, LinesHaveOneAnswer}
-use Rattle.sr_run.proofs.DeterminedWords.{said-one, fault-one, said-not_refused}
+use Rattle.sr_script.proofs.LineLemmas.{one-thing, faults-agree, said-agrees}
 use Rattle.sr_run.proofs.DeterminedTold.{AreAlike, AreOne, alike, alike-refused, one-refused}
 use Rattle.sr_run.proofs.DeterminedEdits.{staged-one, announces-one, link-edited-one, dropped-one, commit-one}
 use Rattle.sr_run.proofs.DeterminedQuestions.{distance-alike, hops-alike, lookup-alike, walk-alike}
@@ -50,13 +50,13 @@ reason-one (fault.Memory error) reason other p q = absurd p
 
 -- what is said has no fault that is told
 said-not_told : (line : List ℕ) (said : Line) (fault : LineFault) (reason : Refusal) → LineSays line said → IsLineFault line fault → IsRefusedAs fault reason → ⊥
-said-not_told line said fault reason s f r = memory-not_told fault reason (said-not_refused line said fault s f) r
+said-not_told line said fault reason s f r = memory-not_told fault reason (said-agrees line said fault s f) r
 
 nothing-not_word : (line : List ℕ) (c : Command) → LineSays line NoWord → LineSays line (Word c) → ⊥
-nothing-not_word line c x y = let e : NoWord ≡ Word c = said-one line NoWord (Word c) x y in absurd (cc)
+nothing-not_word line c x y = let e : NoWord ≡ Word c = one-thing line NoWord (Word c) x y in absurd (cc)
 
 words-one : (line : List ℕ) (c d : Command) → LineSays line (Word c) → LineSays line (Word d) → c ≡ d
-words-one line c d x y = let e : Word c ≡ Word d = said-one line (Word c) (Word d) x y in cc
+words-one line c d x y = let e : Word c ≡ Word d = one-thing line (Word c) (Word d) x y in cc
 
 module _ (old : Domain) (nets : AreNets old) (a b : Told) (new next : Domain) where
   -- a question about the last version
@@ -72,9 +72,6 @@ module _ (old : Domain) (nets : AreNets old) (a b : Told) (new next : Domain) wh
   edited-one : (edit : LinkKey → Edit) (link : LinkName) (last : List Net) → All IsNet last → EditsNamed edit link (last_version last) old a new → EditsNamed edit link (last_version last) old b next → AreOne a b new next
   edited-one edit link [] are p q = one-refused old a b new next refusal.NoVersion p q
   edited-one edit link (net ∷ earlier) are p q = link-edited-one old a b new next edit link (version_of (length earlier + 1) net) (All-head IsNet net earlier are).named p q
-
-  refused-one : (reason : Refusal) → Refuses old a new reason → Refuses old b next reason → AreOne a b new next
-  refused-one reason = one-refused old a b new next reason
 
   -- a command
   pub tells-one : (command : Command) → Tells old command a new → Tells old command b next → AreOne a b new next
@@ -94,9 +91,9 @@ module _ (old : Domain) (nets : AreNets old) (a b : Told) (new next : Domain) wh
   tells-one (WalkRepair repair choice) p q = asked-one (TellsRepairWalk repair choice) (λ version net. repair-walk-alike version net a b repair choice) p q
   tells-one Audit p q = asked-one TellsSummary (λ version net. summary-alike version net a b) p q
   tells-one AuditFull p q = asked-one TellsAudit (λ version net. audit-alike version net a b) p q
-  tells-one Hold p q = refused-one refusal.NotBuilt p q
-  tells-one (Watch watchers rounds) p q = refused-one refusal.NotBuilt p q
-  tells-one Join p q = refused-one refusal.NotBuilt p q
+  tells-one Hold p q = one-refused old a b new next refusal.NotBuilt p q
+  tells-one (Watch watchers rounds) p q = one-refused old a b new next refusal.NotBuilt p q
+  tells-one Join p q = one-refused old a b new next refusal.NotBuilt p q
   tells-one Show p q = record { told = alike a b _ _ p.0 q.0 refl; state = p.1 ∙ sym q.1 }
 
   -- a line has one fault that is told
@@ -107,7 +104,7 @@ module _ (old : Domain) (nets : AreNets old) (a b : Told) (new next : Domain) wh
       let same : reason ≡ other = reason-one also reason other (subst (λ (f : LineFault). IsRefusedAs f reason) e r) s in
       one-refused old a b new next other (subst (Refuses old a new) same p) q)
       (λ m. absurd (⊎_elim (λ here. memory-not_told fault reason here r) (λ there. memory-not_told also other there s) m))
-      (fault-one line fault also x y)
+      (faults-agree line fault also x y)
 
   -- a line
   pub line-one : (line : List ℕ) → TellsLine old line a new → TellsLine old line b next → AreOne a b new next

@@ -9,7 +9,6 @@ pub mod Likeness
 pub mod Simulation
 pub mod ProgramLemmas
 pub mod AcceptedNets
-pub mod DeterminedWords
 pub mod DeterminedTold
 pub mod DeterminedNames
 pub mod DeterminedQuestions

@@ -6,7 +6,7 @@ use Rattle.std.proofs.lemmas.Bool.Decides.{nat_tests}
 use Rattle.sr_base.specs.declared.SinkFault.{SinkFault}
 use Rattle.std.proofs.lemmas.List.{take_all}
 use Rattle.sr_script.specs.declared.command.Command.{Command}
-use Rattle.sr_script.specs.declared.command.Command.TheVariants.{Lsp, Cost, Down, Up, Depth, Commit, DropStaged, Dist, Next, Label, Spaces, Repair, Walk, WalkRepair, Audit, AuditFull, Hold, Watch, Join, Show}
+use Rattle.sr_script.specs.declared.command.Command.TheVariants.{Cost, Depth}
 use Rattle.sr_script.specs.declared.line.Line.{Line}
 use Rattle.sr_script.specs.declared.line.Line.TheVariants.{Nothing as NoWord, Word}
 use Rattle.sr_script.specs.declared.line.LineFault.{LineFault}
@@ -74,28 +74,11 @@ number-bounds : (low high : ℕ) (word : List ℕ) (n : ℕ) → number_in low h
 unfolding number_in
 number-bounds low high word n e = within-bounds low high (number_of word) n e
 
--- the arguments of a command that a line says are in range
+-- the arguments of a command that a line says are in range; the last clause serves all commands that no other names
 pub said-well : (line : List ℕ) (command : Command) → LineSays line (Word command) → IsAsked command
 said-well line (Cost link metric) p = let b = number-bounds 1 MOST_METRIC (word_at (words_of line) 4) metric p.says.others.1.1.1.0 in (omega (arith, b.0), omega (arith, b.1))
 said-well line (Depth depth) p = (number-bounds 0 MOST_DEPTH (word_at (words_of line) 1) depth p.says.others.0).1
-said-well line (Lsp octets) p = tt
-said-well line (Down link) p = tt
-said-well line (Up link) p = tt
-said-well line Commit p = tt
-said-well line DropStaged p = tt
-said-well line (Dist ends) p = tt
-said-well line (Next ends) p = tt
-said-well line (Label node label) p = tt
-said-well line (Spaces repair) p = tt
-said-well line (Repair repair) p = tt
-said-well line (Walk ends choice) p = tt
-said-well line (WalkRepair repair choice) p = tt
-said-well line Audit p = tt
-said-well line AuditFull p = tt
-said-well line Hold p = tt
-said-well line (Watch watchers rounds) p = tt
-said-well line Join p = tt
-said-well line Show p = tt
+said-well line command p = tt
 
 -- from each state the end of a script has an answer
 pub end-answers : (line : Allowed State) → EndAnswers line SessionEnds

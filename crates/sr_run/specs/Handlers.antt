@@ -15,6 +15,7 @@ use Rattle.sr_script.specs.declared.name.EndNames.{EndNames}
 use Rattle.sr_script.specs.declared.name.LinkName.{LinkName}
 use Rattle.sr_script.specs.declared.name.RepairName.{RepairName}
 use Rattle.sr_script.specs.declared.command.Command.{Command}
+use Rattle.sr_script.specs.declared.command.TheConstants.{MOST_METRIC, MOST_DEPTH}
 use Rattle.sr_script.specs.declared.command.Command.TheVariants.{Cost, Depth, AuditFull}
 use Rattle.sr_print.specs.declared.refusal.Refusal.{Refusal}
 use Rattle.sr_print.specs.declared.refusal.Refusal.TheVariants as refusal
@@ -76,8 +77,8 @@ session_conduct = record { answers = SessionAnswers; ends = SessionEnds }
 
 -- the arguments of an edit are in range, as those of each command that a line says
 abbrev pub IsAsked : Command → Type 0
-IsAsked (Cost link metric) = (0 < metric) × (metric < 16777215)
-IsAsked (Depth depth) = depth ≤ 12
+IsAsked (Cost link metric) = (0 < metric) × (metric ≤ MOST_METRIC)
+IsAsked (Depth depth) = depth ≤ MOST_DEPTH
 IsAsked _ = Unit {0}
 
 -- the two systems are these nodes
@@ -134,14 +135,14 @@ edit_of UpEdit key = BringUp (pair_of key)
 
 -- a metric is that of a link in use
 abbrev pub IsLinkEdit : LinkEdit → Type 0
-IsLinkEdit (CostEdit metric) = (0 < metric) × (metric < 16777215)
+IsLinkEdit (CostEdit metric) = (0 < metric) × (metric ≤ MOST_METRIC)
 IsLinkEdit DownEdit = Unit {0}
 IsLinkEdit UpEdit = Unit {0}
 
--- a command is carried out: what is told was appended, or it is the audit of the last version, which is yet to be written; or the line is refused, and that is told; memory may run out at any time
+-- a command is carried out: what is told was appended, or nothing was, and it is the audit of the last version, which is yet to be written; or the line is refused, and that is told; memory may run out at any time
 abbrev pub RepliesTo : Command → State → State → List ℕ → List ℕ → Result Reply Stop → Type 0
 RepliesTo command old new before after (Ok Text) = CarriesOut command old new before after (Ok tt)
-RepliesTo command old new before after (Ok Audit) = (command ≡ AuditFull) × (is_some old.current ≡ true) × (new ≡ old)
+RepliesTo command old new before after (Ok Audit) = (command ≡ AuditFull) × (is_some old.current ≡ true) × (new ≡ old) × (after ≡ before)
 RepliesTo command old new before after (Err stop) = CarriesOut command old new before after (Err stop)
 
 -- what a command gives, with the line of this number

@@ -20,19 +20,19 @@ pub record Run : Type 0 where
   pub taken : List ℕ
   pub out : List ℕ
 
--- no read failed
+-- the count of failed reads stayed
 abbrev pub ReadsWell : Run → Type 0
 ReadsWell run = run.new.read_faults ≡ run.old.read_faults
 
--- no write failed
+-- the count of failed writes stayed
 abbrev pub WritesWell : Run → Type 0
 WritesWell run = run.new.write_faults ≡ run.old.write_faults
 
--- a read failed
+-- the count of failed reads rose, or stands at its last value
 abbrev pub FailsReading : Run → Type 0
 FailsReading run = Rose run.old.read_faults run.new.read_faults
 
--- a write failed
+-- the count of failed writes rose, or stands at its last value
 abbrev pub FailsWriting : Run → Type 0
 FailsWriting run = Rose run.old.write_faults run.new.write_faults
 
@@ -40,7 +40,7 @@ FailsWriting run = Rose run.old.write_faults run.new.write_faults
 abbrev pub EachDelivers : Domain → Type 0
 EachDelivers domain = All EachRepairDelivers domain.nets
 
--- the script was read to its end without a fault, and all of it was answered
+-- the script was read to its end, both counts of faults stayed, all of it was answered, and every repair of each accepted net has a stack and delivers under it
 pub record AnswersScript (run : Run) (refused : Bool) : Type 0 where
   pub at_end : IsAtEnd run.new.left
   pub few : length run.taken ≤ most_bytes
@@ -58,7 +58,7 @@ AnswersLines run bytes = Answered Answers opening bytes run.out
 abbrev pub BeginsToAnswer : Run → Type 0
 BeginsToAnswer run = BeginsOutput conduct opening run.new.left run.taken run.out
 
--- how a run over a script ended says of it: the script was read to its end; a read failed, and all lines before were answered; a write failed or memory ran out, and a beginning was written; or there are too many bytes, and the lines within the first of them were answered
+-- how a run over a script ended says of it: the script was read to its end; the count of failed reads rose, or stands at its last value, and all lines before were answered; the count of failed writes did so, or memory ran out, and a beginning was written; or there are too many bytes, and the lines within the first of them were answered
 abbrev pub EndShows : Run → End → Type 0
 EndShows run (Done refused) = AnswersScript run refused
 EndShows run ReadFailed = AnswersLines run run.taken × FailsReading run × WritesWell run
@@ -66,7 +66,7 @@ EndShows run WriteFailed = BeginsToAnswer run × FailsWriting run × ReadsWell r
 EndShows run Memory = BeginsToAnswer run × ReadsWell run × WritesWell run
 EndShows run TooMuch = (most_bytes < length run.taken) × AnswersLines run (script_of run.taken) × ReadsWell run × WritesWell run
 
--- nothing was read and nothing written
+-- nothing was taken and nothing written, and both counts of faults stayed
 pub record DoesNothing (run : Run) : Type 0 where
   pub taken : run.taken ≡ []
   pub out : run.out ≡ []
@@ -88,7 +88,7 @@ pub record RunsTo (words : List (String Global)) (old new : Devices) (status : �
   pub appended : Appends old.held new.held out
   pub shows : StatusShows words (record { old = old; new = new; taken = taken; out = out }) status
 
--- where the source tells what it has left: a script that isn't too long, read and written without a fault, is answered to its end, or memory runs out
+-- where the source tells what it has left: a script that isn't too long is answered to its end, or memory runs out, unless a count of faults rose or stands at its last value
 abbrev pub RunsThrough : List (String Global) → Devices → Devices → ℕ → Type 0
 RunsThrough words old new status = (bytes : List ℕ) → old.left ≡ Some bytes → AskRun words → length bytes ≤ most_bytes
     → ¬ Rose old.read_faults new.read_faults → ¬ Rose old.write_faults new.write_faults

@@ -1,5 +1,5 @@
 -- What a session shows of a domain, and what it keeps.
-use Rattle.std.specs.Prelude.{◌≡◌, ◌+◌, ◌≤◌, Option, IfSome}
+use Rattle.std.specs.Prelude.{◌≡◌, ◌+◌, ◌<◌, ◌≤◌, Option, IfSome}
 use Rattle.sr_lsdb.specs.Editing.{Editing}
 use Rattle.sr_domain.specs.Net.{IsNetOf}
 use Rattle.sr_repair.specs.Version.{Numbered}
@@ -15,9 +15,10 @@ pub record State : Type 0 where
 abbrev pub shown : Domain → State
 shown domain = record { editing = domain.editing; current = last_version domain.nets }
 
--- what a session keeps: no more versions than there may be, and the last net is that of the accepted facts
+-- what a session keeps: no more versions than there may be, counted from 1, and the last net is that of the accepted facts
 pub record IsKept (state : State) : Type 0 where
   pub few : number_of state.current ≤ MOST_VERSIONS
+  pub counted : IfSome state.current (λ version. 0 < version.number)
   pub fresh : IfSome state.current (λ version. IsNetOf state.editing.accepted version.net)
 
 -- the version after the last one, of the net of the tentative facts

@@ -124,6 +124,7 @@ impl DomainSession {
 
     /// Appends the number, nodes and links of a version, and accepts the tentative facts with it.
     fn publish(&mut self, version: Version, out: &mut Vec<u8>) -> Result<(), AllocError>
+        requires counted { 0 < version.number }
         requires room { version.number ≤ MOST_VERSIONS }
         requires net { IsNetOf self.old.editing.tentative version.net }
         ensures said { OnOk result (out.new.items ≡ out.old.items ++

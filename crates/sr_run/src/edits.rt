@@ -2,6 +2,7 @@
 ghost use Rattle.std.specs.Prelude.{◌≡◌, ◌≤◌, List, ℕ};
 ghost use Rattle.sr_lsdb.specs.Staging.{Stages};
 ghost use Rattle.sr_script.specs.declared.command.Command.TheVariants.{Lsp as LspWord, Depth, DropStaged};
+ghost use Rattle.sr_script.specs.declared.command.TheConstants.{MOST_DEPTH};
 ghost use Rattle.sr_run.specs.Edits.{EditsLink, malformed_pdu};
 ghost use Rattle.sr_run.specs.Handlers.{Carries, CarriesOut, IsLinkEdit, Moves, TellsStaged, edit_of};
 
@@ -95,7 +96,7 @@ impl DomainSession {
 
     /// `depth K`: stages how many segments a repair list may have.
     pub(crate) fn depth(&mut self, depth: u8, out: &mut Vec<u8>) -> Result<(), Stop>
-        requires { depth ≤ 12 }
+        requires { depth ≤ MOST_DEPTH }
         ensures { CarriesOut (Depth depth) self.old self.new out.old.items out.new.items result }
     {
         let staged = self.editor.stage_depth(depth);

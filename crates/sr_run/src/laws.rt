@@ -2,7 +2,8 @@
 //! stands in `specs/`.
 ghost use Rattle.sr_run.specs.Laws.{AcceptedNetsDeliver, LinesHaveOneAnswer, ScriptsHaveOneOutput};
 
-/// From a state, a line has one answer and one next state, and a script has one output.
+/// From a state whose nets give what accepted ones do, a line has at most one answer and at most one next state. A script
+/// has at most one output, and at most one last state.
 pub fn answers_are_determined()
     ensures lines { LinesHaveOneAnswer }
     ensures scripts { ScriptsHaveOneOutput }

@@ -5,4 +5,4 @@ mod DigitLemmas
 mod OctetLemmas
 mod Samples
 mod SaidLemmas
-mod LineLemmas
+pub mod LineLemmas

@@ -1,6 +1,7 @@
 -- What a line says, and why it is refused.
 use Rattle.std.proofs.Common.{◌≡◌, ◌≢◌, ℕ, ◌<◌, Bool, List, [], ◌∷◌, length, refl, sym, ap, subst, arith, ◌⊎◌, inl, inr}
 use Rattle.std.specs.Prelude.{codes, IsErr, slice_index_or, IsTrue, ◌↔◌}
+use Rattle.std.specs.declared.result.Result.TheVariants.{Err}
 use Rattle.hex.specs.Hex.{decode_of}
 use Rattle.sr_script.specs.declared.command.Command.{Command}
 use Rattle.sr_script.specs.declared.command.Command.TheVariants.{Lsp}
@@ -11,7 +12,7 @@ use Rattle.sr_script.specs.declared.line.LineFault.TheVariants.{TooLong, Unknown
 use Rattle.sr_script.specs.Words.{pieces, word_at, words, words_of}
 use Rattle.sr_script.specs.Says.{Says}
 use Rattle.sr_script.specs.LineSays.{BeginsCommand, IsRemark, SaysNothing, IsUnknown, IsKnown, IsLspOf, WordsSay, IsBadForm, IsBadHex, IsWordsFault, IsShort, LineSays, IsLineFault, IsMemory}
-use Rattle.sr_script.specs.Answers.{IsHexFault}
+use Rattle.sr_script.specs.Answers.{IsHexFault, IsReading}
 use Rattle.sr_script.proofs.SaidLemmas.{said-once, first-not_remark, lsp-length, lsp-decoded}
 
 -- ---- first words
@@ -27,7 +28,7 @@ nothing-is ws answer some is =
     let p = nothing-cases ws some in
     (λ yes. p.0 (is.0 yes), λ said. is.1 (p.1 said))
 
-pub unknown-is : (ws : List (List ℕ)) → ¬ SaysNothing ws → ¬ BeginsCommand (word_at ws 0) → IsUnknown ws
+unknown-is : (ws : List (List ℕ)) → ¬ SaysNothing ws → ¬ BeginsCommand (word_at ws 0) → IsUnknown ws
 unfolding word_at
 unknown-is [] some none = some tt
 unknown-is (first ∷ rest) some none = (some, none)
@@ -55,12 +56,20 @@ second-lsp ws text e = ap (λ (w : List (List ℕ)). slice_index_or w 1 []) e
 -- ---- refusals
 
 -- words that no reader answers have a bad form
-pub form-refused : (ws : List (List ℕ)) → ¬ SaysNothing ws → word_at ws 0 ≢ codes "lsp" → BeginsCommand (word_at ws 0) → ((command : Command) → ¬ Says ws command) → IsBadForm ws
+form-refused : (ws : List (List ℕ)) → ¬ SaysNothing ws → word_at ws 0 ≢ codes "lsp" → BeginsCommand (word_at ws 0) → ((command : Command) → ¬ Says ws command) → IsBadForm ws
 form-refused ws some first begins none = record {
   known = known-is ws (something ws some) begins;
   other = λ text e. first (first-lsp ws text e);
   unsaid = none;
 }
+
+-- and what the readers refuse is refused so
+pub reading-refused : (ws : List (List ℕ)) (fault : LineFault) → ¬ SaysNothing ws → word_at ws 0 ≢ codes "lsp" → IsReading ws (Err fault) → IsWordsFault ws fault
+reading-refused ws UnknownWord some first r = unknown-is ws some r
+reading-refused ws BadForm some first r = form-refused ws some first r.0 r.1
+reading-refused ws TooLong some first r = absurd r
+reading-refused ws BadHex some first r = absurd r
+reading-refused ws (Memory error) some first r = tt
 
 two-words : (ws : List (List ℕ)) (first : List ℕ) → length ws ≡ 2 → word_at ws 0 ≡ first → ws ≡ first ∷ word_at ws 1 ∷ []
 unfolding word_at

@@ -1,5 +1,7 @@
 -- What the readers of commands answer.
 use Rattle.std.specs.Prelude.{◌≡◌, ◌≢◌, ◌⊎◌, List, ℕ, ◌+◌, None, Option, MatchOption, IsErr}
+use Rattle.std.specs.declared.result.Result.{Result}
+use Rattle.std.specs.declared.result.Result.TheVariants.{Ok, Err}
 use Rattle.hex.specs.Hex.{decode_of}
 use Rattle.sr_script.specs.Words.{word_at}
 use Rattle.sr_script.specs.Says.{Says, first_word, kind_text}
@@ -10,9 +12,7 @@ use Rattle.sr_model.specs.SystemText.{system_read}
 use Rattle.sr_script.specs.LineSays.{BeginsCommand}
 use Rattle.sr_script.specs.declared.command.Command.{Command}
 use Rattle.sr_script.specs.declared.line.LineFault.{LineFault}
-use Rattle.sr_script.specs.declared.line.LineFault.TheVariants.{BadHex, Memory}
-use Rattle.sr_script.specs.declared.readers.Reading.{Reading}
-use Rattle.sr_script.specs.declared.readers.Reading.TheVariants.{Unknown, Known}
+use Rattle.sr_script.specs.declared.line.LineFault.TheVariants.{UnknownWord, BadForm, BadHex, Memory}
 
 -- the word is for no kind of failure
 abbrev pub NamesNoKind : List ℕ → Type 0
@@ -34,10 +34,12 @@ NamesNoRepair ws i = NamesNoKind (word_at ws i) ⊎ NamesNoLink ws (i + 1) ⊎ (
 abbrev pub Answers : List (List ℕ) → Option Command → Type 0
 Answers ws answer = MatchOption answer ((command : Command) → ¬ Says ws command) (Says ws)
 
--- the first word begins no command, or the words are answered
-abbrev pub IsReading : List (List ℕ) → Reading → Type 0
-IsReading ws Unknown = ¬ BeginsCommand (word_at ws 0)
-IsReading ws (Known answer) = BeginsCommand (word_at ws 0) × Answers ws answer
+-- the words say the command; or their first begins none, or it begins one and they say none
+abbrev pub IsReading : List (List ℕ) → Result Command LineFault → Type 0
+IsReading ws (Ok command) = Says ws command
+IsReading ws (Err UnknownWord) = ¬ BeginsCommand (word_at ws 0)
+IsReading ws (Err BadForm) = BeginsCommand (word_at ws 0) × ((command : Command) → ¬ Says ws command)
+IsReading ws (Err fault) = ⊥
 
 -- no other command begins with the word of this one
 abbrev pub IsOnly : Command → Type 0

@@ -1,8 +1,8 @@
 //! What a script asks for.
 
 use crate::name::{EndNames, LinkName, RepairName};
-use crate::octets::Octets;
 use sr_model::SystemId;
+use sr_seq::Seq;
 
 /// The greatest metric of a link in use: the maximum link metric, one above, takes a link out of use (RFC 5305, 3).
 pub const MOST_METRIC: u32 = 16_777_214;
@@ -26,7 +26,7 @@ pub const MOST_ROUNDS: u32 = 16;
 #[derive(Debug, Drop)]
 pub enum Command {
     /// `lsp HEX`: stages the octets of a link-state PDU.
-    Lsp { octets: Octets },
+    Lsp { octets: Seq<u8> },
     /// `cost A B n M`: stages a metric for a link.
     Cost { link: LinkName, metric: u32 },
     /// `down A B n`: stages that a pair of links is down.

@@ -6,11 +6,11 @@ ghost use Rattle.sr_script.specs.Answers.{IsHexFault};
 
 use crate::digits::write_octets;
 use crate::line::LineFault;
-use crate::octets::Octets;
+use sr_seq::Seq;
 use std::alloc::Global;
 
 /// The octets that the text writes, two hexadecimal digits each.
-pub(crate) fn read_octets(alloc: Global, text: &[u8]) -> Result<Octets, LineFault>
+pub(crate) fn read_octets(alloc: Global, text: &[u8]) -> Result<Seq<u8>, LineFault>
     ensures ok { IfOk result (λ octets. decode_of text.now ≡ Ok octets) }
     ensures err { IfErr result (IsHexFault text.now) }
 {
@@ -20,7 +20,7 @@ pub(crate) fn read_octets(alloc: Global, text: &[u8]) -> Result<Octets, LineFaul
     match vec![in alloc; 0u8; text.len() / 2] {
         Ok(mut octets) => {
             if write_octets(text, octets.as_mut_slice()) {
-                Ok(Octets::new(octets))
+                Ok(Seq::new(octets))
             } else {
                 Err(LineFault::BadHex)
             }

@@ -12,7 +12,6 @@ mod law;
 mod line;
 mod name;
 mod number;
-mod octets;
 mod readers;
 mod reading;
 #[cfg(test)]
@@ -25,5 +24,4 @@ pub use command::{
 pub use law::{fault_is_unique, line_says_one_thing, said_is_not_refused};
 pub use line::{LONGEST_LINE, Line, LineFault};
 pub use name::{EndNames, LinkName, MOST_LINKS, RepairName};
-pub use octets::Octets;
 pub use reading::read_line;

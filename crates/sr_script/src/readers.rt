@@ -13,31 +13,25 @@ use crate::argument::{ends_at, link_at, number_at, repair_at, system_at};
 use crate::command::{
     Command, MOST_CHOICE, MOST_DEPTH, MOST_LABEL, MOST_METRIC, MOST_ROUNDS, MOST_WATCHERS,
 };
+use crate::line::LineFault;
 use crate::words::Words;
 
-/// What the readers answer.
-pub(crate) enum Reading {
-    /// The first word begins no command.
-    Unknown,
-    /// The command that the words say, or none where they say none.
-    Known(Option<Command>),
-}
-
-/// Returns the answer of the reader whose word comes first.
+/// Returns the command of the reader whose word comes first, or that the words have a bad form.
 macro_rules! read_by_word {
     ($words:expr; $($first:literal => $read:expr,)*) => {
         let first = $words.get(0);
         $(
             if first == $first.as_slice() {
-                return Reading::Known($read);
+                return $read.ok_or(LineFault::BadForm);
             }
         )*
     };
 }
 
-/// The answer of the reader for the first word. `lsp` is read elsewhere.
+/// The command that the words say, by the reader for the first of them: that word may be unknown, or the words have no form
+/// of a command. `lsp` is read elsewhere.
 #[tactic(auto, using(crate::proofs::Samples::begins))]
-pub(crate) fn read_command(words: &Words<'_>) -> Reading
+pub(crate) fn read_command(words: &Words<'_>) -> Result<Command, LineFault>
     requires { word_at words.now 0 ≢ codes "lsp" }
     ensures { IsReading words.now result }
 {
@@ -60,7 +54,7 @@ pub(crate) fn read_command(words: &Words<'_>) -> Reading
         b"join" => read_lone(words, Command::Join),
         b"show" => read_lone(words, Command::Show),
     }
-    Reading::Unknown
+    Err(LineFault::UnknownWord)
 }
 
 /// The command, where its word stands alone. No other command begins with that word.

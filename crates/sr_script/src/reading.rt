@@ -8,7 +8,7 @@ use crate::blank::without_return;
 use crate::command::Command;
 use crate::hexadecimal::read_octets;
 use crate::line::{LONGEST_LINE, Line, LineFault};
-use crate::readers::{Reading, read_command};
+use crate::readers::read_command;
 use crate::words::Words;
 use std::alloc::Global;
 
@@ -53,9 +53,8 @@ fn read_words(alloc: Global, words: &Words<'_>) -> Result<Line, LineFault>
         return read_lsp(alloc, words);
     }
     match read_command(words) {
-        Reading::Unknown => Err(LineFault::UnknownWord),
-        Reading::Known(None) => Err(LineFault::BadForm),
-        Reading::Known(Some(command)) => Ok(Line::Word(command)),
+        Ok(command) => Ok(Line::Word(command)),
+        Err(fault) => Err(fault),
     }
 }
 

@@ -42,7 +42,7 @@ fn edits_are_read(rt: HostRuntime) -> Result<(), Fail> {
     for (line, expected) in [
         (
             "lsp 831bFf",
-            "Lsp { octets: Octets { items: [131, 27, 255] } }",
+            "Lsp { octets: Seq { items: [131, 27, 255] } }",
         ),
         (
             "\tcost 0000.0000.00ff  0000.0000.00FF\t \t0000000001 16777214 \r",
@@ -117,7 +117,7 @@ fn other_commands_are_read(rt: HostRuntime) -> Result<(), Fail> {
         ("watch 1 1", "Watch { watchers: 1, rounds: 1 }"),
         ("join", "Join"),
         ("show", "Show"),
-        ("lsp \t83", "Lsp { octets: Octets { items: [131] } }"),
+        ("lsp \t83", "Lsp { octets: Seq { items: [131] } }"),
         ("depth 0000000000", "Depth { depth: 0 }"),
     ] {
         expect_command(&rt, alloc, line, expected)?;
@@ -233,7 +233,7 @@ fn digits_of_blocks_are_read(rt: HostRuntime) -> Result<(), Fail> {
         &rt,
         alloc,
         "lsp 00112233445566778899aAbBcCdDeEfF0123456789abcdefFEDCBA98765432107f80",
-        "Lsp { octets: Octets { items: [0, 17, 34, 51, 68, 85, 102, 119, 136, 153, 170, 187, 204, 221, 238, 255, \
+        "Lsp { octets: Seq { items: [0, 17, 34, 51, 68, 85, 102, 119, 136, 153, 170, 187, 204, 221, 238, 255, \
          1, 35, 69, 103, 137, 171, 205, 239, 254, 220, 186, 152, 118, 84, 50, 16, 127, 128] } }",
     )?;
     let lines = [

@@ -4,7 +4,7 @@
 ghost use Rattle.std.specs.Prelude.{◌≡◌, ◌⊎◌, IfErr};
 ghost use Rattle.std.specs.Process.{exit_status};
 ghost use Rattle.sr_engine.specs.Endings.{devices_of};
-ghost use Rattle.sr_run.specs.Program.{RunsTo};
+ghost use Rattle.sr_run.specs.Program.{RunsThrough, RunsTo};
 
 use sr_base::{Runtime, Sink, Source, StdSink, StdSource};
 use sr_run::tilfa;
@@ -20,7 +20,8 @@ const NO_COMMAND: u8 = 2;
 const NO_MEMORY: u8 = 5;
 
 /// The words after the program's name, or the status that says why there are none: words that aren't text are no command,
-/// and any other failure ends as if memory had run out.
+/// and any other failure ends as if memory had run out. Which of the two statuses it is isn't proved: no contract of the
+/// library says what kind of error `env::args` answers.
 fn words(rt: &HostRuntime) -> Result<Vec<String>, u8>
     ensures { IfErr result (λ status. (status ≡ 2) ⊎ (status ≡ 5)) }
 {
@@ -50,7 +51,11 @@ fn run<R: AllocGlobal + Runtime, S: Source, K: Sink>(
     source: &mut S,
     sink: &mut K,
 ) -> ExitCode
-    ensures { RunsTo words.now
+    ensures outcome { RunsTo words.now
+        (devices_of (S.left source.old) (K.held sink.old) (S.faults source.old) (K.faults sink.old))
+        (devices_of (S.left source.new) (K.held sink.new) (S.faults source.new) (K.faults sink.new))
+        (exit_status result) }
+    ensures completes { RunsThrough words.now
         (devices_of (S.left source.old) (K.held sink.old) (S.faults source.old) (K.faults sink.old))
         (devices_of (S.left source.new) (K.held sink.new) (S.faults source.new) (K.faults sink.new))
         (exit_status result) }

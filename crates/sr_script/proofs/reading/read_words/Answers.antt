@@ -5,18 +5,13 @@ use Rattle.std.proofs.lemmas.Bool.{false≢true}
 use Rattle.std.proofs.lemmas.Slice.Eq.{bytes_eq-Decides}
 use Rattle.sr_script.specs.Words.{word_at}
 use Rattle.sr_script.specs.LineSays.{SaysNothing}
-use Rattle.sr_script.proofs.LineLemmas.{unknown-is, form-refused}
+use Rattle.sr_script.proofs.LineLemmas.{reading-refused}
 use Rattle.sr_script.proofs.reading.read_words.Goals as goal
 
-pub returns-in-Unknown-clause-refused : goal.returns-in-Unknown-clause-refused
-returns-in-Unknown-clause-refused c =
-    unknown-is c.args.words.now (λ said. false≢true (sym c.if-says_nothing.false ∙ c.says_nothing.ensures.1 said)) c.in-Unknown.ensures
-
-pub returns-in-Known-None-clause-refused : goal.returns-in-Known-None-clause-refused
-returns-in-Known-None-clause-refused c =
+pub returns-in-Err-clause-refused : goal.returns-in-Err-clause-refused
+returns-in-Err-clause-refused c =
     let something : ¬ SaysNothing c.args.words.now = λ said. false≢true (sym c.if-says_nothing.false ∙ c.says_nothing.ensures.1 said) in
     let other : word_at c.args.words.now 0 ≢ codes "lsp" = λ lsp.
     let same : bytes_eq c.get.result.now c.as_slice.result.now ≡ true = (bytes_eq-Decides _ _).1 (c.get.ensures ∙ lsp ∙ sym c.as_slice.ensures) in
     false≢true (sym c.if-eq.false ∙ c.eq.ensures ∙ same) in
-    let answered = rw c.in-Known-None.field-0-is at c.in-Known-None.ensures in
-    form-refused c.args.words.now something other answered.0 answered.1
+    reading-refused c.args.words.now c.in-Err.fault something other c.in-Err.ensures
