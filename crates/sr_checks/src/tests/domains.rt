@@ -122,13 +122,20 @@ fn put_node(
     Ok(())
 }
 
-/// What the program answers to the nodes' PDUs, a commit, and a question.
+/// The status with which the program ended, and what it answered.
+#[derive(Drop)]
+struct Ran {
+    status: u8,
+    text: Vec<u8>,
+}
+
+/// What the program answers to the nodes' PDUs, a commit, and a question, with its status.
 fn answers<R: AllocGlobal + Runtime>(
     rt: &R,
     nodes: u32,
     pairs: &[Pair],
     question: &[u8],
-) -> Result<Vec<u8>, AllocError> {
+) -> Result<Ran, AllocError> {
     let alloc = rt.alloc();
     let mut script = Vec::new(alloc);
     for node in 1..=nodes {
@@ -139,24 +146,25 @@ fn answers<R: AllocGlobal + Runtime>(
     let words = words(alloc, "run")?;
     let mut source = SteadySource::new(script);
     let mut sink = SteadySink::new(alloc);
-    let _status = tilfa(rt, words.as_slice(), &mut source, &mut sink);
-    Vec::from_slice(alloc, sink.bytes())
+    let status = tilfa(rt, words.as_slice(), &mut source, &mut sink);
+    let text = Vec::from_slice(alloc, sink.bytes())?;
+    Ok(Ran { status, text })
 }
 
-/// The last line that the program answers to them.
+/// The last line that the program answers to them, with its status.
 fn last_answer<R: AllocGlobal + Runtime>(
     rt: &R,
     nodes: u32,
     pairs: &[Pair],
     question: &[u8],
-) -> Result<Vec<u8>, AllocError> {
+) -> Result<Ran, AllocError> {
     let alloc = rt.alloc();
-    let text = answers(rt, nodes, pairs, question)?;
+    let Ran { status, text } = answers(rt, nodes, pairs, question)?;
     let last = match text.split(|byte| *byte == b'\n').rev().nth(1) {
-        Some(line) => line,
-        None => return Ok(Vec::new(alloc)),
+        Some(line) => Vec::from_slice(alloc, line)?,
+        None => Vec::new(alloc),
     };
-    Vec::from_slice(alloc, last)
+    Ok(Ran { status, text: last })
 }
 
 /// A chain of nodes, each pair at the greatest metric.
@@ -192,13 +200,15 @@ fn chains_have_at_most_256_nodes(rt: HostRuntime) -> Result<(), AllocError> {
     let alloc = rt.alloc();
     let longest = chain(alloc, 256)?;
     let far = last_answer(&rt, 256, &longest, b"dist 0000.0000.0001 0000.0000.0100\n")?;
-    assert_eq!(rt; far.as_slice(), b"dist 4278189570".as_slice());
+    assert_eq!(rt; far.text.as_slice(), b"dist 4278189570".as_slice());
+    assert_eq!(rt; far.status, 0);
     let longer = chain(alloc, 257)?;
     let refused = last_answer(&rt, 257, &longer, b"")?;
     assert_eq!(rt;
-        refused.as_slice(),
+        refused.text.as_slice(),
         b"refused 258 18 TooManyNodes 257".as_slice()
     );
+    assert_eq!(rt; refused.status, 1);
     Ok(())
 }
 
@@ -208,9 +218,10 @@ fn domains_have_at_most_2_048_links(rt: HostRuntime) -> Result<(), AllocError> {
     let pairs = complete(alloc, 46)?;
     let refused = last_answer(&rt, 46, &pairs, b"")?;
     assert_eq!(rt;
-        refused.as_slice(),
+        refused.text.as_slice(),
         b"refused 47 19 TooManyLinks 2070".as_slice()
     );
+    assert_eq!(rt; refused.status, 1);
     Ok(())
 }
 
@@ -273,14 +284,17 @@ fn a_long_audit_is_answered_whole(rt: HostRuntime) -> Result<(), AllocError> {
     let alloc = rt.alloc();
     let pairs = chain(alloc, 200)?;
     let before = answers(&rt, 200, &pairs, b"")?;
-    let text = answers(&rt, 200, &pairs, b"audit full\nshow\n")?;
+    let whole = answers(&rt, 200, &pairs, b"audit full\nshow\n")?;
     let last = answers(&rt, 200, &pairs, b"audit full")?;
-    let mut expected = before;
+    assert_eq!(rt; before.status, 0);
+    assert_eq!(rt; whole.status, 0);
+    assert_eq!(rt; last.status, 0);
+    let mut expected = before.text;
     expected.append(&mut lost_lines(alloc, 200)?)?;
     expected.extend_from_slice(b"audit version 1 covered 0 nopath 119002 nolist 0 toodeep 0\n")?;
-    assert_eq!(rt; last.as_slice() == expected.as_slice(), true);
+    assert_eq!(rt; last.text.as_slice() == expected.as_slice(), true);
     expected.extend_from_slice(b"show version 1 nodes 200 links 398 depth 3 staged 0\n")?;
-    assert_eq!(rt; text.len() > 8_388_608, true);
-    assert_eq!(rt; text.as_slice() == expected.as_slice(), true);
+    assert_eq!(rt; whole.text.len() > 8_388_608, true);
+    assert_eq!(rt; whole.text.as_slice() == expected.as_slice(), true);
     Ok(())
 }
