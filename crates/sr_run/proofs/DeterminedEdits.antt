@@ -17,7 +17,6 @@ use Rattle.sr_lsdb.specs.Staging.{IsStale}
 use Rattle.sr_domain.proofs.DeterminedNets.{net-one}
 use Rattle.sr_domain.proofs.DeterminedRules.{fault-one, broken-no_net}
 use Rattle.sr_script.specs.declared.name.LinkName.{LinkName}
-use Rattle.sr_print.specs.declared.refusal.Refusal.{Refusal}
 use Rattle.sr_print.specs.declared.refusal.Refusal.TheVariants.{Stale, StagedFull, VersionsFull, Rule}
 use Rattle.sr_print.specs.Told.{Told}
 use Rattle.sr_print.specs.Told.Told.{Staged, Dropped, Version, Refused}
