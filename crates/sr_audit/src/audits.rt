@@ -13,8 +13,9 @@ ghost use Rattle.sr_audit.specs.Cases.{IsCaseAudit, IsAuditAt, AreAuditsAt};
 use crate::report::Report;
 use sr_encode::{CaseAnswers, NodeAnswer};
 use sr_labels::Net;
-use sr_model::{Case, Item, Stack};
+use sr_model::{Case, Item};
 use sr_repair::{Version, case_at, case_count, labels_of};
+use sr_seq::Seq;
 use sr_threads::{Share, made_of_each};
 use std::alloc::{AllocError, Global};
 use std::thread::Threads;
@@ -46,7 +47,7 @@ fn item_of<'a>(
         case,
         dest: destination,
         answer,
-        labels: Stack::new(labels),
+        labels: Seq::new(labels),
     })
 }
 

@@ -1,7 +1,8 @@
 //! What is counted.
 
 use crate::{Counts, Item, Report};
-use sr_model::{Answer, Case, Kind, LinkNo, NodeNo, RepairList, Segments, Stack};
+use sr_model::{Answer, Case, Kind, LinkNo, NodeNo, RepairList, Segments};
+use sr_seq::Seq;
 use std::alloc::{AllocError, Global};
 
 /// An item of the case of this kind that protects link 5.
@@ -13,7 +14,7 @@ fn item(alloc: Global, kind: Kind, dest: u16, answer: Answer<'static>) -> Item<'
         },
         dest: NodeNo(dest),
         answer,
-        labels: Stack::new(Vec::new(alloc)),
+        labels: Seq::new(Vec::new(alloc)),
     }
 }
 

@@ -6,11 +6,11 @@ use Rattle.std.specs.List.{filter_map, flat_map, cons_option}
 use Rattle.std.proofs.lemmas.Bool.Decides.{nat_tests}
 use Rattle.std.proofs.lemmas.List.Elements.{filter_map-append}
 use Rattle.std.proofs.lemmas.Grind.{flat_map-append}
-use Rattle.sr_subtlv.specs.declared.sid.PrefixSid.{PrefixSid}
-use Rattle.sr_subtlv.specs.declared.sid.AdjSid.{AdjSid}
+use Rattle.sr_subtlv.specs.declared.prefix_sid.PrefixSid.{PrefixSid}
+use Rattle.sr_subtlv.specs.declared.adj_sid.AdjSid.{AdjSid}
 use Rattle.sr_lsp.specs.declared.lsp.LspId.{LspId}
-use Rattle.sr_lsp.specs.declared.part.Part.{Part}
-use Rattle.sr_lsp.specs.declared.part.Part.TheVariants.{Prefix}
+use Rattle.sr_lsp.specs.declared.table.Part.{Part}
+use Rattle.sr_lsp.specs.declared.table.Part.TheVariants.{Prefix}
 use Rattle.sr_lsdb.specs.declared.facts.Stored.{Stored}
 use Rattle.sr_lsdb.specs.declared.facts.Facts.{Facts}
 use Rattle.sr_domain.specs.declared.nodes.NodeSid.{NodeSid}

@@ -16,10 +16,11 @@ use Rattle.sr_model.specs.KeyOrder.{key_cmp, same_key}
 use Rattle.sr_model.proofs.KeyOrderLemmas.{key-from_cmp}
 use Rattle.sr_lsp.specs.declared.lsp.LspId.{LspId}
 use Rattle.sr_lsp.specs.declared.lsp.Lsp.{Lsp}
-use Rattle.sr_lsp.specs.declared.part.Part.{Part}
-use Rattle.sr_lsp.specs.declared.part.Part.TheVariants.{Reach, Prefix, Risk, Capability}
-use Rattle.sr_lsp.specs.declared.part.Reach.{Reach as ReachPart}
-use Rattle.sr_lsp.specs.InRange.{FitsPart, FitsReach, IsInRange}
+use Rattle.sr_lsp.specs.declared.table.Part.{Part}
+use Rattle.sr_lsp.specs.declared.table.Part.TheVariants.{Reach}
+use Rattle.sr_lsp.specs.declared.reach.Reach.{Reach as ReachPart}
+use Rattle.sr_lsp.specs.InRange.{FitsPart, IsInRange}
+use Rattle.sr_lsp.specs.Reach.{FitsReach}
 use Rattle.sr_lsdb.specs.declared.facts.Stored.{Stored}
 use Rattle.sr_lsdb.specs.declared.facts.Facts.{Facts}
 use Rattle.sr_lsdb.specs.Facts.{IsStoredWell, IsCost, AreInRange}
@@ -80,10 +81,8 @@ from-reach node reach fits true true h rest all = all
 from-reach node reach fits false s h rest all = all
 
 from-part : (node : ℕ) (part : Part) → FitsPart part → (rest : List Announcement) → All (IsFrom node) rest → All (IsFrom node) (cons_option (announced_by node part) rest)
-from-part node (Prefix p) fits rest all = all
-from-part node (Risk r) fits rest all = all
-from-part node (Capability c) fits rest all = all
 from-part node (Reach reach) fits rest all = from-reach node reach fits (reach.pseudonode == 0) (reach.neighbour == node) refl rest all
+from-part node _ fits rest all = all
 
 from-parts : (node : ℕ) (parts : List Part) → All FitsPart parts → All (IsFrom node) (filter_map (announced_by node) parts)
 from-parts node [] fits = All-nil (IsFrom node)

@@ -10,13 +10,13 @@ use Rattle.sr_model.specs.Key.{mirror}
 use Rattle.sr_model.specs.KeyOrder.{key_cmp, same_key}
 use Rattle.sr_subtlv.specs.declared.sid.Sid.{Sid}
 use Rattle.sr_subtlv.specs.declared.sid.Sid.TheVariants.{Index, Label}
-use Rattle.sr_subtlv.specs.declared.sid.AdjSid.{AdjSid}
-use Rattle.sr_subtlv.specs.declared.link.LinkIds.{LinkIds}
+use Rattle.sr_subtlv.specs.declared.adj_sid.AdjSid.{AdjSid}
+use Rattle.sr_subtlv.specs.declared.link_ids.LinkIds.{LinkIds}
 use Rattle.sr_lsp.specs.declared.lsp.LspId.{LspId}
 use Rattle.sr_lsp.specs.declared.lsp.Lsp.{Lsp}
-use Rattle.sr_lsp.specs.declared.part.Reach.{Reach as ReachPart}
-use Rattle.sr_lsp.specs.declared.part.Part.{Part}
-use Rattle.sr_lsp.specs.declared.part.Part.TheVariants.{Reach}
+use Rattle.sr_lsp.specs.declared.reach.Reach.{Reach as ReachPart}
+use Rattle.sr_lsp.specs.declared.table.Part.{Part}
+use Rattle.sr_lsp.specs.declared.table.Part.TheVariants.{Reach}
 use Rattle.sr_lsdb.specs.declared.facts.Stored.{Stored}
 use Rattle.sr_lsdb.specs.declared.facts.Facts.{Facts}
 use Rattle.sr_lsdb.specs.Facts.{stored_under}

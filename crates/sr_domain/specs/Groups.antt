@@ -9,11 +9,11 @@ use Rattle.sr_model.specs.declared.name.LinkKey.{LinkKey}
 use Rattle.sr_model.specs.declared.name.Ident.{Ident}
 use Rattle.sr_model.specs.declared.name.Ident.TheVariants.{None as NoIdent, Addr, Link}
 use Rattle.sr_model.specs.Key.{pair_of}
-use Rattle.sr_subtlv.specs.declared.link.LinkIds.{LinkIds}
+use Rattle.sr_subtlv.specs.declared.link_ids.LinkIds.{LinkIds}
 use Rattle.sr_lsp.specs.declared.lsp.LspId.{LspId}
-use Rattle.sr_lsp.specs.declared.part.Part.{Part}
-use Rattle.sr_lsp.specs.declared.part.Part.TheVariants.{Risk}
-use Rattle.sr_lsp.specs.declared.part.Risk.{Risk as RiskPart}
+use Rattle.sr_lsp.specs.declared.table.Part.{Part}
+use Rattle.sr_lsp.specs.declared.table.Part.TheVariants.{Risk}
+use Rattle.sr_lsp.specs.declared.risk.Risk.{Risk as RiskPart}
 use Rattle.sr_lsdb.specs.declared.facts.Stored.{Stored}
 use Rattle.sr_lsdb.specs.declared.facts.Facts.{Facts}
 use Rattle.sr_lsdb.specs.Order.{pair_cmp}

@@ -2,10 +2,10 @@
 use Rattle.std.specs.Prelude.{◌≡◌, ◌≢◌, ℕ, ◌<◌, ◌≤◌, ◌==◌, if◌then◌else◌, false, true, List, [], Option, Some, MatchOption, slice_get}
 use Rattle.std.specs.Option.{IsSomeAnd}
 use Rattle.std.specs.List.{filter_map, flat_map}
-use Rattle.sr_subtlv.specs.declared.sid.PrefixSid.{PrefixSid}
-use Rattle.sr_subtlv.specs.declared.sid.AdjSid.{AdjSid}
-use Rattle.sr_lsp.specs.declared.part.Part.{Part}
-use Rattle.sr_lsp.specs.declared.part.Part.TheVariants.{Prefix}
+use Rattle.sr_subtlv.specs.declared.prefix_sid.PrefixSid.{PrefixSid}
+use Rattle.sr_subtlv.specs.declared.adj_sid.AdjSid.{AdjSid}
+use Rattle.sr_lsp.specs.declared.table.Part.{Part}
+use Rattle.sr_lsp.specs.declared.table.Part.TheVariants.{Prefix}
 use Rattle.sr_lsdb.specs.declared.facts.Facts.{Facts}
 use Rattle.sr_domain.specs.Announced.{adj_sid_labels}
 use Rattle.sr_domain.specs.Nodes.{own_parts, node_sid_by}

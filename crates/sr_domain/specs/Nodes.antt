@@ -6,12 +6,12 @@ use Rattle.sr_model.specs.declared.label.Range.{Range}
 use Rattle.sr_model.specs.Label.{Labels}
 use Rattle.sr_subtlv.specs.declared.sid.Sid.{Sid}
 use Rattle.sr_subtlv.specs.declared.sid.Sid.TheVariants.{Index, Label}
-use Rattle.sr_subtlv.specs.declared.sid.PrefixSid.{PrefixSid}
+use Rattle.sr_subtlv.specs.declared.prefix_sid.PrefixSid.{PrefixSid}
 use Rattle.sr_subtlv.specs.declared.sr_cap.SrCap.{SrCap}
 use Rattle.sr_lsp.specs.declared.lsp.LspId.{LspId}
 use Rattle.sr_lsp.specs.declared.lsp.Lsp.{Lsp}
-use Rattle.sr_lsp.specs.declared.part.Part.{Part}
-use Rattle.sr_lsp.specs.declared.part.Part.TheVariants.{Prefix, Capability}
+use Rattle.sr_lsp.specs.declared.table.Part.{Part}
+use Rattle.sr_lsp.specs.declared.table.Part.TheVariants.{Prefix, Capability}
 use Rattle.sr_lsdb.specs.declared.facts.Stored.{Stored}
 use Rattle.sr_lsdb.specs.declared.facts.Facts.{Facts}
 use Rattle.sr_lsdb.specs.Facts.{stored_under}

@@ -13,8 +13,9 @@ use crate::groups::{RiskTable, by_name, groups_of};
 use crate::links::FoundLink;
 use crate::names::names_of;
 use crate::risks::notes;
-use sr_graph::{DraftLink, Groups};
+use sr_graph::DraftLink;
 use sr_lsdb::Facts;
+use sr_seq::Seq;
 use std::alloc::{AllocError, Global};
 use std::cmp::Ordering;
 
@@ -104,7 +105,7 @@ pub(crate) fn draft_links(
         out.push(DraftLink {
             key: link.key,
             metric: link.metric,
-            groups: Groups::new(groups),
+            groups: Seq::new(groups),
         })?;
     }
     Ok(out)

@@ -8,12 +8,16 @@ use crate::fault::DomainFault;
 use crate::nodes::{node_sid, srgb_of};
 use sr_labels::{NodeLabels, Srgb};
 use sr_lsdb::Facts;
-use sr_model::{DomainRule, SystemId};
-use sr_subtlv::Ranges;
+use sr_model::{DomainRule, Range, SystemId};
+use sr_seq::Seq;
 use std::alloc::{AllocError, Global};
 
 /// The label ranges of each node. The first node without them is refused.
-fn all_ranges(alloc: Global, facts: &Facts, nodes: &[SystemId]) -> Result<Vec<Ranges>, DomainFault>
+fn all_ranges(
+    alloc: Global,
+    facts: &Facts,
+    nodes: &[SystemId],
+) -> Result<Vec<Seq<Range>>, DomainFault>
     requires nodes { nodes.now ≡ nodes_of facts.now }
     requires ascending { IsStrictlyIncreasing nodes.now }
     ensures ranges { IfOk result (λ v. v.items ≡ map (ranges_of facts.now) nodes.now) }
@@ -25,7 +29,7 @@ fn all_ranges(alloc: Global, facts: &Facts, nodes: &[SystemId]) -> Result<Vec<Ra
         match srgb_of(alloc, facts, *node) {
             Err(fault) => return Err(DomainFault::Memory(fault)),
             Ok(None) => return Err(DomainFault::Rule(DomainRule::NoSrgb { node: *node })),
-            Ok(Some(ranges)) => match out.push(Ranges::new(ranges)) {
+            Ok(Some(ranges)) => match out.push(Seq::new(ranges)) {
                 Ok(()) => {}
                 Err(_) => return Err(DomainFault::Memory(AllocError)),
             },
@@ -49,7 +53,7 @@ fn with_ranges(
     alloc: Global,
     facts: &Facts,
     nodes: &[SystemId],
-    ranges: Vec<Ranges>,
+    ranges: Vec<Seq<Range>>,
 ) -> Result<Vec<NodeLabels>, DomainFault>
     requires nodes { nodes.now ≡ nodes_of facts.now }
     requires ascending { IsStrictlyIncreasing nodes.now }

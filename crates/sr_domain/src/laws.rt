@@ -1,7 +1,7 @@
 //! Laws of the definitions, which no value stands behind: what is chosen is the least, and facts determine their net or
 //! the first rule that they break.
 ghost use Rattle.std.specs.Prelude.{◌≡◌, ℕ, List, [], MatchOption};
-ghost use Rattle.sr_subtlv.specs.declared.sid.AdjSid.{AdjSid};
+ghost use Rattle.sr_subtlv.specs.declared.adj_sid.AdjSid.{AdjSid};
 ghost use Rattle.sr_lsdb.specs.declared.facts.Facts.{Facts};
 ghost use Rattle.sr_domain.specs.Announced.{adj_label};
 ghost use Rattle.sr_domain.specs.Nodes.{node_sid_of};

@@ -15,9 +15,10 @@ use crate::draft::draft_links;
 use crate::fault::DomainFault;
 use crate::groups::RiskTable;
 use crate::links::FoundLink;
-use sr_graph::{Draft, DraftLinks, Graph, GraphFault, SystemIds};
+use sr_graph::{Draft, Graph, GraphFault};
 use sr_lsdb::Facts;
 use sr_model::{DomainRule, SystemId};
+use sr_seq::Seq;
 use std::alloc::{AllocError, Global};
 
 /// Why the graph is refused, as a rule of the profile.
@@ -67,8 +68,8 @@ pub(crate) fn graph_of(
 {
     let drafts = draft_links(alloc, table, links)?;
     let draft = Draft {
-        nodes: SystemIds::new(nodes),
-        links: DraftLinks::new(drafts),
+        nodes: Seq::new(nodes),
+        links: Seq::new(drafts),
     };
     match Graph::build(alloc, draft) {
         Ok(graph) => Ok(graph),

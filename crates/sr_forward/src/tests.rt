@@ -1,14 +1,15 @@
 use crate::hops::chosen;
-use sr_graph::{Draft, DraftLinks, Graph, SystemIds};
+use sr_graph::{Draft, Graph};
 use sr_model::{LinkNo, Out};
+use sr_seq::Seq;
 use std::test::Fail;
 
 #[test]
 fn the_choice_is_taken_modulo_the_hops(rt: HostRuntime) -> Result<(), Fail> {
     let alloc = rt.alloc();
     let draft = Draft {
-        nodes: SystemIds::new(Vec::new(alloc)),
-        links: DraftLinks::new(Vec::new(alloc)),
+        nodes: Seq::new(Vec::new(alloc)),
+        links: Seq::new(Vec::new(alloc)),
     };
     let closed = Graph::build(alloc, draft)?.nothing(alloc)?;
     let hops = [

@@ -12,7 +12,7 @@ use Rattle.sr_model.specs.Case.{ShareGroup}
 use Rattle.sr_graph.specs.Bits.{IsIn}
 use Rattle.sr_graph.specs.Sharing.{set_at, AreSharing}
 use Rattle.sr_graph.specs.declared.sharing.Holding.{Holding}
-use Rattle.sr_graph.specs.Holdings.{held_by, holding_at, group_at, link_at, AreHoldings, IsRun, HasLink, StandTogether, AreJoined}
+use Rattle.sr_graph.specs.Holdings.{held_by, holding_at, group_at, holder_at, AreHoldings, IsGroupRun, HasHolder, StandTogether, AreJoined}
 use Rattle.sr_graph.proofs.BitsLemmas.{not_in_zero}
 
 -- what stands for an entry past the end of the list
@@ -56,7 +56,7 @@ module _ (groups : List (List ℕ)) where
         subst P at (new-held (i - length list) (omega (arith, more-length))))
         (cases_lt i (length list))
 
-    more-all : (l r : ℕ) → l < n + 1 → Contains (get_or groups l []) r → (i : ℕ) × (i < length more) × (link_at more i ≡ l) × (group_at more i ≡ r)
+    more-all : (l r : ℕ) → l < n + 1 → Contains (get_or groups l []) r → (i : ℕ) × (i < length more) × (holder_at more i ≡ l) × (group_at more i ≡ r)
     more-all l r lt held = ⊎_elim
         (λ (e : l ≡ n).
         let there : Contains row r = subst (λ (gs : List ℕ). Contains gs r) (ap (λ j. get_or groups j []) e ∙ sym is) held in
@@ -67,7 +67,7 @@ module _ (groups : List (List ℕ)) where
           ap (λ (h : Holding). h.group) at ∙ get_or_default row there.0 0 r there.1 ∙ there.2,
         ))
         (λ (ne : l ≢ n).
-        let found : (i : ℕ) × (i < length list) × (link_at list i ≡ l) × (group_at list i ≡ r) = k.all l r (omega arith) held in
+        let found : (i : ℕ) × (i < length list) × (holder_at list i ≡ l) × (group_at list i ≡ r) = k.all l r (omega arith) held in
         let at : holding_at more found.0 ≡ holding_at list found.0 = more-left found.0 found.1 in
         (found.0, omega (arith, found.1, more-length), ap (λ (h : Holding). h.link.0) at ∙ found.2, ap (λ (h : Holding). h.group) at ∙ found.3))
         (cases_eq l n)
@@ -98,13 +98,13 @@ module _ (list : List Holding) where
   -- the links were added to the sets of those that stand from place i to below place j
   pub record AreAdded (links : List ℕ) (i j : ℕ) (before after : List (List ℕ)) : Type 0 where
     pub long : length after ≡ length before
-    pub each : (p l : ℕ) → IsIn (set_at after p) l ↔ (IsIn (set_at before p) l ⊎ (HasLink list i j p × IsIn links l))
+    pub each : (p l : ℕ) → IsIn (set_at after p) l ↔ (IsIn (set_at before p) l ⊎ (HasHolder list i j p × IsIn links l))
 
   -- no group stands before the place and from there on
   pub record ArePartedAt (n : ℕ) : Type 0 where
     pub apart : (i j : ℕ) → i < n → n ≤ j → j < length list → group_at list i ≢ group_at list j
 
-  pub parted-more : (i j : ℕ) → IsRun list i j → ArePartedAt i → ArePartedAt j
+  pub parted-more : (i j : ℕ) → IsGroupRun list i j → ArePartedAt i → ArePartedAt j
   parted-more i j run k = record {
     apart = λ a b lt le within. ⊎_elim
         (λ (old : a < i). k.apart a b old (omega (arith, run.forth)) within)
@@ -116,8 +116,8 @@ module _ (list : List Holding) where
   }
 
   -- the links of one group more were joined
-  module _ (i j : ℕ) (common : List ℕ) (before after : List (List ℕ)) (run : IsRun list i j) (parted : ArePartedAt i) (collected : (l : ℕ) → IsIn common l ↔ HasLink list i j l) (k : AreJoined list i before) (added : (p l : ℕ) → IsIn (set_at after p) l ↔ (IsIn (set_at before p) l ⊎ (HasLink list i j p × IsIn common l))) where
-    together : (p l : ℕ) → HasLink list i j p → HasLink list i j l → StandTogether list j p l
+  module _ (i j : ℕ) (common : List ℕ) (before after : List (List ℕ)) (run : IsGroupRun list i j) (parted : ArePartedAt i) (collected : (l : ℕ) → IsIn common l ↔ HasHolder list i j l) (k : AreJoined list i before) (added : (p l : ℕ) → IsIn (set_at after p) l ↔ (IsIn (set_at before p) l ⊎ (HasHolder list i j p × IsIn common l))) where
+    together : (p l : ℕ) → HasHolder list i j p → HasHolder list i j l → StandTogether list j p l
     together p l one other = record {
       i = one.0;
       j = other.0;
@@ -140,7 +140,7 @@ module _ (list : List Holding) where
     }
 
     -- two that stand with one group stand before the run, or both in it
-    parts : (p l : ℕ) → StandTogether list j p l → StandTogether list i p l ⊎ (HasLink list i j p × HasLink list i j l)
+    parts : (p l : ℕ) → StandTogether list j p l → StandTogether list i p l ⊎ (HasHolder list i j p × HasHolder list i j l)
     parts p l t =
         let first : t.i < length list = omega (arith, t.first, run.inside) in
         let second : t.j < length list = omega (arith, t.second, run.inside) in

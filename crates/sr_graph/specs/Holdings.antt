@@ -22,24 +22,24 @@ abbrev pub group_at : List Holding → ℕ → ℕ
 group_at list k = (holding_at list k).group
 
 -- the link at place k
-abbrev pub link_at : List Holding → ℕ → ℕ
-link_at list k = (holding_at list k).link.0
+abbrev pub holder_at : List Holding → ℕ → ℕ
+holder_at list k = (holding_at list k).link.0
 
 -- the list has the groups of the first n links
 pub record AreHoldings (groups : List (List ℕ)) (n : ℕ) (list : List Holding) : Type 0 where
-  pub each : (k : ℕ) → k < length list → (link_at list k < n) × Contains (slice_index_or groups (link_at list k) []) (group_at list k)
-  pub all : (l r : ℕ) → l < n → Contains (slice_index_or groups l []) r → (k : ℕ) × (k < length list) × (link_at list k ≡ l) × (group_at list k ≡ r)
+  pub each : (k : ℕ) → k < length list → (holder_at list k < n) × Contains (slice_index_or groups (holder_at list k) []) (group_at list k)
+  pub all : (l r : ℕ) → l < n → Contains (slice_index_or groups l []) r → (k : ℕ) × (k < length list) × (holder_at list k ≡ l) × (group_at list k ≡ r)
 
 -- from place i to below place j stands the group that stands at place i, and later ones from there on
-pub record IsRun (list : List Holding) (i j : ℕ) : Type 0 where
+pub record IsGroupRun (list : List Holding) (i j : ℕ) : Type 0 where
   pub forth : i < j
   pub inside : j ≤ length list
   pub same : (k : ℕ) → i ≤ k → k < j → group_at list k ≡ group_at list i
   pub later : (k : ℕ) → j ≤ k → k < length list → group_at list i < group_at list k
 
 -- link l stands from place i to below place j
-abbrev pub HasLink : List Holding → ℕ → ℕ → ℕ → Type 0
-HasLink list i j l = (k : ℕ) × (i ≤ k) × (k < j) × (link_at list k ≡ l)
+abbrev pub HasHolder : List Holding → ℕ → ℕ → ℕ → Type 0
+HasHolder list i j l = (k : ℕ) × (i ≤ k) × (k < j) × (holder_at list k ≡ l)
 
 -- below place n the links p and l stand with one group
 pub record StandTogether (list : List Holding) (n p l : ℕ) : Type 0 where
@@ -48,8 +48,8 @@ pub record StandTogether (list : List Holding) (n p l : ℕ) : Type 0 where
   pub first : i < n
   pub second : j < n
   pub group : group_at list i ≡ group_at list j
-  pub p_is : link_at list i ≡ p
-  pub l_is : link_at list j ≡ l
+  pub p_is : holder_at list i ≡ p
+  pub l_is : holder_at list j ≡ l
 
 -- the set of each link has the links that stand with it below place n
 pub record AreJoined (list : List Holding) (n : ℕ) (sets : List (List ℕ)) : Type 0 where

@@ -8,10 +8,10 @@ ghost use Rattle.sr_graph.specs.Draft.{IsDraft, AreSorted, IsAccepted, IsRefusal
 ghost use Rattle.sr_graph.specs.Built.{IsBuilt};
 ghost use Rattle.sr_graph.specs.Ranges.{HoldsLinks, EndAt};
 
-use crate::draft::{Draft, DraftLink, Groups};
+use crate::draft::{Draft, DraftLink};
 use crate::edges::{Edge, edges_of};
 use crate::fault::GraphFault;
-use crate::incoming::{Incoming, lists_by_end};
+use crate::incoming::lists_by_end;
 use crate::link_bits::LinkBits;
 use crate::link_set::LinkSet;
 use crate::numbers::{find, number_all, place};
@@ -19,6 +19,7 @@ use crate::order::{refusal, sort};
 use crate::ranges::{LinkRange, starts};
 use crate::sharing::sharing;
 use sr_model::{Link, LinkKey, LinkNo, NodeNo, SystemId};
+use sr_seq::Seq;
 use std::alloc::{AllocError, Global};
 use std::marker::Model;
 
@@ -28,10 +29,10 @@ pub struct Graph {
     pub(crate) systems: Vec<SystemId>,
     links: Vec<Link>,
     edges: Vec<Edge>,
-    groups: Vec<Groups>,
+    groups: Vec<Seq<u32>>,
     pub(crate) overloaded: Vec<bool>,
     starts: Vec<u16>,
-    incoming: Vec<Incoming>,
+    incoming: Vec<Seq<LinkNo>>,
     sharing: Vec<LinkBits>,
 }
 
@@ -204,7 +205,7 @@ impl Graph {
         ensures links { EndAt self.now node.0 result.now }
         ensures graph { IsGraph self.now }
     {
-        self.incoming[node.0 as usize].links()
+        self.incoming[node.0 as usize].as_slice()
     }
 
     /// Whether the node is overloaded, so that no walk passes through it (ISO 10589, 7.2.8.1).

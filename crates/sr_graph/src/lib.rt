@@ -17,7 +17,7 @@ mod sharing;
 #[cfg(test)]
 mod tests;
 
-pub use draft::{Draft, DraftLink, DraftLinks, Groups, SystemIds};
+pub use draft::{Draft, DraftLink};
 pub use edges::Edge;
 pub use fault::GraphFault;
 pub use graph::Graph;

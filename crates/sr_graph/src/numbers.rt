@@ -9,8 +9,9 @@ ghost use Rattle.sr_graph.specs.declared.draft.DraftLink.{DraftLink as Drafted};
 ghost use Rattle.sr_graph.specs.Draft.{HasEnds};
 ghost use Rattle.sr_graph.specs.Numbers.{IsPlace, IsNumbered, AscendByKey};
 
-use crate::draft::{DraftLink, Groups};
+use crate::draft::DraftLink;
 use sr_model::{Link, LinkKey, LinkNo, NodeNo, SystemId};
+use sr_seq::Seq;
 use std::alloc::{AllocError, Global};
 
 /// The number of the node of this system id, if there is one.
@@ -78,7 +79,7 @@ pub(crate) fn find(links: &[Link], key: &LinkKey) -> Option<LinkNo>
 #[derive(Drop)]
 pub(crate) struct Numbered {
     pub(crate) links: Vec<Link>,
-    pub(crate) groups: Vec<Groups>,
+    pub(crate) groups: Vec<Seq<u32>>,
 }
 
 /// The links with their ends by number.

@@ -3,11 +3,12 @@ ghost use Rattle.std.specs.Prelude.{◌≡◌, ◌↔◌, ℕ, ◌<◌, ◌≤�
 ghost use Rattle.std.specs.List.Sorted.{IsPermutation, IsNonDecreasingBy};
 ghost use Rattle.sr_graph.specs.Bits.{IsIn};
 ghost use Rattle.sr_graph.specs.Sharing.{set_at, AreSharing};
-ghost use Rattle.sr_graph.specs.Holdings.{held_by, group_of, link_at, AreHoldings, IsRun, HasLink, AreJoined};
+ghost use Rattle.sr_graph.specs.declared.order.TheConstants.{MOST_LINKS};
+ghost use Rattle.sr_graph.specs.Holdings.{held_by, group_of, holder_at, AreHoldings, IsGroupRun, HasHolder, AreJoined};
 
-use crate::draft::Groups;
 use crate::link_bits::LinkBits;
 use sr_model::LinkNo;
+use sr_seq::Seq;
 use std::alloc::{AllocError, Global};
 
 /// A group with a link that has it.
@@ -31,8 +32,8 @@ fn add_holdings(link: LinkNo, groups: &[u32], out: &mut Vec<Holding>) -> Result<
 }
 
 /// Each link with each of its groups.
-fn holdings(alloc: Global, groups: &[Groups]) -> Result<Vec<Holding>, AllocError>
-    requires { length groups.now ≤ 2048 }
+fn holdings(alloc: Global, groups: &[Seq<u32>]) -> Result<Vec<Holding>, AllocError>
+    requires { length groups.now ≤ MOST_LINKS }
     ensures { IfOk result (λ list. AreHoldings groups.now (length groups.now) list.items) }
 {
     let mut list = Vec::new(alloc);
@@ -55,7 +56,7 @@ fn by_group(mut list: Vec<Holding>) -> Vec<Holding>
 fn run_end(list: &[Holding], start: usize) -> usize
     requires order { IsNonDecreasingBy group_of list.now }
     requires within { start < length list.now }
-    ensures { IsRun list.now start result }
+    ensures { IsGroupRun list.now start result }
 {
     for place in start + 1..list.len() {
         if list[place].group != list[start].group {
@@ -69,9 +70,9 @@ fn run_end(list: &[Holding], start: usize) -> usize
 fn collect(set: &mut LinkBits, list: &[Holding], start: usize, end: usize)
     requires ordered { start ≤ end }
     requires inside { end ≤ length list.now }
-    requires room { (k : ℕ) → k < length list.now → link_at list.now k / 64 < length set.old }
+    requires room { (k : ℕ) → k < length list.now → holder_at list.now k / 64 < length set.old }
     ensures long { length set.new ≡ length set.old }
-    ensures links { (l : ℕ) → IsIn set.new l ↔ HasLink list.now start end l }
+    ensures links { (l : ℕ) → IsIn set.new l ↔ HasHolder list.now start end l }
 {
     set.clear();
     for place in start..end {
@@ -89,8 +90,8 @@ fn add_to_each(
 ) -> Result<(), AllocError>
     requires ordered { start ≤ end }
     requires inside { end ≤ length list.now }
-    requires room { (k : ℕ) → k < length list.now → link_at list.now k < length sets.old }
-    ensures { OnOk result ((p l : ℕ) → IsIn (set_at sets.new p) l ↔ (IsIn (set_at sets.old p) l ⊎ (HasLink list.now start end p × IsIn links.now l))) }
+    requires room { (k : ℕ) → k < length list.now → holder_at list.now k < length sets.old }
+    ensures { OnOk result ((p l : ℕ) → IsIn (set_at sets.new p) l ↔ (IsIn (set_at sets.old p) l ⊎ (HasHolder list.now start end p × IsIn links.now l))) }
 {
     for place in start..end {
         let set = &mut sets[list[place].link.0 as usize];
@@ -113,7 +114,7 @@ fn empty_sets(alloc: Global, count: usize) -> Result<Vec<LinkBits>, AllocError>
 /// For each of the links, those that have a group of it. The time is a union of two sets for each entry of the list.
 fn joined(alloc: Global, list: &[Holding], links: usize) -> Result<Vec<LinkBits>, AllocError>
     requires order { IsNonDecreasingBy group_of list.now }
-    requires links { (k : ℕ) → k < length list.now → link_at list.now k < links }
+    requires links { (k : ℕ) → k < length list.now → holder_at list.now k < links }
     ensures { IfOk result (λ sets. AreJoined list.now (length list.now) sets.items) }
 {
     let mut sets = empty_sets(alloc, links)?;
@@ -130,8 +131,8 @@ fn joined(alloc: Global, list: &[Holding], links: usize) -> Result<Vec<LinkBits>
 
 /// For each link, the links that share a group with it, by the groups of each link. Where no link has a group, there are
 /// no sets.
-pub(crate) fn sharing(alloc: Global, groups: &[Groups]) -> Result<Vec<LinkBits>, AllocError>
-    requires { length groups.now ≤ 2048 }
+pub(crate) fn sharing(alloc: Global, groups: &[Seq<u32>]) -> Result<Vec<LinkBits>, AllocError>
+    requires { length groups.now ≤ MOST_LINKS }
     ensures { IfOk result (λ sets. AreSharing groups.now sets.items) }
 {
     let list = by_group(holdings(alloc, groups)?);

@@ -3,8 +3,9 @@ ghost use Rattle.std.specs.Prelude.{◌≡◌, ◌<◌, [], ◌∷◌, IfOk};
 ghost use Rattle.sr_model.specs.declared.name.Ident.TheVariants.{None as NoIdent, Link as LinkIdent};
 ghost use Rattle.sr_graph.specs.Draft.{IsDraft};
 
-use crate::{Draft, DraftLink, DraftLinks, Graph, Groups, LinkSet, SystemIds};
+use crate::{Draft, DraftLink, Graph, LinkSet};
 use sr_model::{Case, Ident, Kind, LinkKey, LinkNo, NodeNo, SystemId};
+use sr_seq::Seq;
 use std::alloc::{AllocError, Global};
 use std::test::Fail;
 
@@ -29,7 +30,7 @@ fn plain(alloc: Global, from: u64, to: u64) -> DraftLink
             ident: Ident::None,
         },
         metric: 1,
-        groups: Groups::new(Vec::new(alloc)),
+        groups: Seq::new(Vec::new(alloc)),
     }
 }
 
@@ -47,7 +48,7 @@ fn risky(alloc: Global, from: u64, to: u64, number: u32) -> Result<DraftLink, Al
             ident: Ident::Link(number, number),
         },
         metric: 1,
-        groups: Groups::new(groups),
+        groups: Seq::new(groups),
     })
 }
 
@@ -67,8 +68,8 @@ fn parallels(alloc: Global) -> Result<Draft, AllocError>
         plain(alloc, 2, 3),
     ]?;
     Ok(Draft {
-        nodes: SystemIds::new(nodes),
-        links: DraftLinks::new(links),
+        nodes: Seq::new(nodes),
+        links: Seq::new(links),
     })
 }
 

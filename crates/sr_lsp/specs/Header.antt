@@ -1,10 +1,10 @@
 -- The header of a link-state PDU (ISO 10589, 9.8 and 9.9).
 use Rattle.std.specs.Prelude.{◌≡◌, ℕ, ◌%◌, ◌||◌, ◌&&◌, ◌==◌, nat_le, Bool, if◌then◌else◌, List, [], ◌∷◌, length, Option, Some, None}
 use Rattle.sr_lsp.specs.declared.header.Header.{Header}
-use Rattle.sr_lsp.specs.declared.fault.Check.{Check}
-use Rattle.sr_lsp.specs.declared.fault.Check.TheVariants.{HeaderOctets, Discriminator, HeaderLength, Version, IdLength, PduType, PduLength, TlvExtent, FieldExtent}
-use Rattle.sr_lsp.specs.declared.fault.Malformed.{Malformed}
-use Rattle.sr_subtlv.specs.Octets.{octet, number}
+use Rattle.sr_wire.specs.declared.fault.Check.{Check}
+use Rattle.sr_wire.specs.declared.fault.Check.TheVariants.{HeaderOctets, Discriminator, HeaderLength, Version, IdLength, PduType, PduLength}
+use Rattle.sr_wire.specs.declared.fault.Malformed.{Malformed}
+use Rattle.sr_wire.specs.Octets.{octet, number}
 
 -- what the 27 octets say
 abbrev pub header_of : List ℕ → Header
@@ -55,15 +55,3 @@ header_fault octets = first_fault (header_checks octets)
 pub record IsHeader (octets : List ℕ) (header : Header) : Type 0 where
   pub sound : header_fault octets ≡ None
   pub fields : header ≡ header_of octets
-
--- the number by which a check is known
-abbrev pub check_number : Check → ℕ
-check_number HeaderOctets = 1
-check_number Discriminator = 2
-check_number HeaderLength = 3
-check_number Version = 4
-check_number IdLength = 5
-check_number PduType = 6
-check_number PduLength = 7
-check_number TlvExtent = 8
-check_number FieldExtent = 9

@@ -1,39 +1,26 @@
--- Values of a link-state PDU that its layouts can hold.
-use Rattle.std.specs.Prelude.{◌≡◌, ◌≢◌, ◌<◌, ◌≤◌, ◌^◌, [], drop, All, IfSome}
-use Rattle.byteorder.specs.Endian.{big_bytes}
-use Rattle.sr_subtlv.specs.declared.sr_cap.SrCap.{SrCap}
-use Rattle.sr_subtlv.specs.Sid.{FitsAdjSid, FitsPrefixSid}
-use Rattle.sr_subtlv.specs.SrCap.{FitsRange}
+-- Values of a link-state PDU that its layouts can hold, and values whose numbers fit the octets in which they are written.
+use Rattle.std.specs.Prelude.{◌<◌, ◌^◌, All}
+use Rattle.sr_wire.specs.Numbers.{FitsFourOctets, FitsSixOctets}
 use Rattle.sr_lsp.specs.declared.lsp.Lsp.{Lsp}
-use Rattle.sr_lsp.specs.declared.part.Part.{Part}
-use Rattle.sr_lsp.specs.declared.part.Part.TheVariants.{Reach as ReachPart, Prefix as PrefixPart, Risk as RiskPart, Capability as CapabilityPart}
-use Rattle.sr_lsp.specs.declared.part.Reach.{Reach}
-use Rattle.sr_lsp.specs.declared.part.Prefix.{Prefix}
-use Rattle.sr_lsp.specs.Prefix.{prefix_octets}
+use Rattle.sr_lsp.specs.declared.table.Part.{Part}
+use Rattle.sr_lsp.specs.Table.{spelling}
 
--- a metric of three octets, and SIDs of the form that their flags tell
-pub record FitsReach (reach : Reach) : Type 0 where
-  pub metric : reach.metric < 2 ^ 24
-  pub adj : All FitsAdjSid reach.adj
-
--- a prefix of at most 32 bits whose octets past its length are 0, and SIDs of the form that their flags tell
-pub record FitsPrefix (prefix : Prefix) : Type 0 where
-  pub bits : prefix.length ≤ 32
-  pub past : All (λ octet. octet ≡ 0) (drop (prefix_octets prefix.length) (big_bytes 4 prefix.prefix))
-  pub sids : All FitsPrefixSid prefix.sids
-
--- one or more ranges, with sizes of three octets and labels of 20 bits
-pub record FitsRanges (cap : SrCap) : Type 0 where
-  pub some : cap.ranges ≢ []
-  pub each : All FitsRange cap.ranges
-
--- the fields fit the layout of their part; those of a shared-risk group always do
+-- the fields fit the layout of their part
 abbrev pub FitsPart : Part → Type 0
-FitsPart (ReachPart reach) = FitsReach reach
-FitsPart (PrefixPart prefix) = FitsPrefix prefix
-FitsPart (RiskPart risk) = Unit {0}
-FitsPart (CapabilityPart capability) = IfSome capability.srgb FitsRanges
+FitsPart part = (spelling part).fits
 
 -- in range: every field fits its layout
 abbrev pub IsInRange : Lsp → Type 0
 IsInRange lsp = All FitsPart lsp.parts
+
+-- the numbers of a part fit their octets, where they have more than one and being in range doesn't bound them already
+abbrev pub HasPartWidths : Part → Type 0
+HasPartWidths part = (spelling part).widths
+
+-- the numbers of the header and of every part fit their octets, as those of every value in memory do. This project's rule.
+pub record HasWidths (lsp : Lsp) : Type 0 where
+  pub lifetime : lsp.lifetime < 2 ^ 16
+  pub system : FitsSixOctets lsp.id.system
+  pub sequence : FitsFourOctets lsp.sequence
+  pub checksum : lsp.checksum < 2 ^ 16
+  pub parts : All HasPartWidths lsp.parts

@@ -1,13 +1,11 @@
 pub mod Header
-pub mod Fault
-pub mod Run
-pub mod Sub
 pub mod Reach
 pub mod Prefix
 pub mod Risk
 pub mod Capability
+pub mod Table
 pub mod Lsp
 pub mod InRange
 pub mod Text
 pub mod WriteFault
-pub mod Widths
+pub mod Layouts

@@ -1,15 +1,21 @@
--- The entries of extended IP reachability, TLV 135 (RFC 5305, 4).
-use Rattle.std.specs.Prelude.{◌≡◌, ℕ, ◌+◌, ◌/◌, ◌%◌, ◌<◌, ◌≤◌, ◌^◌, ◌==◌, Bool, not, if◌then◌else◌, MatchBool, List, [], ◌∷◌, ◌++◌, length, replicate, nat_le}
-use Rattle.std.specs.Prelude.{◌⊎◌, bit_and, drop, slice_range}
-use Rattle.sr_subtlv.specs.Octets.{number, octet}
-use Rattle.sr_subtlv.specs.declared.sid.PrefixSid.{PrefixSid}
-use Rattle.sr_lsp.specs.declared.prefix_extent.Extent.{Extent}
+-- Extended IP reachability, TLV 135 (RFC 5305, 4): a run of entries whose length changes.
+use Rattle.std.specs.Prelude.{◌≡◌, ℕ, ◌+◌, ◌/◌, ◌%◌, ◌<◌, ◌≤◌, ◌^◌, ◌==◌, ◌⊎◌, Bool, not, if◌then◌else◌, MatchBool, List, [], ◌∷◌, ◌++◌, All, bit_and, drop, length, nat_le, replicate, slice_range, take}
 use Rattle.byteorder.specs.Endian.{big_bytes, big_number}
-use Rattle.sr_subtlv.specs.Tlv.{Tlv}
-use Rattle.sr_subtlv.specs.Sid.{IsPrefixSid}
-use Rattle.sr_lsp.specs.declared.part.Prefix.{Prefix}
-use Rattle.sr_lsp.specs.Run.{Layout}
-use Rattle.sr_lsp.specs.Sub.{AllSay, AreSubs, SubFault}
+use Rattle.sr_wire.specs.declared.fault.Check.TheVariants.{FieldExtent}
+use Rattle.sr_wire.specs.declared.registry.TheConstants.{ADDRESS_BITS, EXTENDED_PREFIX, PREFIX_DOWN, PREFIX_SUBS}
+use Rattle.sr_wire.specs.Fields.{Field, FitFields, HaveWidths, SayFields, all_of, fields_text}
+use Rattle.sr_wire.specs.Format.{Kind, run_of}
+use Rattle.sr_wire.specs.Numbers.{FitsFourOctets, bit_if, is_some_list}
+use Rattle.sr_wire.specs.Octets.{number, octet}
+use Rattle.sr_wire.specs.Run.{Layout}
+use Rattle.sr_wire.specs.Sub.{AreSubs, SubFault}
+use Rattle.sr_wire.specs.Tlv.{Tlv}
+use Rattle.sr_subtlv.specs.PrefixSid.{prefix_sid_sub}
+use Rattle.sr_lsp.specs.declared.prefix.Prefix.{Prefix}
+use Rattle.sr_lsp.specs.declared.prefix.PrefixSubs.{PrefixSubs}
+use Rattle.sr_lsp.specs.declared.prefix_extent.Extent.{Extent}
+use Rattle.sr_lsp.specs.declared.table.Part.{Part}
+use Rattle.sr_lsp.specs.declared.table.Part.TheVariants.{Prefix as PrefixPart}
 
 -- the metric, the control octet, the octets of the prefix, and the octets of the sub-TLVs
 pub record PrefixEntry : Type 0 where
@@ -26,9 +32,9 @@ bits_of entry = entry.control % 64
 abbrev pub prefix_octets : ℕ → ℕ
 prefix_octets bits = (bits + 7) / 8
 
--- whether sub-TLVs are present, the control octet's bit 0x40
+-- whether sub-TLVs are present, by the control octet
 abbrev pub has_subs : PrefixEntry → Bool
-has_subs entry = not (bit_and entry.control 0x40 == 0)
+has_subs entry = not (bit_and entry.control PREFIX_SUBS == 0)
 
 -- the sub-TLVs with their length, where they are present
 abbrev pub subs_text : PrefixEntry → List ℕ
@@ -71,25 +77,64 @@ prefix_layout = record {
   fault = λ entry at check. (inside : ℕ) × SubFault entry.subs inside check × (at ≡ 6 + length entry.prefix + inside);
 }
 
--- what the sub-TLVs of an entry say: the SIDs of the prefix
-pub record SaysSids (octets : List ℕ) (sids : List PrefixSid) : Type 0 where
-  pub subs : List Tlv
-  pub text : AreSubs octets subs
-  pub all_sids : AllSay 3 IsPrefixSid subs sids
+-- the field that sub-TLVs say: all SIDs of the prefix
+abbrev pub prefix_fields : List (Field PrefixSubs)
+prefix_fields = all_of prefix_sid_sub (λ subs. subs.sids) ∷ []
+
+-- that of an entry
+abbrev pub prefix_subs_of : Prefix → PrefixSubs
+prefix_subs_of prefix = record { sids = prefix.sids }
 
 -- what an entry says whose prefix has at most 32 bits: octets of the prefix that aren't there are 0
-pub record SaysPrefix (entry : PrefixEntry) (says : Prefix) : Type 0 where
-  pub metric : says.metric ≡ entry.metric
-  pub down : says.down ≡ not (bit_and entry.control 0x80 == 0)
-  pub length : says.length ≡ bits_of entry
-  pub prefix : says.prefix ≡ big_number 4 (entry.prefix ++ replicate 4 0)
-  pub sids : SaysSids entry.subs says.sids
+pub record SaysPrefix (entry : PrefixEntry) (prefix : Prefix) : Type 0 where
+  pub metric : prefix.metric ≡ entry.metric
+  pub down : prefix.down ≡ not (bit_and entry.control PREFIX_DOWN == 0)
+  pub length : prefix.length ≡ bits_of entry
+  pub number : prefix.prefix ≡ big_number 4 (entry.prefix ++ replicate 4 0)
+  pub subs : List Tlv
+  pub are : AreSubs entry.subs subs
+  pub say : SayFields prefix_fields subs (prefix_subs_of prefix)
 
--- an entry with a longer prefix says nothing
-abbrev pub SaysOwn : PrefixEntry → List Prefix → Type 0
-SaysOwn entry own = MatchBool (nat_le (bits_of entry) 32) ((p : Prefix) × SaysPrefix entry p × (own ≡ p ∷ [])) (own ≡ [])
+-- an entry says one part, and one with a longer prefix says nothing
+abbrev pub SaysOwn : PrefixEntry → List Part → Type 0
+SaysOwn entry own = MatchBool (nat_le (bits_of entry) ADDRESS_BITS) ((prefix : Prefix) × SaysPrefix entry prefix × (own ≡ PrefixPart prefix ∷ [])) (own ≡ [])
 
--- what the entries say, in order of place
-abbrev pub SaysPrefixes : List PrefixEntry → List Prefix → Type 0
-SaysPrefixes [] prefixes = prefixes ≡ []
-SaysPrefixes (entry ∷ entries) prefixes = (own : List Prefix) × (more : List Prefix) × SaysOwn entry own × SaysPrefixes entries more × (prefixes ≡ own ++ more)
+-- the octets of the sub-TLVs in which it is written
+abbrev pub prefix_subs : Prefix → List ℕ
+prefix_subs prefix = fields_text prefix_fields (prefix_subs_of prefix)
+
+-- these behind their length, where there are some
+abbrev pub counted_subs : Prefix → List ℕ
+counted_subs prefix = if is_some_list prefix.sids then length (prefix_subs prefix) ∷ prefix_subs prefix else []
+
+-- up or down, whether sub-TLVs are present, and the length of the prefix
+abbrev pub control_octet : Prefix → ℕ
+control_octet prefix = bit_if prefix.down PREFIX_DOWN + bit_if (is_some_list prefix.sids) PREFIX_SUBS + prefix.length
+
+-- a value with one entry
+abbrev pub prefix_value : Prefix → List ℕ
+prefix_value prefix =
+    prefix_text (record { metric = prefix.metric; control = control_octet prefix; prefix = take (prefix_octets prefix.length) (big_bytes 4 prefix.prefix); subs = prefix_subs prefix })
+
+-- a prefix of at most 32 bits whose octets past its length are 0, and sub-TLVs that have a spelling
+pub record FitsPrefix (prefix : Prefix) : Type 0 where
+  pub bits : prefix.length ≤ ADDRESS_BITS
+  pub past : All (λ octet. octet ≡ 0) (drop (prefix_octets prefix.length) (big_bytes 4 prefix.prefix))
+  pub subs : FitFields prefix_fields (prefix_subs_of prefix)
+
+-- its numbers fit their octets, where being in range doesn't bound them already
+pub record HasPrefixWidths (prefix : Prefix) : Type 0 where
+  pub metric : FitsFourOctets prefix.metric
+  pub number : FitsFourOctets prefix.prefix
+  pub subs : HaveWidths prefix_fields (prefix_subs_of prefix)
+
+-- the kind: a run of entries, a part each
+abbrev pub prefix_kind : Kind Part Prefix
+prefix_kind = record {
+  kind = EXTENDED_PREFIX;
+  part = PrefixPart;
+  format = run_of prefix_layout FieldExtent SaysOwn;
+  value = prefix_value;
+  fits = FitsPrefix;
+  widths = HasPrefixWidths;
+}

@@ -1,35 +1,92 @@
-//! The router capability, TLV 242 (RFC 7981, 2).
+//! The router capability, TLV 242 (RFC 7981, 2): read, written, and what it holds.
 
-ghost use Rattle.std.specs.Prelude.{◌≡◌, ℕ, ◌≤◌, List, length, IfErr, MatchResult, OnOk};
-ghost use Rattle.sr_subtlv.specs.Msd.{AreMsds};
-ghost use Rattle.sr_subtlv.specs.SrCap.{IsSrCap};
-ghost use Rattle.sr_lsp.specs.Capability.{CapabilityFault, SaysCapability, SaysNode};
-ghost use Rattle.sr_lsp.specs.Fault.{IfMalformed};
-ghost use Rattle.sr_lsp.specs.Sub.{AddsFirst, SubFault};
+ghost use Rattle.std.specs.Prelude.{◌≡◌, ◌<◌, ◌≤◌, ◌+◌, ◌^◌, ◌++◌, ◌∷◌, [], length, IfErr, MatchResult, OnOk};
+ghost use Rattle.byteorder.specs.Endian.{big_bytes};
+ghost use Rattle.sr_wire.specs.Fault.{IfMalformed};
+ghost use Rattle.sr_wire.specs.Fields.{text_if_some, sub_text};
+ghost use Rattle.sr_subtlv.specs.Msd.{msds_sub};
+ghost use Rattle.sr_lsp.specs.Capability.{CapabilityFault, SaysCapability, capability_kind, if_any};
 
-use crate::part::Capability;
-use crate::read_fault::ReadFault;
-use sr_subtlv::octets::u32_at;
-use sr_subtlv::{Msds, SrCap, frame, read_msd, read_sr_cap};
+use crate::table::Part;
+use byteorder::{BigEndian, ByteOrder};
+use sr_model::Range;
+use sr_seq::Seq;
+use sr_subtlv::{Msd, SrCap};
+use sr_wire::octets::u32_at;
+use sr_wire::registry::{FRAME, ROUTER_CAPABILITY};
+use sr_wire::{
+    ReadFault, SubKind, SubTlvs, TlvKind, add_first, first_fits, first_length, first_widths,
+    read_subs, write_first,
+};
 use std::alloc::{AllocError, Global};
+
+/// The router id, the flags, the label ranges (RFC 8667, 3.1), and the maximum SID depths (RFC 8491, 2).
+#[derive(Debug, Drop)]
+pub struct Capability {
+    pub router: u32,
+    pub flags: u8,
+    pub srgb: Option<SrCap>,
+    pub msd: Seq<Msd>,
+}
 
 /// The octets before the sub-TLVs.
 const FIXED: usize = 5;
 
-/// The types of its sub-TLVs: SR-Capabilities and maximum SID depths.
-const SR_CAPABILITIES: u8 = 2;
-
-const NODE_MSD: u8 = 23;
-
 /// What the sub-TLVs say.
 #[derive(Debug, Drop)]
-struct CapabilitySubs {
+pub struct NodeSubs {
     srgb: Option<SrCap>,
-    msd: Option<Msds>,
+    msd: Option<Seq<Msd>>,
 }
 
-/// The part that a value says.
-pub fn read_capability(alloc: Global, value: &[u8]) -> Result<Capability, ReadFault>
+impl SubTlvs for NodeSubs {
+    ghost use Rattle.sr_wire.specs.Fields.{AddFields, SayFields};
+    ghost use Rattle.sr_wire.proofs.FieldSteps.{fields_grow, first_grows};
+    ghost use Rattle.sr_subtlv.specs.SrCap.{sr_cap_sub};
+    ghost use Rattle.sr_lsp.specs.Capability.{node_fields};
+
+    ghost said = { SayFields node_fields };
+
+    ghost adds = { AddFields node_fields };
+
+    ghost steps = { fields_grow node_fields (first_grows sr_cap_sub (λ node. node.srgb), (first_grows msds_sub (λ node. node.msd), tt)) };
+
+    fn add(&mut self, alloc: Global, kind: u8, value: &[u8]) -> Result<(), AllocError> {
+        add_first::<SrCap, SrCap>(alloc, &mut self.srgb, kind, value)?;
+        add_first::<Seq<Msd>, Msd>(alloc, &mut self.msd, kind, value)
+    }
+}
+
+impl TlvKind<Part> for Capability {
+    ghost kind = { capability_kind };
+
+    fn read(alloc: Global, value: &[u8], parts: &mut Vec<Part>) -> Result<(), ReadFault> {
+        parts.push(Part::Capability(read_capability(alloc, value)?))?;
+        Ok(())
+    }
+
+    fn length(&self) -> u128 {
+        FIXED as u128 + first_length::<SrCap, SrCap>(&self.srgb) + depths_length(&self.msd)
+    }
+
+    fn write(&self, out: &mut Vec<u8>) -> Result<(), AllocError> {
+        write_router(self, self.length() as u8, out)?;
+        write_first::<SrCap, SrCap>(&self.srgb, out)?;
+        write_depths(&self.msd, out)
+    }
+
+    fn fits(&self) -> bool {
+        first_fits::<SrCap, SrCap>(&self.srgb)
+    }
+
+    fn widths(&self) {
+        let _router = self.router;
+        first_widths::<SrCap, SrCap>(&self.srgb);
+    }
+}
+
+/// What a value says.
+fn read_capability(alloc: Global, value: &[u8]) -> Result<Capability, ReadFault>
     ensures says { MatchResult result (λ capability. SaysCapability value.now capability)
         (λ fault. IfMalformed fault (λ malformed. CapabilityFault value.now malformed.offset malformed.check)) }
     ensures within { IfErr result (λ fault. IfMalformed fault (λ malformed. malformed.offset ≤ length value.now)) }
@@ -40,63 +97,54 @@ pub fn read_capability(alloc: Global, value: &[u8]) -> Result<Capability, ReadFa
     if value.len() < FIXED {
         return Err(ReadFault::cut(4));
     }
-    let subs = match read_subs(alloc, &value[FIXED..]) {
-        Ok(subs) => subs,
-        Err(fault) => return Err(fault.behind(FIXED)),
-    };
-    Ok(Capability {
-        router: u32_at(value, 0),
-        flags: value[4],
-        srgb: subs.srgb,
-        msd: match subs.msd {
-            Some(msd) => msd,
-            None => Msds::new(Vec::new(alloc)),
-        },
-    })
-}
-
-/// What sub-TLVs say.
-fn read_subs(alloc: Global, run: &[u8]) -> Result<CapabilitySubs, ReadFault>
-    ensures says { MatchResult result (λ said. SaysNode run.now said.srgb said.msd)
-        (λ fault. IfMalformed fault (λ malformed. SubFault run.now malformed.offset malformed.check)) }
-    ensures within { IfErr result (λ fault. IfMalformed fault (λ malformed. malformed.offset ≤ length run.now)) }
-{
-    let mut said = CapabilitySubs {
+    let none = NodeSubs {
         srgb: None,
         msd: None,
     };
-    let mut at = 0;
-    while at < run.len() {
-        match frame(run, at) {
-            Ok(place) => {
-                said.add(alloc, place.kind, &run[place.from..place.to])?;
-                at = place.to;
-            }
-            Err(overrun) => return Err(ReadFault::cut(overrun.offset)),
-        }
+    match read_subs(alloc, &value[FIXED..], none) {
+        Ok(subs) => Ok(Capability {
+            router: u32_at(value, 0),
+            flags: value[4],
+            srgb: subs.srgb,
+            msd: match subs.msd {
+                Some(msd) => msd,
+                None => Seq::empty(alloc),
+            },
+        }),
+        Err(fault) => Err(fault.behind(FIXED)),
     }
-    Ok(said)
 }
 
-impl CapabilitySubs {
-    /// Adds what one more sub-TLV says.
-    fn add(&mut self, alloc: Global, kind: u8, value: &[u8]) -> Result<(), AllocError>
-        ensures srgb { OnOk result (AddsFirst 2 IsSrCap (record { kind = kind; value = value.now }) self.old.srgb self.new.srgb) }
-        ensures msd { OnOk result (AddsFirst 23 AreMsds (record { kind = kind; value = value.now }) self.old.msd self.new.msd) }
-    {
-        match kind {
-            SR_CAPABILITIES => {
-                if self.srgb.is_none() {
-                    self.srgb = read_sr_cap(alloc, value)?;
-                }
-            }
-            NODE_MSD => {
-                if self.msd.is_none() {
-                    self.msd = read_msd(alloc, value)?;
-                }
-            }
-            _ => {}
-        }
+/// How many octets the sub-TLV of the depths has, which is there where they are.
+fn depths_length(depths: &Seq<Msd>) -> u128
+    ensures is { result ≡ length (text_if_some (sub_text msds_sub) (if_any depths.now)) }
+    ensures small { result < 2 ^ 68 }
+{
+    if depths.as_slice().is_empty() {
+        0
+    } else {
+        FRAME + Msd::length(depths)
+    }
+}
+
+/// Appends the type and the length of the TLV, the router id, and the flags.
+fn write_router(capability: &Capability, octets: u8, out: &mut Vec<u8>) -> Result<(), AllocError>
+    ensures { OnOk result (out.new.items ≡ out.old.items
+        ++ (ROUTER_CAPABILITY ∷ octets ∷ big_bytes 4 capability.now.router ++ capability.now.flags ∷ [])) }
+{
+    let mut front = [ROUTER_CAPABILITY, octets, 0, 0, 0, 0, capability.flags];
+    BigEndian::write_u32(&mut front[2..], capability.router);
+    out.extend_from_slice(&front)
+}
+
+/// Appends the sub-TLV of the depths, where there are some.
+fn write_depths(depths: &Seq<Msd>, out: &mut Vec<u8>) -> Result<(), AllocError>
+    requires { length (text_if_some (sub_text msds_sub) (if_any depths.now)) ≤ 255 }
+    ensures { OnOk result (out.new.items ≡ out.old.items ++ text_if_some (sub_text msds_sub) (if_any depths.now)) }
+{
+    if depths.as_slice().is_empty() {
         Ok(())
+    } else {
+        Msd::write(depths, out)
     }
 }

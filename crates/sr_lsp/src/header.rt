@@ -2,10 +2,10 @@
 
 ghost use Rattle.std.specs.Prelude.{◌≡◌, ◌≤◌, length, nat_le, ◌==◌, ◌||◌, ◌&&◌, IfOk, IfErr};
 
-use crate::fault::{Check, Malformed};
 use crate::octets::system_at;
 use sr_model::SystemId;
-use sr_subtlv::octets::{u16_at, u32_at};
+use sr_wire::octets::{u16_at, u32_at};
+use sr_wire::{Check, Malformed};
 
 /// The octets of a header.
 pub(crate) const HEADER_OCTETS: usize = 27;

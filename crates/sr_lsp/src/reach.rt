@@ -1,68 +1,131 @@
-//! Entries of extended IS reachability, TLV 22 (RFC 5305, 3).
+//! Extended IS reachability, TLV 22 (RFC 5305, 3): read, written, and what it holds.
 
-ghost use Rattle.std.specs.Prelude.{◌≡◌, ℕ, ◌≤◌, ◌+◌, ◌++◌, List, length, drop, slice_index, IfErr, IfNone, IfSome, MatchResult, OnOk};
-ghost use Rattle.sr_subtlv.specs.Link.{AreIds, IsAddr};
-ghost use Rattle.sr_subtlv.specs.Sid.{IsAdjSid};
-ghost use Rattle.sr_lsp.specs.declared.part.Part.{Part};
-ghost use Rattle.sr_lsp.specs.declared.fault.Check.TheVariants.{FieldExtent};
-ghost use Rattle.sr_lsp.specs.Fault.{IfMalformed};
-ghost use Rattle.sr_lsp.specs.Lsp.{SaysAllReaches};
-ghost use Rattle.sr_lsp.specs.Reach.{Entry, SaysLink, SaysReach, entry_layout, entry_of, entry_text};
-ghost use Rattle.sr_lsp.specs.Run.{RunFault};
-ghost use Rattle.sr_lsp.specs.Sub.{AddsAll, AddsFirst, SubFault};
+ghost use Rattle.std.specs.Prelude.{◌≡◌, ℕ, ◌↔◌, ◌<◌, ◌≤◌, ◌+◌, ◌^◌, ◌++◌, ◌∷◌, [], List, length, drop, slice_index, IfErr, IfNone, IfSome, IsTrue, MatchResult, OnOk};
+ghost use Rattle.byteorder.specs.Endian.{big_bytes};
+ghost use Rattle.sr_wire.specs.Fault.{IfMalformed};
+ghost use Rattle.sr_lsp.specs.declared.table.Part.{Part};
+ghost use Rattle.sr_lsp.specs.Reach.{Entry, FitsReach, SaysReach, entry_layout, entry_of, entry_text, reach_kind, reach_subs};
 
-use crate::lists::AdjSids;
 use crate::octets::system_at;
-use crate::part::{Part, Reach};
-use crate::read_fault::ReadFault;
-use sr_subtlv::octets::u24_at;
-use sr_subtlv::{AdjSid, LinkIds, frame, read_addr, read_adj_sid, read_ids};
+use crate::table::Part;
+use byteorder::{BigEndian, ByteOrder};
+use sr_model::SystemId;
+use sr_seq::Few;
+use sr_subtlv::{AdjSid, LinkIds, NeighbourAddr, OwnAddr};
+use sr_wire::octets::u24_at;
+use sr_wire::registry::EXTENDED_REACH;
+use sr_wire::{
+    Entries, Next, ReadFault, SubTlvs, TlvKind, add_all, add_first, all_fit, all_length,
+    all_widths, first_length, first_widths, read_entries, read_subs, write_all, write_first,
+};
 use std::alloc::{AllocError, Global};
+
+/// An entry: the neighbour, its pseudonode, the metric, the link identifiers (RFC 5307, 1.1), the addresses of both ends,
+/// and the SIDs of the adjacency (RFC 8667, 2.2.1).
+#[derive(Debug, Drop)]
+pub struct Reach {
+    pub neighbour: SystemId,
+    pub pseudonode: u8,
+    pub metric: u32,
+    pub ids: Option<LinkIds>,
+    pub local: Option<u32>,
+    pub remote: Option<u32>,
+    pub adj: Few<AdjSid>,
+}
 
 /// The octets of an entry before its sub-TLVs.
 const ENTRY_OCTETS: usize = 11;
 
-/// The types of its sub-TLVs: link identifiers, the own and the neighbour's address, and Adj-SIDs.
-const LINK_IDS: u8 = 4;
-
-const OWN_ADDR: u8 = 6;
-
-const NEIGHBOUR_ADDR: u8 = 8;
-
-const ADJ_SID: u8 = 31;
+/// What the three octets of a metric can't hold.
+const METRICS: u32 = 1 << 24;
 
 /// What the sub-TLVs of an entry say.
 #[derive(Debug, Drop)]
-struct LinkSubs {
+pub struct LinkSubs {
     ids: Option<LinkIds>,
     local: Option<u32>,
     remote: Option<u32>,
-    adj: Vec<AdjSid>,
+    adj: Few<AdjSid>,
 }
 
-/// Appends the parts that the entries of a value say.
-pub fn read_reaches(alloc: Global, value: &[u8], parts: &mut Vec<Part>) -> Result<(), ReadFault>
-    ensures says { MatchResult result (λ _. (own : List Part) × SaysAllReaches value.now own × (parts.new.items ≡ parts.old.items ++ own))
-        (λ fault. IfMalformed fault (λ malformed. RunFault entry_layout FieldExtent value.now malformed.offset malformed.check)) }
-    ensures within { IfErr result (λ fault. IfMalformed fault (λ malformed. malformed.offset ≤ length value.now)) }
-{
-    let mut at = 0;
-    while at < value.len() {
+impl SubTlvs for LinkSubs {
+    ghost use Rattle.sr_wire.specs.Fields.{AddFields, SayFields};
+    ghost use Rattle.sr_wire.proofs.FieldSteps.{all_grows, fields_grow, first_grows};
+    ghost use Rattle.sr_subtlv.specs.Addr.{neighbour_addr_sub, own_addr_sub};
+    ghost use Rattle.sr_subtlv.specs.AdjSid.{adj_sid_sub};
+    ghost use Rattle.sr_subtlv.specs.LinkIds.{ids_sub};
+    ghost use Rattle.sr_lsp.specs.Reach.{link_fields};
+
+    ghost said = { SayFields link_fields };
+
+    ghost adds = { AddFields link_fields };
+
+    ghost steps = { fields_grow link_fields (first_grows ids_sub (λ link. link.ids), (first_grows own_addr_sub (λ link. link.local), (first_grows neighbour_addr_sub (λ link. link.remote), (all_grows adj_sid_sub (λ link. link.adj), tt)))) };
+
+    fn add(&mut self, alloc: Global, kind: u8, value: &[u8]) -> Result<(), AllocError> {
+        add_first::<LinkIds, LinkIds>(alloc, &mut self.ids, kind, value)?;
+        add_first::<u32, OwnAddr>(alloc, &mut self.local, kind, value)?;
+        add_first::<u32, NeighbourAddr>(alloc, &mut self.remote, kind, value)?;
+        add_all::<AdjSid, AdjSid>(alloc, &mut self.adj, kind, value)
+    }
+}
+
+impl TlvKind<Part> for Reach {
+    ghost kind = { reach_kind };
+
+    fn read(alloc: Global, value: &[u8], parts: &mut Vec<Part>) -> Result<(), ReadFault> {
+        read_entries::<Part, Reach>(alloc, value, parts)
+    }
+
+    fn length(&self) -> u128 {
+        ENTRY_OCTETS as u128 + subs_length(self)
+    }
+
+    fn write(&self, out: &mut Vec<u8>) -> Result<(), AllocError> {
+        let subs = subs_length(self) as u8;
+        write_neighbour(self, subs, out)?;
+        write_metric(self, subs, out)?;
+        write_subs(self, out)
+    }
+
+    fn fits(&self) -> bool {
+        self.metric < METRICS && all_fit::<AdjSid, AdjSid>(self.adj.as_slice())
+    }
+
+    fn widths(&self) {
+        let _neighbour = self.neighbour.value();
+        first_widths::<LinkIds, LinkIds>(&self.ids);
+        first_widths::<u32, OwnAddr>(&self.local);
+        first_widths::<u32, NeighbourAddr>(&self.remote);
+        all_widths::<AdjSid, AdjSid>(self.adj.as_slice());
+    }
+}
+
+impl Entries<Part> for Reach {
+    ghost use Rattle.sr_lsp.specs.Reach.{SaysOne};
+
+    ghost Piece = { Entry };
+
+    ghost layout = { entry_layout };
+
+    ghost says = { SaysOne };
+
+    fn next(alloc: Global, value: &[u8], at: usize) -> Result<Next<Part>, ReadFault> {
         match entry_end(value, at) {
-            Some(end) => {
-                match read_reach(alloc, &value[at..end]) {
-                    Ok(reach) => parts.push(Part::Reach(reach))?,
-                    Err(fault) => return Err(fault.behind(at)),
-                }
-                at = end;
-            }
-            None => return Err(ReadFault::cut(at)),
+            Some(end) => match read_reach(alloc, &value[at..end]) {
+                Ok(reach) => Ok(Next {
+                    says: Some(Part::Reach(reach)),
+                    end,
+                }),
+                Err(fault) => Err(fault.behind(at)),
+            },
+            None => Err(ReadFault::cut(at)),
         }
     }
-    Ok(())
 }
 
 /// Where the entry at a place ends, if it is whole.
+#[tactic(auto, using(crate::proofs::ReachLaws::no_entry))]
 fn entry_end(value: &[u8], at: usize) -> Option<usize>
     requires { at ≤ length value.now }
     ensures none { IfNone result ((entry : Entry) (rest : List ℕ) → drop at value.now ≡ entry_text entry ++ rest → ⊥) }
@@ -80,14 +143,20 @@ fn entry_end(value: &[u8], at: usize) -> Option<usize>
     Some(at + ENTRY_OCTETS + subs)
 }
 
-/// The part that an entry says.
+/// What an entry says.
 fn read_reach(alloc: Global, entry: &[u8]) -> Result<Reach, ReadFault>
     requires { 11 ≤ length entry.now }
     ensures says { MatchResult result (λ reach. SaysReach (entry_of entry.now) reach)
         (λ fault. IfMalformed fault (λ malformed. entry_layout.fault (entry_of entry.now) malformed.offset malformed.check)) }
     ensures within { IfErr result (λ fault. IfMalformed fault (λ malformed. malformed.offset ≤ length entry.now)) }
 {
-    let subs = match read_subs(alloc, &entry[ENTRY_OCTETS..]) {
+    let none = LinkSubs {
+        ids: None,
+        local: None,
+        remote: None,
+        adj: Few::empty(alloc),
+    };
+    let subs = match read_subs(alloc, &entry[ENTRY_OCTETS..], none) {
         Ok(subs) => subs,
         Err(fault) => return Err(fault.behind(ENTRY_OCTETS)),
     };
@@ -98,54 +167,49 @@ fn read_reach(alloc: Global, entry: &[u8]) -> Result<Reach, ReadFault>
         ids: subs.ids,
         local: subs.local,
         remote: subs.remote,
-        adj: AdjSids::new(subs.adj),
+        adj: subs.adj,
     })
 }
 
-/// What sub-TLVs say.
-fn read_subs(alloc: Global, run: &[u8]) -> Result<LinkSubs, ReadFault>
-    ensures says { MatchResult result (λ said. SaysLink run.now said.ids said.local said.remote said.adj.items)
-        (λ fault. IfMalformed fault (λ malformed. SubFault run.now malformed.offset malformed.check)) }
-    ensures within { IfErr result (λ fault. IfMalformed fault (λ malformed. malformed.offset ≤ length run.now)) }
+/// How many octets the sub-TLVs have.
+fn subs_length(reach: &Reach) -> u128
+    ensures is { result ≡ length (reach_subs reach.now) }
+    ensures small { result < 2 ^ 80 }
 {
-    let mut said = LinkSubs {
-        ids: None,
-        local: None,
-        remote: None,
-        adj: Vec::new(alloc),
-    };
-    let mut at = 0;
-    while at < run.len() {
-        match frame(run, at) {
-            Ok(place) => {
-                said.add(place.kind, &run[place.from..place.to])?;
-                at = place.to;
-            }
-            Err(overrun) => return Err(ReadFault::cut(overrun.offset)),
-        }
-    }
-    Ok(said)
+    first_length::<LinkIds, LinkIds>(&reach.ids)
+        + first_length::<u32, OwnAddr>(&reach.local)
+        + first_length::<u32, NeighbourAddr>(&reach.remote)
+        + all_length::<AdjSid, AdjSid>(reach.adj.as_slice())
 }
 
-impl LinkSubs {
-    /// Adds what one more sub-TLV says.
-    fn add(&mut self, kind: u8, value: &[u8]) -> Result<(), AllocError>
-        ensures ids { OnOk result (AddsFirst 4 AreIds (record { kind = kind; value = value.now }) self.old.ids self.new.ids) }
-        ensures local { OnOk result (AddsFirst 6 IsAddr (record { kind = kind; value = value.now }) self.old.local self.new.local) }
-        ensures remote { OnOk result (AddsFirst 8 IsAddr (record { kind = kind; value = value.now }) self.old.remote self.new.remote) }
-        ensures adj { OnOk result (AddsAll 31 IsAdjSid (record { kind = kind; value = value.now }) self.old.adj.items self.new.adj.items) }
-    {
-        match kind {
-            LINK_IDS => self.ids = self.ids.or(read_ids(value)),
-            OWN_ADDR => self.local = self.local.or(read_addr(value)),
-            NEIGHBOUR_ADDR => self.remote = self.remote.or(read_addr(value)),
-            ADJ_SID => {
-                if let Some(adj) = read_adj_sid(value) {
-                    self.adj.push(adj)?;
-                }
-            }
-            _ => {}
-        }
-        Ok(())
-    }
+/// Appends the type and the length of the TLV whose sub-TLVs have so many octets, and the neighbour's system id.
+fn write_neighbour(reach: &Reach, subs: u8, out: &mut Vec<u8>) -> Result<(), AllocError>
+    requires { 11 + subs ≤ 255 }
+    ensures { OnOk result (out.new.items ≡ out.old.items ++ (EXTENDED_REACH ∷ (11 + subs) ∷ big_bytes 6 reach.now.neighbour)) }
+{
+    let mut octets = [EXTENDED_REACH, ENTRY_OCTETS as u8 + subs, 0, 0, 0, 0, 0, 0];
+    BigEndian::write_u48(&mut octets[2..], reach.neighbour.value());
+    out.extend_from_slice(&octets)
+}
+
+/// Appends the pseudonode, the metric, and how many octets the sub-TLVs have.
+fn write_metric(reach: &Reach, subs: u8, out: &mut Vec<u8>) -> Result<(), AllocError>
+    requires { FitsReach reach.now }
+    ensures { OnOk result (out.new.items ≡ out.old.items
+        ++ (reach.now.pseudonode ∷ big_bytes 3 reach.now.metric ++ subs ∷ [])) }
+{
+    let mut octets = [reach.pseudonode, 0, 0, 0, subs];
+    BigEndian::write_u24(&mut octets[1..], reach.metric);
+    out.extend_from_slice(&octets)
+}
+
+/// Appends the sub-TLVs.
+fn write_subs(reach: &Reach, out: &mut Vec<u8>) -> Result<(), AllocError>
+    requires { FitsReach reach.now }
+    ensures { OnOk result (out.new.items ≡ out.old.items ++ reach_subs reach.now) }
+{
+    write_first::<LinkIds, LinkIds>(&reach.ids, out)?;
+    write_first::<u32, OwnAddr>(&reach.local, out)?;
+    write_first::<u32, NeighbourAddr>(&reach.remote, out)?;
+    write_all::<AdjSid, AdjSid>(reach.adj.as_slice(), out)
 }

@@ -1,33 +1,33 @@
 //! Writing a link-state PDU.
 
-ghost use Rattle.std.specs.Prelude.{◌≡◌, ℕ, ◌+◌, ◌++◌, ◌∷◌, List, [], length, All, IfErr, IfOk, OnOk};
+ghost use Rattle.std.specs.Prelude.{◌≡◌, ◌↔◌, ℕ, ◌++◌, ◌∷◌, List, [], All, IfErr, IfOk, IsTrue, OnOk};
 ghost use Rattle.byteorder.specs.Endian.{big_bytes};
-ghost use Rattle.sr_lsp.specs.InRange.{FitsPart, IsInRange};
+ghost use Rattle.sr_wire.specs.Parts.{IsFirstTooLong, IsShort};
+ghost use Rattle.sr_lsp.specs.InRange.{HasPartWidths, HasWidths, IsInRange};
 ghost use Rattle.sr_lsp.specs.Lsp.{Reads};
-ghost use Rattle.sr_lsp.specs.Text.{HasSpelling, IsFirstTooLong, IsShort, header_text, lsp_text, part_text, part_value, pdu_length};
+ghost use Rattle.sr_lsp.specs.Table.{spelling};
+ghost use Rattle.sr_lsp.specs.Text.{HasSpelling, header_text, lsp_text, pdu_length};
 ghost use Rattle.sr_lsp.specs.WriteFault.{IsWriteFault};
 
-use crate::capability_text::{capability_length, write_capability};
+use crate::header::HEADER_OCTETS;
 use crate::lsp::Lsp;
-use crate::part::Part;
-use crate::prefix_text::{prefix_length, write_prefix};
-use crate::reach_text::{reach_length, write_reach};
-use crate::risk_text::{risk_length, write_risk};
-use crate::widths::widths_of_lsp;
+use crate::table::{Part, fits_part, part_length, part_widths, write_part};
 use crate::write_fault::WriteFault;
 use byteorder::{BigEndian, ByteOrder};
+use sr_wire::registry::{FRAME, LONGEST_PDU, LONGEST_VALUE};
 use std::alloc::{AllocError, Global};
 
-/// The octets of a header.
-const HEADER_OCTETS: u128 = 27;
-
-/// The octets of the type and the length of a TLV.
-const FRAME: u128 = 2;
-
-/// The longest value of a TLV, and the longest PDU, in octets.
-const LONGEST_VALUE: u128 = 255;
-
-const LONGEST_PDU: u128 = 65535;
+/// Whether every field fits its layout.
+pub fn in_range(lsp: &Lsp) -> bool
+    ensures { IsTrue result ↔ IsInRange lsp.now }
+{
+    for part in lsp.parts.as_slice() {
+        if !fits_part(part) {
+            return false;
+        }
+    }
+    true
+}
 
 /// The octets of the PDU in its one spelling: the header, and then each part in a TLV of its own, in the order of the
 /// parts. Sub-TLVs stand in ascending order of type, and what isn't there isn't written.
@@ -49,10 +49,30 @@ pub fn write_lsp(alloc: Global, lsp: &Lsp) -> Result<Vec<u8>, WriteFault>
     if octets > LONGEST_PDU {
         return Err(WriteFault::PduTooLong { length: octets });
     }
-    widths_of_lsp(lsp);
+    widths_of(lsp);
     match write_octets(alloc, lsp, octets as u16) {
         Ok(text) => Ok(text),
         Err(error) => Err(WriteFault::Memory(error)),
+    }
+}
+
+/// The numbers of the header and of every part fit their octets.
+fn widths_of(lsp: &Lsp)
+    ensures { HasWidths lsp.now }
+{
+    let _lifetime = lsp.lifetime;
+    let _system = lsp.id.system.value();
+    let _sequence = lsp.sequence;
+    let _checksum = lsp.checksum;
+    widths_of_parts(lsp.parts.as_slice());
+}
+
+/// The numbers of every part fit their octets.
+fn widths_of_parts(parts: &[Part])
+    ensures { All HasPartWidths parts.now }
+{
+    for part in parts {
+        part_widths(part);
     }
 }
 
@@ -60,10 +80,10 @@ pub fn write_lsp(alloc: Global, lsp: &Lsp) -> Result<Vec<u8>, WriteFault>
 fn lsp_length(lsp: &Lsp) -> Result<u128, usize>
     requires { IsInRange lsp.now }
     ensures is { IfOk result (λ octets. octets ≡ pdu_length lsp.now) }
-    ensures short { IfOk result (λ octets. All IsShort lsp.now.parts) }
-    ensures long { IfErr result (IsFirstTooLong lsp.now) }
+    ensures short { IfOk result (λ octets. All (IsShort spelling) lsp.now.parts) }
+    ensures long { IfErr result (IsFirstTooLong spelling lsp.now.parts) }
 {
-    let mut octets = HEADER_OCTETS;
+    let mut octets = HEADER_OCTETS as u128;
     for (place, part) in lsp.parts.as_slice().iter().enumerate() {
         let own = part_length(part);
         if own > LONGEST_VALUE {
@@ -74,23 +94,10 @@ fn lsp_length(lsp: &Lsp) -> Result<u128, usize>
     Ok(octets)
 }
 
-/// How many octets the value of the part's TLV has.
-fn part_length(part: &Part) -> u128
-    requires { FitsPart part.now }
-    ensures { result ≡ length (part_value part.now) }
-{
-    match part {
-        Part::Reach(reach) => reach_length(reach),
-        Part::Prefix(prefix) => prefix_length(prefix),
-        Part::Risk(risk) => risk_length(risk),
-        Part::Capability(capability) => capability_length(capability),
-    }
-}
-
 /// The octets of a PDU that has so many.
 fn write_octets(alloc: Global, lsp: &Lsp, octets: u16) -> Result<Vec<u8>, AllocError>
     requires fits { IsInRange lsp.now }
-    requires short { All IsShort lsp.now.parts }
+    requires short { All (IsShort spelling) lsp.now.parts }
     requires whole { octets ≡ pdu_length lsp.now }
     ensures { IfOk result (λ text. text.items ≡ lsp_text lsp.now) }
 {
@@ -100,20 +107,6 @@ fn write_octets(alloc: Global, lsp: &Lsp, octets: u16) -> Result<Vec<u8>, AllocE
         write_part(part, &mut out)?;
     }
     Ok(out)
-}
-
-/// Appends the TLV of a part.
-fn write_part(part: &Part, out: &mut Vec<u8>) -> Result<(), AllocError>
-    requires fits { FitsPart part.now }
-    requires short { IsShort part.now }
-    ensures { OnOk result (out.new.items ≡ out.old.items ++ part_text part.now) }
-{
-    match part {
-        Part::Reach(reach) => write_reach(reach, out),
-        Part::Prefix(prefix) => write_prefix(prefix, out),
-        Part::Risk(risk) => write_risk(risk, out),
-        Part::Capability(capability) => write_capability(capability, out),
-    }
 }
 
 /// Appends the header of a PDU of so many octets.

@@ -11,9 +11,9 @@ mod repair;
 mod rule;
 mod text;
 
-pub use audit::{Counts, Item, Stack};
+pub use audit::{Counts, Item};
 pub use case::{Case, Kind};
-pub use entry::{Entry, Hops, Move, Out};
+pub use entry::{Entry, Move, Out};
 pub use label::{AdjLabel, LabelRule, Range};
 pub use link::{FAR, Link, LinkNo, NodeNo};
 pub use name::{Ident, LinkKey, PairKey, SystemId};

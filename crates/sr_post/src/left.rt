@@ -9,14 +9,15 @@ ghost use Rattle.sr_post.specs.Post.{IsPost};
 
 use sr_graph::LinkSet;
 use sr_model::{FAR, NodeNo};
-use sr_spf::Row;
+use sr_seq::Seq;
 use std::marker::Model;
 
 /// What is left after the failure of a case: the failed links, and the distances from the source without them.
 #[derive(Debug, Drop)]
 pub struct Post {
     failed: LinkSet,
-    row: Row,
+    /// The distance from the source to each node, by number; `FAR` where there is no walk.
+    row: Seq<u64>,
 }
 
 impl Model for Post {
@@ -29,7 +30,7 @@ impl Model for Post {
 
 impl Post {
     /// What is left, of these parts.
-    pub(crate) fn new(failed: LinkSet, row: Row) -> Post
+    pub(crate) fn new(failed: LinkSet, row: Seq<u64>) -> Post
         ensures { result ≡ record { failed = failed; cells = row } }
     {
         Post { failed, row }
@@ -46,7 +47,7 @@ impl Post {
     pub fn cells(&self) -> &[u64]
         ensures { result.now ≡ self.now.cells }
     {
-        self.row.cells()
+        self.row.as_slice()
     }
 
     /// The distance from the source to the node without the failed links. None exactly where there is no walk.
@@ -55,7 +56,7 @@ impl Post {
         ensures cell { result ≡ distance_of (slice_index self.now.cells v.0) }
         ensures distance { (n : Labelled) (case : Failure) → IsPost n case self.now → (x : List Bool) → IsFailedSet n.graph case x → Distance n.graph x (source_of n.graph case) v.0 result }
     {
-        let cell = self.row.cells()[v.0 as usize];
+        let cell = self.row.as_slice()[v.0 as usize];
         if cell < FAR { Some(cell) } else { None }
     }
 }

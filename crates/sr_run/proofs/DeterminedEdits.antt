@@ -4,11 +4,9 @@ use Rattle.sr_model.specs.declared.name.LinkKey.{LinkKey}
 use Rattle.sr_model.specs.declared.rule.DomainRule.{DomainRule}
 use Rattle.sr_model.specs.Graph.{IsNamed}
 use Rattle.sr_model.specs.Label.{Net}
-use Rattle.sr_lsp.specs.declared.fault.Malformed.{Malformed}
+use Rattle.sr_wire.specs.declared.fault.Malformed.{Malformed}
 use Rattle.sr_lsp.specs.declared.lsp.Lsp.{Lsp}
-use Rattle.sr_lsp.proofs.LspLemmas.{not_broken}
-use Rattle.sr_lsp.proofs.SameFaultLemmas.{same_fault}
-use Rattle.sr_lsp.proofs.SameLspLemmas.{same_lsp}
+use Rattle.sr_lsp.proofs.LspLemmas.{not_broken, same_fault, same_lsp}
 use Rattle.sr_lsdb.specs.declared.facts.Stored.{Stored}
 use Rattle.sr_lsdb.specs.Edit.{Edit}
 use Rattle.sr_lsdb.specs.Edit.Edit.{Announce}

@@ -3,9 +3,9 @@ use Rattle.std.specs.Prelude.{◌≡◌, ℕ, ◌+◌, ◌<◌, ◌≤◌, ◌�
 use Rattle.sr_model.specs.declared.name.LinkKey.{LinkKey}
 use Rattle.sr_model.specs.declared.rule.DomainRule.{DomainRule}
 use Rattle.sr_model.specs.Label.{Net}
-use Rattle.sr_lsp.specs.declared.fault.Malformed.{Malformed}
+use Rattle.sr_wire.specs.declared.fault.Malformed.{Malformed}
 use Rattle.sr_lsp.specs.declared.lsp.Lsp.{Lsp}
-use Rattle.sr_lsp.specs.Header.{check_number}
+use Rattle.sr_wire.specs.Fault.{check_number}
 use Rattle.sr_lsp.specs.Lsp.{Reads, IsBroken}
 use Rattle.sr_lsdb.specs.Edit.{Edit}
 use Rattle.sr_lsdb.specs.Edit.Edit.{Announce}

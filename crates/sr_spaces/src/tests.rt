@@ -6,8 +6,9 @@ ghost use Rattle.sr_graph.specs.Draft.{IsDraft};
 ghost use Rattle.sr_spf.specs.Trees.{AreTrees};
 
 use crate::{NodeSet, Spaces, extended_p, p_row, q_set};
-use sr_graph::{Draft, DraftLink, DraftLinks, Graph, Groups, SystemIds};
+use sr_graph::{Draft, DraftLink, Graph};
 use sr_model::{Case, Ident, Kind, LinkKey, LinkNo, NodeNo, SystemId};
+use sr_seq::Seq;
 use sr_spf::{Steps, Trees};
 use std::alloc::{AllocError, Global};
 use std::marker::Brand;
@@ -36,7 +37,7 @@ fn link(alloc: Global, from: u64, to: u64) -> DraftLink
             ident: Ident::None,
         },
         metric: 1,
-        groups: Groups::new(Vec::new(alloc)),
+        groups: Seq::new(Vec::new(alloc)),
     }
 }
 
@@ -56,8 +57,8 @@ fn ring_of_four(alloc: Global) -> Result<Draft, AllocError>
         link(alloc, 1, 4),
     ]?;
     Ok(Draft {
-        nodes: SystemIds::new(nodes),
-        links: DraftLinks::new(links),
+        nodes: Seq::new(nodes),
+        links: Seq::new(links),
     })
 }
 
@@ -79,8 +80,8 @@ fn ring_of_five(alloc: Global) -> Result<Draft, AllocError>
         link(alloc, 1, 5),
     ]?;
     Ok(Draft {
-        nodes: SystemIds::new(nodes),
-        links: DraftLinks::new(links),
+        nodes: Seq::new(nodes),
+        links: Seq::new(links),
     })
 }
 

@@ -7,11 +7,11 @@ ghost use Rattle.sr_spf.specs.Relax.{IsTentative};
 ghost use Rattle.sr_spf.specs.Queue.{IsQueued};
 ghost use Rattle.sr_spf.specs.Begun.{IsBegun, IsLeastWay};
 
-use crate::cells::Row;
 use crate::dijkstra::{Queue, settle};
 use crate::steps::Steps;
 use sr_graph::{Graph, LinkSet};
 use sr_model::NodeNo;
+use sr_seq::Seq;
 use std::alloc::{AllocError, Global};
 use std::cmp::Reverse;
 use std::collections::BinaryHeap;
@@ -58,8 +58,8 @@ fn enter(
     Ok(())
 }
 
-/// The distances from the source in the graph without these links, where those of all nodes but the lost ones are known.
-/// One search is counted.
+/// The distances from the source in the graph without these links, where those of all nodes but the lost ones are known:
+/// the distance to each node, by number; `FAR` where there is no walk. One search is counted.
 pub fn row_after<L: Ledger>(
     alloc: Global,
     graph: &Graph,
@@ -68,7 +68,7 @@ pub fn row_after<L: Ledger>(
     mut cells: Vec<u64>,
     lost: &[NodeNo],
     steps: &mut Steps<L>,
-) -> Result<Row, AllocError>
+) -> Result<Seq<u64>, AllocError>
     requires source { source.0 < node_count graph.now }
     requires begun { IsBegun graph.now without.now source.0 cells.items lost.now }
     ensures row { IfOk result (λ r. IsRow graph.now without.now source.0 r) }
@@ -78,5 +78,5 @@ pub fn row_after<L: Ledger>(
     let mut queue = BinaryHeap::with_capacity(alloc, lost.len())?;
     enter(graph, without, source, lost, &mut cells, &mut queue)?;
     settle(graph, without, source, &mut cells, &mut queue)?;
-    Ok(Row::new(cells))
+    Ok(Seq::new(cells))
 }

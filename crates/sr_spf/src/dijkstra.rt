@@ -6,10 +6,10 @@ ghost use Rattle.sr_model.specs.Walk.{IsRow};
 ghost use Rattle.sr_spf.specs.Relax.{relaxed, falls};
 ghost use Rattle.sr_spf.specs.Queue.{IsQueued};
 
-use crate::cells::Row;
 use crate::steps::Steps;
 use sr_graph::{Edge, Graph, LinkRange, LinkSet};
 use sr_model::{FAR, LinkNo, NodeNo};
+use sr_seq::Seq;
 use std::alloc::{AllocError, Global};
 use std::cmp::Reverse;
 use std::collections::BinaryHeap;
@@ -87,14 +87,15 @@ pub(crate) fn settle(
     Ok(())
 }
 
-/// The distances from the source in the graph without these links. One search is counted.
+/// The distances from the source in the graph without these links: the distance to each node, by number; `FAR` where
+/// there is no walk. One search is counted.
 pub fn row<L: Ledger>(
     alloc: Global,
     graph: &Graph,
     without: &LinkSet,
     source: NodeNo,
     steps: &mut Steps<L>,
-) -> Result<Row, AllocError>
+) -> Result<Seq<u64>, AllocError>
     requires source { source.0 < node_count graph.now }
     ensures row { IfOk result (λ r. IsRow graph.now without.now source.0 r) }
     ensures steps { steps.new ≡ steps.old + 1 }
@@ -106,5 +107,5 @@ pub fn row<L: Ledger>(
     cells[source.0 as usize] = 0;
     queue.push(Reverse((0, source.0)))?;
     settle(graph, without, source, &mut cells, &mut queue)?;
-    Ok(Row::new(cells))
+    Ok(Seq::new(cells))
 }

@@ -6,9 +6,9 @@ ghost use Rattle.sr_model.specs.declared.link.TheConstants.{FAR as Far};
 ghost use Rattle.sr_spf.specs.Hops.{hops_to, AddsNextHops, AreHopsFrom, IsCut};
 ghost use Rattle.sr_spf.specs.Trees.{AreRows, row_at};
 
-use crate::cells::Row;
 use sr_graph::{Graph, LinkRange};
 use sr_model::{FAR, LinkNo, NodeNo};
+use sr_seq::Seq;
 use std::alloc::{AllocError, Global};
 use std::marker::Model;
 
@@ -51,7 +51,7 @@ impl HopTable {
 }
 
 /// Whether the link begins a shortest walk to the node. `whole` is the distance to the node from where the link begins.
-fn is_next_hop(graph: &Graph, rows: &[Row], link: LinkNo, to: NodeNo, whole: u64) -> bool
+fn is_next_hop(graph: &Graph, rows: &[Seq<u64>], link: LinkNo, to: NodeNo, whole: u64) -> bool
     requires rows { AreRows graph.now rows.now (node_count graph.now) }
     requires link { link.0 < link_count graph.now }
     requires to { to.0 < node_count graph.now }
@@ -60,7 +60,7 @@ fn is_next_hop(graph: &Graph, rows: &[Row], link: LinkNo, to: NodeNo, whole: u64
     ensures { IsTrue result ↔ IsNextHop graph.now [] (tail graph.now link.0) to.0 link.0 }
 {
     let edge = graph.edge(link);
-    let rest = rows[edge.to.0 as usize].cells()[to.0 as usize];
+    let rest = rows[edge.to.0 as usize].as_slice()[to.0 as usize];
     if edge.metric as u64 + rest != whole {
         return false;
     }
@@ -70,7 +70,7 @@ fn is_next_hop(graph: &Graph, rows: &[Row], link: LinkNo, to: NodeNo, whole: u64
 /// Adds the next hops from one node to another, ascending.
 fn push_hops(
     graph: &Graph,
-    rows: &[Row],
+    rows: &[Seq<u64>],
     from: NodeNo,
     to: NodeNo,
     links: &mut Vec<LinkNo>,
@@ -82,7 +82,7 @@ fn push_hops(
     ensures few { OnOk result (length links.new.items ≤ length links.old.items + link_count graph.now) }
 {
     let LinkRange { first, end } = graph.links_from(from);
-    let whole = rows[from.0 as usize].cells()[to.0 as usize];
+    let whole = rows[from.0 as usize].as_slice()[to.0 as usize];
     if whole >= FAR {
         return Ok(());
     }
@@ -98,7 +98,7 @@ fn push_hops(
 pub(crate) fn hops_of(
     alloc: Global,
     graph: &Graph,
-    rows: &[Row],
+    rows: &[Seq<u64>],
     node: NodeNo,
 ) -> Result<HopTable, AllocError>
     requires rows { AreRows graph.now rows.now (node_count graph.now) }

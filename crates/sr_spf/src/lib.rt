@@ -3,7 +3,6 @@
 #![tactic(auto)]
 
 mod begun;
-mod cells;
 mod dijkstra;
 mod hops;
 mod rows;
@@ -13,7 +12,6 @@ mod tests;
 mod trees;
 
 pub use begun::row_after;
-pub use cells::Row;
 pub use dijkstra::row;
 pub use steps::{Searched, Steps};
 pub use trees::Trees;

@@ -5,12 +5,12 @@ ghost use Rattle.sr_model.specs.Walk.{IsRow};
 ghost use Rattle.sr_spf.specs.Trees.{AreRows};
 ghost use Rattle.sr_spf.specs.Rows.{rows_in};
 
-use crate::cells::Row;
 use crate::dijkstra::row;
 use crate::steps::{Searched, Steps};
 use crate::trees::NODES;
 use sr_graph::{Graph, LinkSet};
 use sr_model::NodeNo;
+use sr_seq::Seq;
 use sr_threads::made_of_each;
 use std::alloc::{AllocError, Global};
 use std::marker::Brand;
@@ -20,7 +20,8 @@ use std::thread::Threads;
 /// The distances from one node, and that the search for them was counted.
 #[derive(Drop)]
 pub(crate) struct Counted {
-    pub(crate) row: Row,
+    /// The distance to each node, by number; `FAR` where there is no walk.
+    pub(crate) row: Seq<u64>,
     pub(crate) searched: Searched,
 }
 
@@ -81,7 +82,7 @@ fn all_taken_in<L: Ledger>(
     alloc: Global,
     all: Vec<Counted>,
     steps: &mut Steps<L>,
-) -> Result<Vec<Row>, AllocError>
+) -> Result<Vec<Seq<u64>>, AllocError>
     ensures rows { IfOk result (λ rows. rows.items ≡ rows_in all.items) }
     ensures steps { OnOk result (steps.new ≡ steps.old + length all.items) }
     ensures most { steps.new ≤ steps.old + length all.items }
@@ -102,7 +103,7 @@ pub(crate) fn rows_of<L: Ledger>(
     alloc: Global,
     graph: &Graph,
     steps: &mut Steps<L>,
-) -> Result<Vec<Row>, AllocError>
+) -> Result<Vec<Seq<u64>>, AllocError>
     ensures rows { IfOk result (λ rows. AreRows graph.now rows.items (node_count graph.now)) }
     ensures steps { OnOk result (steps.new ≡ steps.old + node_count graph.now) }
     ensures most { steps.new ≤ steps.old + node_count graph.now }

@@ -7,9 +7,10 @@ ghost use Rattle.sr_spf.specs.Trees.{tree_count};
 
 mod drawn;
 
-use crate::{Row, Steps, Trees, row};
-use sr_graph::{Draft, DraftLink, DraftLinks, Graph, Groups, LinkSet, SystemIds};
+use crate::{Steps, Trees, row};
+use sr_graph::{Draft, DraftLink, Graph, LinkSet};
 use sr_model::{Case, FAR, Ident, Kind, LinkKey, LinkNo, NodeNo, SystemId};
+use sr_seq::Seq;
 use std::alloc::{AllocError, Global};
 use std::marker::Brand;
 use std::sync::ledger::{Blank, Ledger};
@@ -37,7 +38,7 @@ fn link(alloc: Global, from: u64, to: u64, metric: u32) -> DraftLink
             ident: Ident::None,
         },
         metric,
-        groups: Groups::new(Vec::new(alloc)),
+        groups: Seq::new(Vec::new(alloc)),
     }
 }
 
@@ -59,8 +60,8 @@ fn ring(alloc: Global, metric: u32, other: u32) -> Result<Draft, AllocError>
         link(alloc, 2, 1, metric),
     ]?;
     Ok(Draft {
-        nodes: SystemIds::new(nodes),
-        links: DraftLinks::new(links),
+        nodes: Seq::new(nodes),
+        links: Seq::new(links),
     })
 }
 
@@ -72,8 +73,8 @@ fn chain(alloc: Global, metric: u32) -> Result<Draft, AllocError>
     let nodes = vec![in alloc; id(1), id(2), id(3), id(4)]?;
     let links = vec![in alloc; link(alloc, 2, 3, metric), link(alloc, 1, 2, 10)]?;
     Ok(Draft {
-        nodes: SystemIds::new(nodes),
-        links: DraftLinks::new(links),
+        nodes: Seq::new(nodes),
+        links: Seq::new(links),
     })
 }
 
@@ -106,7 +107,7 @@ fn row_from<L: Ledger>(
     without: &LinkSet,
     source: NodeNo,
     blank: Blank,
-) -> Result<Row, AllocError>
+) -> Result<Seq<u64>, AllocError>
     requires source { source.0 < node_count graph.now }
     requires name { blank.name ≡ L.name }
     requires parts { (blank.parts ≡ L.parts) × (0 < L.parts) }
@@ -121,7 +122,7 @@ fn row_of(
     graph: &Graph,
     without: &LinkSet,
     source: NodeNo,
-) -> Result<Row, AllocError>
+) -> Result<Seq<u64>, AllocError>
     requires { source.0 < node_count graph.now }
 {
     row_from::<Brand>(alloc, graph, without, source, Blank::new(1))
@@ -180,7 +181,7 @@ fn is_as_by_rounds(
 {
     let lowest = lowest_by_rounds(alloc, graph, without, source)?;
     let row = row_of(alloc, graph, without, source)?;
-    Ok(row.cells() == lowest.as_slice())
+    Ok(row.as_slice() == lowest.as_slice())
 }
 
 /// In order of key the links are 1 to 2, 1 to 4, 2 to 1, 2 to 3, 3 to 2, 3 to 4, 4 to 1 and 4 to 3.
@@ -222,7 +223,7 @@ fn a_ring_without_a_pair_is_a_chain(rt: HostRuntime) -> Result<(), Fail> {
         },
     )?;
     let row = row_of(alloc, &graph, &failed, NodeNo(0))?;
-    assert_eq!(rt; row.cells(), [0, 3, 2, 1].as_slice());
+    assert_eq!(rt; row.as_slice(), [0, 3, 2, 1].as_slice());
     Ok(())
 }
 
@@ -251,7 +252,7 @@ fn no_walk_passes_through_an_overloaded_node(rt: HostRuntime) -> Result<(), Fail
         },
     )?;
     let row = row_of(alloc, &graph, &failed, NodeNo(0))?;
-    assert_eq!(rt; row.cells(), [0, FAR, FAR, 1].as_slice());
+    assert_eq!(rt; row.as_slice(), [0, FAR, FAR, 1].as_slice());
     Ok(())
 }
 

@@ -5,12 +5,12 @@ ghost use Rattle.sr_model.specs.Walk.{Distance};
 ghost use Rattle.sr_spf.specs.Hops.{AreNextHops, AreHopsFrom};
 ghost use Rattle.sr_spf.specs.Trees.{AreTrees, AreRows, AreHops, row_at, cell_at, hops_at, lists_at, tree_count, distance_of};
 
-use crate::cells::Row;
 use crate::hops::{HopTable, hops_of};
 use crate::rows::rows_of;
 use crate::steps::Steps;
 use sr_graph::Graph;
 use sr_model::{FAR, LinkNo, NodeNo};
+use sr_seq::Seq;
 use sr_threads::{Share, made_of_each};
 use std::alloc::{AllocError, Global};
 use std::marker::Model;
@@ -26,7 +26,8 @@ pub(crate) const NODES: Share = Share {
 /// The shortest-path trees of all nodes of a graph: the distances, and the next hops, between all of them.
 #[derive(Debug, Drop)]
 pub struct Trees {
-    rows: Vec<Row>,
+    /// For each node the distance to each node, by number; `FAR` where there is no walk.
+    rows: Vec<Seq<u64>>,
     hops: Vec<HopTable>,
 }
 
@@ -45,7 +46,7 @@ fn hops_of_all(
     rt: &(impl Threads + Sync),
     alloc: Global,
     graph: &Graph,
-    rows: &[Row],
+    rows: &[Seq<u64>],
 ) -> Result<Vec<HopTable>, AllocError>
     requires { AreRows graph.now rows.now (node_count graph.now) }
     ensures { IfOk result (λ hops. AreHops graph.now hops.items (node_count graph.now)) }
@@ -84,7 +85,7 @@ impl Trees {
         ensures cell { result ≡ distance_of (cell_at self.now from.0 to.0) }
         ensures distance { (g : Topology) → AreTrees g self.now → Distance g [] from.0 to.0 result }
     {
-        let cell = self.rows[from.0 as usize].cells()[to.0 as usize];
+        let cell = self.rows[from.0 as usize].as_slice()[to.0 as usize];
         if cell < FAR { Some(cell) } else { None }
     }
 
@@ -94,7 +95,7 @@ impl Trees {
         ensures cells { result.now ≡ row_at self.now.rows from.0 }
         ensures long { length result.now ≡ tree_count self.now }
     {
-        self.rows[from.0 as usize].cells()
+        self.rows[from.0 as usize].as_slice()
     }
 
     /// The next hops from a node.

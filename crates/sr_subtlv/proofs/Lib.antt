@@ -1,5 +1,7 @@
-pub mod Bytes
-pub mod Codes
-pub mod TlvLemmas
-pub mod MsdLemmas
-pub mod SrCapLemmas
+pub mod SidLemmas
+pub mod PrefixSidLaws
+pub mod AdjSidLaws
+pub mod AddrLaws
+pub mod LinkIdsLaws
+pub mod MsdLaws
+pub mod SrCapLaws

@@ -1,6 +1,7 @@
-pub mod Octets
-pub mod Tlv
 pub mod Sid
-pub mod Link
+pub mod PrefixSid
+pub mod AdjSid
+pub mod Addr
+pub mod LinkIds
 pub mod Msd
 pub mod SrCap

@@ -1,44 +1,61 @@
-//! Adj-SIDs (RFC 8667, 2.2.1).
+//! Adj-SIDs (RFC 8667, 2.2.1): read, written, and what they hold.
 
-ghost use Rattle.std.specs.Prelude.{◌≡◌, ◌++◌, ◌↔◌, MatchOption, OnErr, OnOk};
-ghost use Rattle.sr_subtlv.specs.declared.sid.AdjSid.{AdjSid};
-ghost use Rattle.sr_subtlv.specs.Sid.{FitsAdjSid, IsAdjSid, adj_sid_text, adj_sid_value};
+ghost use Rattle.std.specs.Prelude.{◌≡◌, ◌↔◌};
+ghost use Rattle.sr_subtlv.specs.declared.adj_sid.AdjSid.{AdjSid};
+ghost use Rattle.sr_subtlv.specs.AdjSid.{FitsAdjSid, IsAdjSid, adj_sid_value};
 
-use crate::sid::AdjSid;
-use crate::sid_octets::{read_sid, write_sid};
-use std::alloc::AllocError;
+use crate::sid::{Sid, fits_sid, read_sid, sid_length, write_sid};
+use sr_wire::SubKind;
+use sr_wire::registry::{ADJ_SID, ADJ_SID_FORM};
+use std::alloc::{AllocError, Global};
 
-/// The type of the sub-TLV.
-const ADJ_SID: u8 = 31;
-
-/// The V and the L flag.
-const FORM: u8 = 0x30;
-
-/// The Adj-SID of a sub-TLV's value, or `None` exactly where the value is set aside: it is too short, or the SID
-/// hasn't the form that the V and L flags tell.
-pub fn read_adj_sid(value: &[u8]) -> Option<AdjSid>
-    ensures { MatchOption result ((adj_sid : AdjSid) → IsAdjSid value.now adj_sid → ⊥) (IsAdjSid value.now) }
-{
-    if value.len() < 2 {
-        return None;
-    }
-    match read_sid(FORM, value[0], &value[2..]) {
-        Some(sid) => Some(AdjSid {
-            flags: value[0],
-            weight: value[1],
-            sid,
-        }),
-        None => None,
-    }
+/// The SID of an adjacency (RFC 8667, 2.2.1).
+#[derive(Clone, Copy, Debug, PartialEq, Eq)]
+pub struct AdjSid {
+    pub flags: u8,
+    pub weight: u8,
+    pub sid: Sid,
 }
 
-/// Appends the sub-TLV of an Adj-SID.
-pub fn write_adj_sid(adj_sid: &AdjSid, out: &mut Vec<u8>) -> Result<(), AllocError>
-    requires { FitsAdjSid adj_sid.now }
-    ensures ok { OnOk result (out.new.items ≡ out.old.items ++ adj_sid_text adj_sid.now) }
-    ensures err { OnErr result (out.new.items ≡ out.old.items) }
-{
-    write_sid(ADJ_SID, adj_sid.flags, adj_sid.weight, adj_sid.sid, out)
+impl SubKind<AdjSid> for AdjSid {
+    ghost use Rattle.sr_subtlv.specs.AdjSid.{adj_sid_sub};
+
+    ghost sub = { adj_sid_sub };
+
+    ghost most = { 6 };
+
+    fn kind() -> u8 {
+        ADJ_SID
+    }
+
+    /// A value says nothing where it is too short, or where the SID hasn't the form that the V and L flags tell.
+    fn read(_alloc: Global, value: &[u8]) -> Result<Option<AdjSid>, AllocError> {
+        if value.len() < 2 {
+            return Ok(None);
+        }
+        match read_sid(ADJ_SID_FORM, value[0], &value[2..]) {
+            Some(sid) => Ok(Some(AdjSid {
+                flags: value[0],
+                weight: value[1],
+                sid,
+            })),
+            None => Ok(None),
+        }
+    }
+
+    fn length(x: &AdjSid) -> u128 {
+        sid_length(x.sid)
+    }
+
+    fn write(x: &AdjSid, out: &mut Vec<u8>) -> Result<(), AllocError> {
+        write_sid(ADJ_SID, x.flags, x.weight, x.sid, out)
+    }
+
+    fn fits(x: &AdjSid) -> bool {
+        fits_sid(ADJ_SID_FORM, x.flags, x.sid)
+    }
+
+    fn widths(_x: &AdjSid) {}
 }
 
 /// What is written of an Adj-SID is read as that Adj-SID, and as no other.

@@ -1,113 +1,104 @@
 use super::*;
 use sr_model::Range;
+use sr_seq::{Few, Seq};
+use sr_wire::{SubKind, add_all, add_first, all_length, first_length, write_all, write_first};
 use std::alloc::{AllocError, Global};
 use std::test::Fail;
 
 #[test]
-fn places(rt: HostRuntime) -> Result<(), Fail> {
-    let alloc = rt.alloc();
-    // A sub-TLV 6 of four octets and an empty sub-TLV 4.
-    let run = [0x06, 0x04, 0x0a, 0x01, 0x00, 0x02, 0x04, 0x00];
-    assert_eq!(rt;
-        frame(&run, 0),
-        Ok(Frame {
-            kind: 6,
-            from: 2,
-            to: 6
-        })
-    );
-    assert_eq!(rt;
-        frame(&run, 6),
-        Ok(Frame {
-            kind: 4,
-            from: 8,
-            to: 8
-        })
-    );
-    assert_eq!(rt; frame(&run[..5], 0), Err(Overrun { offset: 0 }));
-    assert_eq!(rt; frame(&run[..7], 6), Err(Overrun { offset: 6 }));
-    assert_eq!(rt; frame(&[0x06], 0), Err(Overrun { offset: 0 }));
-    let shown = format!(in alloc; "{}", Overrun { offset: 6 })?;
-    assert_eq!(rt; shown.as_str(), "the TLV at octet 6 passes the end");
-    Ok(())
-}
-
-#[test]
 fn prefix_sids(rt: HostRuntime) -> Result<(), Fail> {
+    let alloc = rt.alloc();
     let text = [0x03, 0x06, 0x40, 0x00, 0x00, 0x00, 0x00, 0x01];
     let index = PrefixSid {
         flags: 0x40,
         algorithm: 0,
         sid: Sid::Index(1),
     };
-    assert_eq!(rt; read_prefix_sid(&text[2..]), Some(index));
-    let mut out = Vec::new(rt.alloc());
-    write_prefix_sid(&index, &mut out)?;
-    assert_eq!(rt; out.as_slice(), text.as_slice());
-    // Too short, an index where V is set, a label with L clear.
-    assert_eq!(rt; read_prefix_sid(&[0x40, 0x00, 0x00, 0x01]), None);
-    assert_eq!(rt;
-        read_prefix_sid(&[0x48, 0x00, 0x00, 0x00, 0x00, 0x01]),
-        None
-    );
-    assert_eq!(rt; read_prefix_sid(&[0x48, 0x00, 0x00, 0x3e, 0x81]), None);
     let label = PrefixSid {
         flags: 0x4c,
         algorithm: 1,
         sid: Sid::Label(16001),
     };
-    assert_eq!(rt;
-        read_prefix_sid(&[0x4c, 0x01, 0x00, 0x3e, 0x81]),
-        Some(label)
-    );
+    // Too short, an index where V is set, a label with L clear.
+    let values = [
+        (&text[2..], Some(index)),
+        (&[0x40, 0x00, 0x00, 0x01], None),
+        (&[0x48, 0x00, 0x00, 0x00, 0x00, 0x01], None),
+        (&[0x48, 0x00, 0x00, 0x3e, 0x81], None),
+        (&[0x4c, 0x01, 0x00, 0x3e, 0x81], Some(label)),
+    ];
+    for (value, want) in values {
+        assert_eq!(rt; PrefixSid::read(alloc, value)?, want);
+    }
+    let mut out = Vec::new(alloc);
+    PrefixSid::write(&index, &mut out)?;
+    assert_eq!(rt; out.as_slice(), text.as_slice());
     Ok(())
 }
 
 #[test]
 fn adj_sids(rt: HostRuntime) -> Result<(), Fail> {
+    let alloc = rt.alloc();
     let text = [0x1f, 0x05, 0x30, 0x00, 0x00, 0x5d, 0xc1];
     let label = AdjSid {
         flags: 0x30,
         weight: 0,
         sid: Sid::Label(24001),
     };
-    assert_eq!(rt; read_adj_sid(&text[2..]), Some(label));
-    let mut out = Vec::new(rt.alloc());
-    write_adj_sid(&label, &mut out)?;
-    assert_eq!(rt; out.as_slice(), text.as_slice());
-    // The four upper bits of a label's octets are unused.
-    assert_eq!(rt; read_adj_sid(&[0x30, 0x00, 0xf0, 0x5d, 0xc1]), Some(label));
-    assert_eq!(rt; read_adj_sid(&[0x20, 0x00, 0x00, 0x5d, 0xc1]), None);
     let index = AdjSid {
         flags: 0x04,
         weight: 3,
         sid: Sid::Index(7),
     };
-    assert_eq!(rt;
-        read_adj_sid(&[0x04, 0x03, 0x00, 0x00, 0x00, 0x07]),
-        Some(index)
-    );
+    // The four upper bits of a label's octets are unused.
+    let values = [
+        (&text[2..], Some(label)),
+        (&[0x30, 0x00, 0xf0, 0x5d, 0xc1], Some(label)),
+        (&[0x20, 0x00, 0x00, 0x5d, 0xc1], None),
+        (&[0x04, 0x03, 0x00, 0x00, 0x00, 0x07], Some(index)),
+    ];
+    for (value, want) in values {
+        assert_eq!(rt; AdjSid::read(alloc, value)?, want);
+    }
+    let mut out = Vec::new(alloc);
+    AdjSid::write(&label, &mut out)?;
+    assert_eq!(rt; out.as_slice(), text.as_slice());
     Ok(())
 }
 
 #[test]
-fn addresses_and_identifiers(rt: HostRuntime) -> Result<(), Fail> {
-    let addr = [0x06, 0x04, 0x0a, 0x01, 0x00, 0x01];
-    assert_eq!(rt; read_addr(&addr[2..]), Some(0x0a01_0001));
-    assert_eq!(rt; read_addr(&addr[1..]), None);
-    let mut out = Vec::new(rt.alloc());
-    write_addr(6, 0x0a01_0001, &mut out)?;
-    assert_eq!(rt; out.as_slice(), addr.as_slice());
-    let ids = [0x04, 0x08, 0x00, 0x00, 0x00, 0x01, 0x00, 0x00, 0x00, 0x04];
-    let read = LinkIds {
+fn addresses(rt: HostRuntime) -> Result<(), Fail> {
+    let alloc = rt.alloc();
+    let own = [0x06, 0x04, 0x0a, 0x01, 0x00, 0x01];
+    assert_eq!(rt; OwnAddr::read(alloc, &own[2..])?, Some(0x0a01_0001));
+    assert_eq!(rt; OwnAddr::read(alloc, &own[1..])?, None);
+    let mut out = Vec::new(alloc);
+    OwnAddr::write(&0x0a01_0001, &mut out)?;
+    assert_eq!(rt; out.as_slice(), own.as_slice());
+    let neighbour = [0x08, 0x04, 0x0a, 0x01, 0x00, 0x02];
+    assert_eq!(rt;
+        NeighbourAddr::read(alloc, &neighbour[2..])?,
+        Some(0x0a01_0002)
+    );
+    let mut out = Vec::new(alloc);
+    NeighbourAddr::write(&0x0a01_0002, &mut out)?;
+    assert_eq!(rt; out.as_slice(), neighbour.as_slice());
+    Ok(())
+}
+
+#[test]
+fn identifiers(rt: HostRuntime) -> Result<(), Fail> {
+    let alloc = rt.alloc();
+    let text = [0x04, 0x08, 0x00, 0x00, 0x00, 0x01, 0x00, 0x00, 0x00, 0x04];
+    let ids = LinkIds {
         local: 1,
         remote: 4,
     };
-    assert_eq!(rt; read_ids(&ids[2..]), Some(read));
-    assert_eq!(rt; read_ids(&ids[1..]), None);
-    let mut out = Vec::new(rt.alloc());
-    write_ids(read, &mut out)?;
-    assert_eq!(rt; out.as_slice(), ids.as_slice());
+    assert_eq!(rt; LinkIds::read(alloc, &text[2..])?, Some(ids));
+    assert_eq!(rt; LinkIds::read(alloc, &text[1..])?, None);
+    let mut out = Vec::new(alloc);
+    LinkIds::write(&ids, &mut out)?;
+    assert_eq!(rt; out.as_slice(), text.as_slice());
     Ok(())
 }
 
@@ -116,23 +107,23 @@ fn depths(rt: HostRuntime) -> Result<(), Fail> {
     let alloc = rt.alloc();
     let text = [0x17, 0x04, 0x01, 0x0a, 0x02, 0x03];
     let msds = [Msd { kind: 1, value: 10 }, Msd { kind: 2, value: 3 }];
-    let read = read_msd(alloc, &text[2..])?;
+    let read = Msd::read(alloc, &text[2..])?;
     assert_eq!(rt;
-        read.map(Msds::into_vec),
+        read.map(Seq::into_vec),
         Some(Vec::from_slice(alloc, &msds)?)
     );
-    assert!(rt; read_msd(alloc, &text[3..])?.is_none());
-    let none = read_msd(alloc, &[])?;
-    assert_eq!(rt; none.map(Msds::into_vec), Some(Vec::new(alloc)));
+    assert!(rt; Msd::read(alloc, &text[3..])?.is_none());
+    let none = Msd::read(alloc, &[])?;
+    assert_eq!(rt; none.map(Seq::into_vec), Some(Vec::new(alloc)));
     let mut out = Vec::new(alloc);
-    write_msd(&msds, &mut out)?;
+    Msd::write(&Seq::new(Vec::from_slice(alloc, &msds)?), &mut out)?;
     assert_eq!(rt; out.as_slice(), text.as_slice());
     Ok(())
 }
 
 /// The flags and the ranges of a value, or nothing.
 fn ranges(alloc: Global, value: &[u8]) -> Result<Option<(u8, Vec<Range>)>, AllocError> {
-    match read_sr_cap(alloc, value)? {
+    match SrCap::read(alloc, value)? {
         Some(cap) => Ok(Some((cap.flags, cap.ranges.into_vec()))),
         None => Ok(None),
     }
@@ -152,29 +143,75 @@ fn sr_capabilities(rt: HostRuntime) -> Result<(), Fail> {
         ranges(alloc, &text[2..])?,
         Some((0xc0, vec![in alloc; range]?))
     );
-    // Flags alone, half a range, and an index in place of a label.
-    assert_eq!(rt; ranges(alloc, &text[2..3])?, None);
-    assert_eq!(rt; ranges(alloc, &text[2..8])?, None);
-    assert_eq!(rt;
-        ranges(
-            alloc,
-            &[0xc0, 0x00, 0x1f, 0x40, 0x01, 0x04, 0x00, 0x00, 0x3e, 0x80]
-        )?,
-        None
-    );
-    assert_eq!(rt;
-        ranges(
-            alloc,
-            &[0xc0, 0x00, 0x1f, 0x40, 0x02, 0x03, 0x00, 0x3e, 0x80]
-        )?,
-        None
-    );
+    // Flags alone, half a range, an index in place of a label, and a sub-TLV of another type.
+    let values = [
+        &text[2..3],
+        &text[2..8],
+        &[0xc0, 0x00, 0x1f, 0x40, 0x01, 0x04, 0x00, 0x00, 0x3e, 0x80],
+        &[0xc0, 0x00, 0x1f, 0x40, 0x02, 0x03, 0x00, 0x3e, 0x80],
+    ];
+    for value in values {
+        assert_eq!(rt; ranges(alloc, value)?, None);
+    }
     let cap = SrCap {
         flags: 0xc0,
-        ranges: Ranges::new(vec![in alloc; range]?),
+        ranges: Seq::new(vec![in alloc; range]?),
     };
     let mut out = Vec::new(alloc);
-    write_sr_cap(&cap, &mut out)?;
+    SrCap::write(&cap, &mut out)?;
     assert_eq!(rt; out.as_slice(), text.as_slice());
+    Ok(())
+}
+
+#[test]
+fn fields_are_read(rt: HostRuntime) -> Result<(), Fail> {
+    let alloc = rt.alloc();
+    // One of another type, one of two octets, and two that say something.
+    let subs = [
+        (3, [0x30, 0x00, 0x00, 0x5d, 0xc2].as_slice()),
+        (31, &[0x30, 0x00]),
+        (31, &[0x30, 0x00, 0x00, 0x5d, 0xc1]),
+        (31, &[0x04, 0x03, 0x00, 0x00, 0x00, 0x07]),
+    ];
+    let mut first = None;
+    let mut all = Few::empty(alloc);
+    for (kind, value) in subs {
+        add_first::<AdjSid, AdjSid>(alloc, &mut first, kind, value)?;
+        add_all::<AdjSid, AdjSid>(alloc, &mut all, kind, value)?;
+    }
+    let label = AdjSid {
+        flags: 0x30,
+        weight: 0,
+        sid: Sid::Label(24001),
+    };
+    let index = AdjSid {
+        flags: 0x04,
+        weight: 3,
+        sid: Sid::Index(7),
+    };
+    assert_eq!(rt; first, Some(label));
+    assert_eq!(rt; all.as_slice(), [label, index].as_slice());
+    Ok(())
+}
+
+#[test]
+fn fields_are_written(rt: HostRuntime) -> Result<(), Fail> {
+    let alloc = rt.alloc();
+    let ids = LinkIds {
+        local: 1,
+        remote: 4,
+    };
+    let text = [
+        0x04, 0x08, 0x00, 0x00, 0x00, 0x01, 0x00, 0x00, 0x00, 0x04, 0x04, 0x08, 0x00, 0x00, 0x00,
+        0x01, 0x00, 0x00, 0x00, 0x04,
+    ];
+    let mut out = Vec::new(alloc);
+    write_first::<LinkIds, LinkIds>(&Some(ids), &mut out)?;
+    assert_eq!(rt; out.as_slice(), &text[..10]);
+    assert_eq!(rt; first_length::<LinkIds, LinkIds>(&Some(ids)), 10);
+    let mut out = Vec::new(alloc);
+    write_all::<LinkIds, LinkIds>(&[ids, ids], &mut out)?;
+    assert_eq!(rt; out.as_slice(), text.as_slice());
+    assert_eq!(rt; all_length::<LinkIds, LinkIds>(&[ids, ids]), 20);
     Ok(())
 }

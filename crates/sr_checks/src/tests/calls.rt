@@ -50,7 +50,7 @@ fn is_told(item: &Item, line: &Line) -> bool {
     item.case.kind == line.kind
         && item.case.link.0 == line.link
         && item.dest.0 == line.destination
-        && item.labels.labels() == line.labels
+        && item.labels.as_slice() == line.labels
 }
 
 #[test]

@@ -2,12 +2,11 @@
 
 use super::words;
 use sr_base::{Runtime, SteadySink, SteadySource};
-use sr_lsp::{
-    AdjSids, Capability, Lsp, LspId, Part, Parts, Prefix, PrefixSids, Reach, in_range, write_lsp,
-};
+use sr_lsp::{Capability, Lsp, LspId, Part, Prefix, Reach, in_range, write_lsp};
 use sr_model::{Range, SystemId};
 use sr_run::tilfa;
-use sr_subtlv::{LinkIds, Msds, PrefixSid, Ranges, Sid, SrCap};
+use sr_seq::{Few, Seq};
+use sr_subtlv::{LinkIds, PrefixSid, Sid, SrCap};
 use std::alloc::{AllocError, AllocGlobal, Global};
 
 /// A pair of links between two nodes, numbered from 1, with one metric both ways.
@@ -34,9 +33,9 @@ fn labels(alloc: Global) -> Result<Part, AllocError> {
         flags: 0,
         srgb: Some(SrCap {
             flags: 0x80,
-            ranges: Ranges::new(vec![in alloc; range]?),
+            ranges: Seq::new(vec![in alloc; range]?),
         }),
-        msd: Msds::new(Vec::new(alloc)),
+        msd: Seq::new(Vec::new(alloc)),
     }))
 }
 
@@ -52,7 +51,7 @@ fn link(alloc: Global, neighbour: u32, number: u32, metric: u32) -> Part {
         }),
         local: None,
         remote: None,
-        adj: AdjSids::new(Vec::new(alloc)),
+        adj: Few::new(Vec::new(alloc)),
     })
 }
 
@@ -68,7 +67,7 @@ fn prefix(alloc: Global, node: u32) -> Result<Part, AllocError> {
         down: false,
         length: 32,
         prefix: 0x0a00_0000 | node,
-        sids: PrefixSids::new(vec![in alloc; sid]?),
+        sids: Few::new(vec![in alloc; sid]?),
     }))
 }
 
@@ -107,7 +106,7 @@ fn put_node(
         sequence: 1,
         checksum: 0,
         flags: 3,
-        parts: Parts::new(parts_of(alloc, node, pairs)?),
+        parts: Seq::new(parts_of(alloc, node, pairs)?),
     };
     if !in_range(&lsp) {
         return Ok(());

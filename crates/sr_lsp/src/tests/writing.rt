@@ -2,11 +2,11 @@
 
 use super::AS_A_ROUTER_WRITES;
 use crate::{
-    AdjSids, Capability, Groups, Lsp, LspId, Part, Parts, Prefix, PrefixSids, Reach, Risk,
-    WriteFault, in_range, read_lsp, write_lsp,
+    Capability, Lsp, LspId, Part, Prefix, Reach, Risk, WriteFault, in_range, read_lsp, write_lsp,
 };
 use sr_model::{Range, SystemId};
-use sr_subtlv::{AdjSid, LinkIds, Msds, PrefixSid, Ranges, Sid, SrCap};
+use sr_seq::{Few, Seq};
+use sr_subtlv::{AdjSid, LinkIds, PrefixSid, Sid, SrCap};
 use std::alloc::{AllocError, Global};
 use std::test::Fail;
 
@@ -44,7 +44,7 @@ fn first_of(parts: Vec<Part>) -> Lsp {
         sequence: 1,
         checksum: 0,
         flags: 3,
-        parts: Parts::new(parts),
+        parts: Seq::new(parts),
     }
 }
 
@@ -74,7 +74,7 @@ fn reach(neighbour: u32, link: u32, adj: Vec<AdjSid>) -> Part {
         }),
         local: None,
         remote: None,
-        adj: AdjSids::new(adj),
+        adj: Few::new(adj),
     })
 }
 
@@ -89,9 +89,9 @@ fn capability(alloc: Global) -> Result<Part, AllocError> {
         flags: 0,
         srgb: Some(SrCap {
             flags: 0x80,
-            ranges: Ranges::new(vec![in alloc; block]?),
+            ranges: Seq::new(vec![in alloc; block]?),
         }),
-        msd: Msds::new(Vec::new(alloc)),
+        msd: Seq::new(Vec::new(alloc)),
     }))
 }
 
@@ -107,7 +107,7 @@ fn prefix(alloc: Global) -> Result<Part, AllocError> {
         down: false,
         length: 32,
         prefix: 0x0a00_0001,
-        sids: PrefixSids::new(vec![in alloc; sid]?),
+        sids: Few::new(vec![in alloc; sid]?),
     }))
 }
 
@@ -186,7 +186,7 @@ fn too_long(rt: HostRuntime) -> Result<(), Fail> {
             numbered: true,
             local: 0x0a01_0001,
             remote: 0x0a01_0002,
-            groups: Groups::new(vec![in alloc; 7; 59]?),
+            groups: Few::new(vec![in alloc; 7; 59]?),
         }))?;
     }
     match refused(alloc, &first_of(parts)) {

@@ -6,9 +6,10 @@ ghost use Rattle.sr_spf.specs.Begun.{IsBegun};
 ghost use Rattle.sr_spf.specs.Drawn.{IsDrawn};
 
 use crate::tests::{beginning, id, is_as_by_rounds, lowest_by_rounds};
-use crate::{Row, Steps, row_after};
-use sr_graph::{Draft, DraftLink, DraftLinks, Graph, Groups, LinkSet, SystemIds};
+use crate::{Steps, row_after};
+use sr_graph::{Draft, DraftLink, Graph, LinkSet};
 use sr_model::{Case, Ident, Kind, LinkKey, LinkNo, NodeNo, SystemId};
+use sr_seq::Seq;
 use std::alloc::{AllocError, Global};
 use std::marker::Brand;
 use std::sync::ledger::{Blank, Ledger};
@@ -40,7 +41,7 @@ fn drawn_link(alloc: Global, nodes: u64, number: u32, state: &mut u32) -> DraftL
             ident: Ident::Link(number, number),
         },
         metric: metric as u32,
-        groups: Groups::new(Vec::new(alloc)),
+        groups: Seq::new(Vec::new(alloc)),
     }
 }
 
@@ -85,8 +86,8 @@ fn drawn(alloc: Global, state: &mut u32) -> Result<Draft, AllocError>
     let ids = numbered(alloc, nodes)?;
     let links = drawn_links(alloc, nodes, count, state)?;
     Ok(Draft {
-        nodes: SystemIds::new(ids),
-        links: DraftLinks::new(links),
+        nodes: Seq::new(ids),
+        links: Seq::new(links),
     })
 }
 
@@ -127,7 +128,7 @@ fn row_after_from<L: Ledger>(
     cells: Vec<u64>,
     lost: &[NodeNo],
     blank: Blank,
-) -> Result<Row, AllocError>
+) -> Result<Seq<u64>, AllocError>
     requires source { source.0 < node_count graph.now }
     requires begun { IsBegun graph.now without.now source.0 cells.items lost.now }
     requires name { blank.name ≡ L.name }
@@ -150,7 +151,7 @@ fn goes_on_as_by_rounds(
     let cells = beginning(alloc, graph, source)?;
     let row = row_after_from::<Brand>(alloc, graph, without, source, cells, &lost, Blank::new(1))?;
     let lowest = lowest_by_rounds(alloc, graph, without, source)?;
-    Ok(row.cells() == lowest.as_slice())
+    Ok(row.as_slice() == lowest.as_slice())
 }
 
 /// Whether both searches give what rounds give, from each node.

@@ -7,7 +7,7 @@ loop-link-init c = rw c.in_ok-lists.ensures (listed-none c.args.edges.now c.args
 
 pub loop-link-preserved : goal.loop-link-preserved
 loop-link-preserved c =
-    listed-more c.args.edges.now c.args.nodes _ (record { 0 = c.loop-link.link }) c.loop-link.lists.items c.index_mut-list.result.now c.push.new.self c.loop-link.invariant refl (c.requires.ends c.loop-link.link c.loop-link-test.true) c.index_mut-list.ensures.value c.in_ok-push.ensures
+    listed-more c.args.edges.now c.args.nodes _ (record { 0 = c.loop-link.link }) c.loop-link.lists.items c.index_mut-list.result.now c.push.new.self c.loop-link.invariant refl (c.requires.ends c.loop-link.link c.loop-link-test.true) c.index_mut-list.ensures.value c.in_ok-push.ensures.ok
 
 pub returns : goal.returns
 returns c =

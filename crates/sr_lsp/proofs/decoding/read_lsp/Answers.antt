@@ -1,9 +1,9 @@
 use Rattle.std.proofs.Common.{List, ◌-◌, drop, take, sym, subst, arith}
 use Rattle.std.specs.List.{All}
-use Rattle.sr_lsp.specs.declared.part.Part.{Part}
+use Rattle.sr_wire.proofs.OctetLemmas.{octets_range}
+use Rattle.sr_lsp.specs.declared.table.Part.{Part}
 use Rattle.sr_lsp.specs.InRange.{FitsPart}
-use Rattle.sr_lsp.proofs.InRangeLemmas.{body_in_range}
-use Rattle.sr_lsp.proofs.OctetLemmas.{octets_range}
+use Rattle.sr_lsp.proofs.LspLemmas.{body_in_range}
 use Rattle.sr_lsp.proofs.decoding.read_lsp.Goals as goal
 
 pub returns-clause-range : goal.returns-clause-range

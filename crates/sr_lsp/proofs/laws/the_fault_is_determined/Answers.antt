@@ -1,4 +1,4 @@
-use Rattle.sr_lsp.proofs.SameFaultLemmas.{same_fault}
+use Rattle.sr_lsp.proofs.LspLemmas.{same_fault}
 use Rattle.sr_lsp.proofs.laws.the_fault_is_determined.Goals as goal
 
 pub returns : goal.returns

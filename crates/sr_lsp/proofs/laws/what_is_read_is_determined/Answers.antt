@@ -1,4 +1,4 @@
-use Rattle.sr_lsp.proofs.SameLspLemmas.{same_lsp}
+use Rattle.sr_lsp.proofs.LspLemmas.{same_lsp}
 use Rattle.sr_lsp.proofs.laws.what_is_read_is_determined.Goals as goal
 
 pub returns : goal.returns

@@ -1,0 +1,7 @@
+-- the numbers of the parts so far fit
+use Rattle.std.proofs.Common.{All, take}
+use Rattle.sr_lsp.specs.InRange.{HasPartWidths}
+use Rattle.sr_lsp.proofs.writing.widths_of_parts.Given as goal
+
+abbrev pub invariant-loop-part : goal.invariant-loop-part
+invariant-loop-part l = All HasPartWidths (take l.part-index l.parts)

@@ -1,0 +1,88 @@
+//! The table of the kinds of TLVs: a row each in the enum and in the two matches.
+
+ghost use Rattle.std.specs.Prelude.{◌≡◌, ℕ, ◌↔◌, ◌≤◌, ◌++◌, List, length, IfErr, IsTrue, MatchResult, OnOk};
+ghost use Rattle.sr_wire.specs.Fault.{IfMalformed};
+ghost use Rattle.sr_wire.specs.Format.{TlvSays, ValueFault};
+ghost use Rattle.sr_wire.specs.Parts.{IsShort, part_text};
+ghost use Rattle.sr_lsp.specs.declared.table.Part.{Part};
+ghost use Rattle.sr_lsp.specs.Table.{rows, spelling};
+
+use crate::capability::Capability;
+use crate::prefix::Prefix;
+use crate::reach::Reach;
+use crate::risk::Risk;
+use sr_wire::registry::{EXTENDED_PREFIX, EXTENDED_REACH, ROUTER_CAPABILITY, SHARED_RISK};
+use sr_wire::{ReadFault, TlvKind};
+use std::alloc::{AllocError, Global};
+
+/// What a TLV says, an entry of it at a time.
+#[derive(Debug, Drop)]
+pub enum Part {
+    Reach(Reach),
+    Prefix(Prefix),
+    Risk(Risk),
+    Capability(Capability),
+}
+
+/// What follows of a part's value, whatever its kind.
+macro_rules! of_part {
+    ($part:expr, $value:ident => $call:expr) => {
+        match $part {
+            Part::Reach($value) => $call,
+            Part::Prefix($value) => $call,
+            Part::Risk($value) => $call,
+            Part::Capability($value) => $call,
+        }
+    };
+}
+
+/// Appends the parts that a TLV says.
+pub(crate) fn push_parts(
+    alloc: Global,
+    kind: u8,
+    value: &[u8],
+    parts: &mut Vec<Part>,
+) -> Result<(), ReadFault>
+    ensures says { MatchResult result (λ _. (own : List Part) × TlvSays rows (record { kind = kind; value = value.now }) own × (parts.new.items ≡ parts.old.items ++ own))
+        (λ fault. IfMalformed fault (λ malformed. ValueFault rows (record { kind = kind; value = value.now }) malformed.offset malformed.check)) }
+    ensures within { IfErr result (λ fault. IfMalformed fault (λ malformed. malformed.offset ≤ length value.now)) }
+{
+    match kind {
+        EXTENDED_REACH => Reach::read(alloc, value, parts),
+        EXTENDED_PREFIX => Prefix::read(alloc, value, parts),
+        SHARED_RISK => Risk::read(alloc, value, parts),
+        ROUTER_CAPABILITY => Capability::read(alloc, value, parts),
+        _ => Ok(()),
+    }
+}
+
+/// How many octets the value of the part's TLV has.
+pub(crate) fn part_length(part: &Part) -> u128
+    requires { (spelling part.now).fits }
+    ensures { result ≡ length (spelling part.now).value }
+{
+    of_part!(part, value => value.length())
+}
+
+/// Appends the TLV of a part.
+pub(crate) fn write_part(part: &Part, out: &mut Vec<u8>) -> Result<(), AllocError>
+    requires fits { (spelling part.now).fits }
+    requires short { IsShort spelling part.now }
+    ensures { OnOk result (out.new.items ≡ out.old.items ++ part_text spelling part.now) }
+{
+    of_part!(part, value => value.write(out))
+}
+
+/// Whether the fields of a part fit its layout.
+pub(crate) fn fits_part(part: &Part) -> bool
+    ensures { IsTrue result ↔ (spelling part.now).fits }
+{
+    of_part!(part, value => value.fits())
+}
+
+/// The numbers of a part fit their octets, as those of every value in memory do.
+pub(crate) fn part_widths(part: &Part)
+    ensures { (spelling part.now).widths }
+{
+    of_part!(part, value => value.widths())
+}

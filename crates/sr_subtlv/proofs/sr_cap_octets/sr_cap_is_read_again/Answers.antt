@@ -1,5 +1,0 @@
-use Rattle.sr_subtlv.proofs.SrCapLemmas.{sr_cap_alone}
-use Rattle.sr_subtlv.proofs.sr_cap_octets.sr_cap_is_read_again.Goals as goal
-
-pub returns : goal.returns
-returns c = sr_cap_alone

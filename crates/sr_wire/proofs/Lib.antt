@@ -1,0 +1,13 @@
+pub mod Bytes
+pub mod Codes
+pub mod FaultLemmas
+pub mod FieldLaws
+pub mod FieldSteps
+pub mod FormatLaws
+pub mod NumberLemmas
+pub mod OctetLemmas
+pub mod RangeLemmas
+pub mod SameRunLemmas
+pub mod SubLemmas
+pub mod SubsLemmas
+pub mod TlvLemmas

@@ -1,0 +1,6 @@
+-- the numbers of the values so far fit
+use Rattle.std.proofs.Common.{ℕ, ◌<◌, slice_index_or}
+use Rattle.sr_wire.proofs.sub_fields.all_widths.Given as goal
+
+abbrev pub invariant-loop-x : goal.invariant-loop-x
+invariant-loop-x g l = (k : ℕ) (d : _) → k < l.x-index → g.K.SubKind.sub.widths (slice_index_or l.field k d)

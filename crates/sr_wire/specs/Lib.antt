@@ -1,0 +1,10 @@
+pub mod Entries
+pub mod Fault
+pub mod Fields
+pub mod Format
+pub mod Numbers
+pub mod Octets
+pub mod Parts
+pub mod Run
+pub mod Sub
+pub mod Tlv
