@@ -1,5 +1,6 @@
 pub mod ReachLaws
 pub mod PrefixLaws
+pub mod NameLaws
 pub mod RiskLaws
 pub mod CapabilityLaws
 pub mod TableLaws

@@ -1,6 +1,7 @@
 pub mod Header
 pub mod Reach
 pub mod Prefix
+pub mod Name
 pub mod Risk
 pub mod Capability
 pub mod Table

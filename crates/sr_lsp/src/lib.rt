@@ -7,6 +7,7 @@ mod decoding;
 mod header;
 mod laws;
 mod lsp;
+mod name;
 mod octets;
 mod prefix;
 mod prefix_extent;
@@ -23,6 +24,7 @@ pub use laws::{
     what_is_read_is_determined, what_is_read_is_not_broken, what_is_written_is_read_again,
 };
 pub use lsp::{Lsp, LspId};
+pub use name::Name;
 pub use prefix::Prefix;
 pub use reach::Reach;
 pub use risk::Risk;

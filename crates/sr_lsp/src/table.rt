@@ -8,10 +8,13 @@ ghost use Rattle.sr_lsp.specs.declared.table.Part.{Part};
 ghost use Rattle.sr_lsp.specs.Table.{rows, spelling};
 
 use crate::capability::Capability;
+use crate::name::Name;
 use crate::prefix::Prefix;
 use crate::reach::Reach;
 use crate::risk::Risk;
-use sr_wire::registry::{EXTENDED_PREFIX, EXTENDED_REACH, ROUTER_CAPABILITY, SHARED_RISK};
+use sr_wire::registry::{
+    EXTENDED_PREFIX, EXTENDED_REACH, HOST_NAME, ROUTER_CAPABILITY, SHARED_RISK,
+};
 use sr_wire::{ReadFault, TlvKind};
 use std::alloc::{AllocError, Global};
 
@@ -20,6 +23,7 @@ use std::alloc::{AllocError, Global};
 pub enum Part {
     Reach(Reach),
     Prefix(Prefix),
+    Name(Name),
     Risk(Risk),
     Capability(Capability),
 }
@@ -30,6 +34,7 @@ macro_rules! of_part {
         match $part {
             Part::Reach($value) => $call,
             Part::Prefix($value) => $call,
+            Part::Name($value) => $call,
             Part::Risk($value) => $call,
             Part::Capability($value) => $call,
         }
@@ -50,6 +55,7 @@ pub(crate) fn push_parts(
     match kind {
         EXTENDED_REACH => Reach::read(alloc, value, parts),
         EXTENDED_PREFIX => Prefix::read(alloc, value, parts),
+        HOST_NAME => Name::read(alloc, value, parts),
         SHARED_RISK => Risk::read(alloc, value, parts),
         ROUTER_CAPABILITY => Capability::read(alloc, value, parts),
         _ => Ok(()),
