@@ -3,7 +3,8 @@
 
 usage: floods.py PROGRAM [RUNS]
 
-own-1000      a router with 1,024 pairs of links to 255 others, and 1,000 groups of its own for each pair
+own-1000      a router with 1,024 pairs of links to 255 others, and 1,000 groups of its own for each pair, one after another
+mixed-1000    the same, the groups of the pairs lying between each other
 shared-1000   1,024 pairs of links between two routers, all with one pair of identifiers, by which 1,000 groups are said
 again-5000    45 routers with links between any two, one announced 5,800 times more at the maximum metric, 5,000 groups
 again-20000   the same with 20,000 groups
@@ -14,7 +15,7 @@ the most memory that its process held. No destination has an index, so that the 
 program gets 8 GiB of address space; where it doesn't end with status 0, its status stands in place of the time.
 
 Where the variable PEER names the folder of a second implementation, with its sources and its build.sh, it is copied and
-built in a temporary folder, and measured beside the program.
+built in a temporary folder, and measured beside the program, with flags by which its commits make all cases too.
 """
 
 import os
@@ -83,11 +84,11 @@ def lines_of(said):
     return [line for number, tlvs in said.items() for line in fragments(number, tlvs)]
 
 
-def own(groups):
+def star(groups_of):
     said = {number: [] for number in range(1, 257)}
     for pair in range(1, 1025):
         other = 2 + pair % 255
-        said[1] += [tlv(22, entry(other, 10, ids(pair)))] + risks(other, pair, range(pair * groups, (pair + 1) * groups))
+        said[1] += [tlv(22, entry(other, 10, ids(pair)))] + risks(other, pair, groups_of(pair))
         said[other].append(tlv(22, entry(1, 10, ids(pair))))
     return lines_of(said)
 
@@ -110,7 +111,13 @@ def again(groups):
 
 
 def floods():
-    return {"own-1000": own(1000), "shared-1000": shared(1000), "again-5000": again(5000), "again-20000": again(20_000)}
+    return {
+        "own-1000": star(lambda pair: range(pair * 1000, (pair + 1) * 1000)),
+        "mixed-1000": star(lambda pair: range(pair, pair + 1024 * 1000, 1024)),
+        "shared-1000": shared(1000),
+        "again-5000": again(5000),
+        "again-20000": again(20_000),
+    }
 
 
 def started(command, script):
@@ -174,7 +181,7 @@ def main():
     with tempfile.TemporaryDirectory() as folder:
         work = pathlib.Path(folder)
         if os.environ.get("PEER"):
-            programs["peer"] = [built(os.environ["PEER"], work), "run"]
+            programs["peer"] = [built(os.environ["PEER"], work), "run", "--rules", "base", "--eager"]
         print(f"{'script':<14}{'octets':>12}" + "".join(f"{name:>25}" for name in programs))
         for name, lines in floods().items():
             size = sum(len(line) + 1 for line in lines)
