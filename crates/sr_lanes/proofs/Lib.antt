@@ -1,0 +1,5 @@
+pub mod EqualLemmas
+pub mod LaneLemmas
+pub mod MarkLemmas
+pub mod RunLemmas
+pub mod WordLemmas

@@ -1,0 +1,5 @@
+pub mod Bits
+pub mod Marks
+pub mod Passes
+pub mod Tests
+pub mod Words

@@ -1,0 +1,39 @@
+//! Passes over rows of distances: the nodes at whose cells a test says yes.
+
+ghost use Rattle.std.specs.Prelude.{◌≡◌, ℕ, ◌≤◌, length};
+ghost use Rattle.sr_lanes.specs.Bits.{is_in};
+ghost use Rattle.sr_lanes.specs.Passes.{AreCells, is_tight, differs, has_distance};
+
+use crate::limits::{CELL_AT_MOST, NODES_AT_MOST};
+use crate::place_test::places_of;
+use crate::row_tests::{OneRow, TwoRows};
+use crate::tight_rows::TightRows;
+use crate::words::NodeBits;
+
+/// The nodes to which the way over the base's node, to which it costs `cost`, costs what the row says.
+pub fn tight(row: &[u64], cost: u64, base: &[u64]) -> NodeBits
+    requires lengths { length base.now ≡ length row.now }
+    requires count { length row.now ≤ NODES_AT_MOST }
+    requires cost { cost ≤ CELL_AT_MOST }
+    requires base { AreCells base.now }
+    ensures { (v : ℕ) → is_in result v ≡ is_tight row.now cost base.now v }
+{
+    places_of(&TightRows { row, cost, base })
+}
+
+/// The nodes at which the rows differ.
+pub fn differ(a: &[u64], b: &[u64]) -> NodeBits
+    requires lengths { length b.now ≡ length a.now }
+    requires count { length a.now ≤ NODES_AT_MOST }
+    ensures { (v : ℕ) → is_in result v ≡ differs a.now b.now v }
+{
+    places_of(&TwoRows { a, b })
+}
+
+/// The nodes to which the row has a distance.
+pub fn finite(row: &[u64]) -> NodeBits
+    requires { length row.now ≤ NODES_AT_MOST }
+    ensures { (v : ℕ) → is_in result v ≡ has_distance row.now v }
+{
+    places_of(&OneRow { row })
+}
