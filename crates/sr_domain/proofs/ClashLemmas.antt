@@ -13,11 +13,11 @@ use Rattle.sr_lsdb.specs.declared.facts.Facts.{Facts}
 use Rattle.sr_domain.specs.Nodes.{nodes_of, all_labels}
 use Rattle.sr_domain.specs.Links.{found_adj_labels}
 use Rattle.sr_domain.specs.Rules.{AreKept, IsFirstBroken}
-use Rattle.sr_domain.specs.Named.{AreWithin, Names}
+use Rattle.sr_domain.specs.Named.{ArePlacesWithin, Names}
 use Rattle.sr_domain.proofs.KeptLemmas.{kept-more}
 
 -- places of nodes
-pub clash-within : (nodes : List Labels) (adj : List AdjLabel) (rule : LabelRule) (count : ℕ) → length nodes ≡ count → AreOfNodes count adj → IsFirstClash nodes adj (Some rule) → AreWithin count rule
+pub clash-within : (nodes : List Labels) (adj : List AdjLabel) (rule : LabelRule) (count : ℕ) → length nodes ≡ count → AreOfNodes count adj → IsFirstClash nodes adj (Some rule) → ArePlacesWithin count rule
 clash-within nodes adj (DuplicateIndex index low high) count e of first =
     let high_in : high < length nodes = first.duplicate.within in
     let order : low < high = first.duplicate.order in

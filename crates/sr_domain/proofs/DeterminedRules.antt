@@ -13,7 +13,7 @@ use Rattle.sr_graph.specs.Draft.{AreLeast, EndsLe}
 use Rattle.sr_lsdb.specs.declared.facts.Facts.{Facts}
 use Rattle.sr_domain.specs.Nodes.{nodes_of, all_labels}
 use Rattle.sr_domain.specs.Links.{links_of, found_adj_labels}
-use Rattle.sr_domain.specs.Rules.{IsLeastNode, LacksSrgb, HasBadSrgb, IsOverloaded, HasZeroMetric, IsRepeated, IsNodeAt, IsBroken, Keeps, rank, IsFirstBroken}
+use Rattle.sr_domain.specs.Rules.{IsLeastNode, LacksSrgb, HasBadSrgb, IsOverloaded, HasZeroMetric, IsKeyRepeated, IsNodeAt, IsRuleBroken, Keeps, rank, IsFirstBroken}
 use Rattle.sr_domain.specs.Net.{IsNetOf}
 
 node-one : (nodes : List ℕ) (P : ℕ → Type 0) (a b : ℕ) → IsLeastNode nodes P a → IsLeastNode nodes P b → a ≡ b
@@ -79,7 +79,7 @@ links-one P from to a b x y =
     (sym x.begins ∙ same.0 ∙ y.begins, sym x.ends ∙ same.1 ∙ y.ends)
 
 -- a rule is broken in one way
-broken-one : (facts : Facts) (a b : DomainRule) → rank a ≡ rank b → IsBroken facts a → IsBroken facts b → a ≡ b
+broken-one : (facts : Facts) (a b : DomainRule) → rank a ≡ rank b → IsRuleBroken facts a → IsRuleBroken facts b → a ≡ b
 broken-one facts (NoSrgb v) (NoSrgb w) e x y = ap NoSrgb (node-one (nodes_of facts) (LacksSrgb facts) v w x y)
 broken-one facts (SrgbBad v) (SrgbBad w) e x y = ap SrgbBad (node-one (nodes_of facts) (HasBadSrgb facts) v w x y)
 broken-one facts (DuplicateIndex i low high) (DuplicateIndex j a b) e x y =
@@ -97,7 +97,7 @@ broken-one facts (ZeroMetric from to) (ZeroMetric a b) e x y =
     let same = links-one (HasZeroMetric (links_of facts)) from to a b x y in
     ap (λ n. ZeroMetric n to) same.0 ∙ ap (ZeroMetric a) same.1
 broken-one facts (DuplicateLink from to) (DuplicateLink a b) e x y =
-    let same = links-one (IsRepeated (links_of facts)) from to a b x y in
+    let same = links-one (IsKeyRepeated (links_of facts)) from to a b x y in
     ap (λ n. DuplicateLink n to) same.0 ∙ ap (DuplicateLink a) same.1
 broken-one facts (TooManyNodes m) (TooManyNodes n) e x y = ap TooManyNodes (x.1 ∙ sym y.1)
 broken-one facts (TooManyLinks m) (TooManyLinks n) e x y = ap TooManyLinks (x.1 ∙ sym y.1)
@@ -105,7 +105,7 @@ broken-one facts (Overload v) (Overload w) e x y = ap Overload (node-one (nodes_
 broken-one facts a b e x y = absurd (omega arith)
 
 -- a rule that is kept isn't broken
-broken-not_kept : (facts : Facts) (rule : DomainRule) → IsBroken facts rule → Keeps facts rule → ⊥
+broken-not_kept : (facts : Facts) (rule : DomainRule) → IsRuleBroken facts rule → Keeps facts rule → ⊥
 broken-not_kept facts (NoSrgb v) x keeps = keeps v x.among x.holds
 broken-not_kept facts (SrgbBad v) x keeps = keeps v x.among x.holds
 broken-not_kept facts (DuplicateIndex i low high) x keeps = keeps i x.low_place x.high_place x.least.duplicate

@@ -16,7 +16,8 @@ use Rattle.sr_lsdb.specs.declared.facts.Facts.{Facts}
 use Rattle.sr_domain.specs.declared.nodes.NodeSid.{NodeSid}
 use Rattle.sr_domain.specs.Announced.{adj_label, adj_sid_labels, least, lesser}
 use Rattle.sr_domain.specs.Nodes.{own_parts, node_sid_by, node_sid_of, lesser_sid, least_sid, sid_of_part, least_of_parts, sid_from}
-use Rattle.sr_domain.specs.Least.{host_sids, candidates, IsFirstLeast, IsLeast, IsAdjLabel}
+use Rattle.sr_domain.specs.Least.{host_sids, candidates, IsFirstLeastSid, IsLeastNumber, IsAdjLabel}
+use Rattle.sr_domain.proofs.SameLemmas.{some_same}
 use Rattle.sr_domain.proofs.NodesLemmas.{lesser-assoc}
 
 -- the one of the least index of a flat list, and of equal ones the first
@@ -66,12 +67,9 @@ own-flat node (entry ∷ entries) =
 
 -- what is chosen of a flat list
 abbrev pub IsChosen : List NodeSid → Option NodeSid → Type 0
-IsChosen sids found = MatchOption found (sids ≡ []) (IsFirstLeast sids)
+IsChosen sids found = MatchOption found (sids ≡ []) (IsFirstLeastSid sids)
 
-some-same : (a b : NodeSid) → Some a ≡ Some b → a ≡ b
-some-same a b e = grind (arith)
-
-alone : (sid : NodeSid) → IsFirstLeast (sid ∷ []) sid
+alone : (sid : NodeSid) → IsFirstLeastSid (sid ∷ []) sid
 alone sid = record {
   place = 0;
   stands = refl;
@@ -80,10 +78,10 @@ alone sid = record {
 }
   where
     at_one : (k : ℕ) (other : NodeSid) → slice_get (sid ∷ []) k ≡ Some other → sid.index ≤ other.index
-    at_one zero other at = let same : sid ≡ other = some-same sid other at in let index : sid.index ≡ other.index = ap (λ (s : NodeSid). s.index) same in omega arith
+    at_one zero other at = let same : sid ≡ other = some_same sid other at in let index : sid.index ≡ other.index = ap (λ (s : NodeSid). s.index) same in omega arith
     at_one (suc k) other at = absurd (cc)
 
-later : (x y : NodeSid) (xs : List NodeSid) → IsFirstLeast xs y → y.index < x.index → IsFirstLeast (x ∷ xs) y
+later : (x y : NodeSid) (xs : List NodeSid) → IsFirstLeastSid xs y → y.index < x.index → IsFirstLeastSid (x ∷ xs) y
 later x y xs first lt = record {
   place = suc first.place;
   stands = first.stands;
@@ -92,14 +90,14 @@ later x y xs first lt = record {
 }
   where
     before : (k : ℕ) (other : NodeSid) → k < suc first.place → slice_get (x ∷ xs) k ≡ Some other → y.index < other.index
-    before zero other less at = let index : x.index ≡ other.index = ap (λ (s : NodeSid). s.index) (some-same x other at) in omega arith
+    before zero other less at = let index : x.index ≡ other.index = ap (λ (s : NodeSid). s.index) (some_same x other at) in omega arith
     before (suc k) other less at = first.earlier k other (omega arith) at
 
     all : (k : ℕ) (other : NodeSid) → slice_get (x ∷ xs) k ≡ Some other → y.index ≤ other.index
-    all zero other at = let index : x.index ≡ other.index = ap (λ (s : NodeSid). s.index) (some-same x other at) in omega arith
+    all zero other at = let index : x.index ≡ other.index = ap (λ (s : NodeSid). s.index) (some_same x other at) in omega arith
     all (suc k) other at = first.least k other at
 
-sooner : (x y : NodeSid) (xs : List NodeSid) → IsFirstLeast xs y → x.index ≤ y.index → IsFirstLeast (x ∷ xs) x
+sooner : (x y : NodeSid) (xs : List NodeSid) → IsFirstLeastSid xs y → x.index ≤ y.index → IsFirstLeastSid (x ∷ xs) x
 sooner x y xs first le = record {
   place = 0;
   stands = refl;
@@ -108,32 +106,29 @@ sooner x y xs first le = record {
 }
   where
     all : (k : ℕ) (other : NodeSid) → slice_get (x ∷ xs) k ≡ Some other → x.index ≤ other.index
-    all zero other at = let index : x.index ≡ other.index = ap (λ (s : NodeSid). s.index) (some-same x other at) in omega arith
+    all zero other at = let index : x.index ≡ other.index = ap (λ (s : NodeSid). s.index) (some_same x other at) in omega arith
     all (suc k) other at = let more : y.index ≤ other.index = first.least k other at in omega arith
 
 chosen : (sids : List NodeSid) → IsChosen sids (first_least sids)
 chosen [] = refl
 chosen (x ∷ xs) = by (first_least xs) (chosen xs)
   where
-    two : (y : NodeSid) (t : Bool) → nat_lt y.index x.index ≡ t → IsFirstLeast xs y → IsChosen (x ∷ xs) (cond t (Some y) (Some x))
+    two : (y : NodeSid) (t : Bool) → nat_lt y.index x.index ≡ t → IsFirstLeastSid xs y → IsChosen (x ∷ xs) (cond t (Some y) (Some x))
     two y true is first = later x y xs first (grind (arith, nat_tests))
     two y false is first = sooner x y xs first (grind (arith, nat_tests))
 
     by : (o : Option NodeSid) → IsChosen xs o → IsChosen (x ∷ xs) (lesser_sid (Some x) o)
-    by None none = subst (λ (r : List NodeSid). IsFirstLeast (x ∷ r) x) (sym none) (alone x)
+    by None none = subst (λ (r : List NodeSid). IsFirstLeastSid (x ∷ r) x) (sym none) (alone x)
     by (Some y) first = two y (nat_lt y.index x.index) refl first
 
-pub node_sid-least : (facts : Facts) (node : ℕ) → MatchOption (node_sid_of facts node) (candidates facts node ≡ []) (IsFirstLeast (candidates facts node))
+pub node_sid-least : (facts : Facts) (node : ℕ) → MatchOption (node_sid_of facts node) (candidates facts node ≡ []) (IsFirstLeastSid (candidates facts node))
 node_sid-least facts node = subst (IsChosen (candidates facts node)) (sym (own-flat node facts.database)) (chosen (candidates facts node))
 
 -- the least of numbers
-number-same : (a b : ℕ) → Some a ≡ Some b → a ≡ b
-number-same a b e = grind (arith)
-
 abbrev pub IsLeastThere : List ℕ → Option ℕ → Type 0
-IsLeastThere numbers found = MatchOption found (numbers ≡ []) (IsLeast numbers)
+IsLeastThere numbers found = MatchOption found (numbers ≡ []) (IsLeastNumber numbers)
 
-least-alone : (number : ℕ) → IsLeast (number ∷ []) number
+least-alone : (number : ℕ) → IsLeastNumber (number ∷ []) number
 least-alone number = record {
   place = 0;
   stands = refl;
@@ -141,17 +136,17 @@ least-alone number = record {
 }
   where
     all : (k other : ℕ) → slice_get (number ∷ []) k ≡ Some other → number ≤ other
-    all zero other at = let same : number ≡ other = number-same number other at in omega arith
+    all zero other at = let same : number ≡ other = some_same number other at in omega arith
     all (suc k) other at = absurd (cc)
 
-least-more : (x y : ℕ) (xs : List ℕ) → IsLeast xs y → IsLeast (x ∷ xs) (min y x)
+least-more : (x y : ℕ) (xs : List ℕ) → IsLeastNumber xs y → IsLeastNumber (x ∷ xs) (min y x)
 least-more x y xs first = by (nat_lt x y) refl
   where
     all : (z : ℕ) → z ≤ x → z ≤ y → (k other : ℕ) → slice_get (x ∷ xs) k ≡ Some other → z ≤ other
-    all z a b zero other at = let same : x ≡ other = number-same x other at in omega arith
+    all z a b zero other at = let same : x ≡ other = some_same x other at in omega arith
     all z a b (suc k) other at = let more : y ≤ other = first.least k other at in omega arith
 
-    by : (t : Bool) → nat_lt x y ≡ t → IsLeast (x ∷ xs) (min y x)
+    by : (t : Bool) → nat_lt x y ≡ t → IsLeastNumber (x ∷ xs) (min y x)
     by true is =
         let lt : x < y = grind (arith, nat_tests) in
         let e : min y x ≡ x = omega arith in
@@ -166,14 +161,14 @@ least-there [] = refl
 least-there (x ∷ xs) = by (least xs) (least-there xs)
   where
     by : (o : Option ℕ) → IsLeastThere xs o → IsLeastThere (x ∷ xs) (lesser o x)
-    by None none = subst (λ (r : List ℕ). IsLeast (x ∷ r) x) (sym none) (least-alone x)
+    by None none = subst (λ (r : List ℕ). IsLeastNumber (x ∷ r) x) (sym none) (least-alone x)
     by (Some y) first = least-more x y xs first
 
-either : (clear set : List ℕ) (a b : Option ℕ) → IsLeastThere clear a → IsLeastThere set b → (clear ≢ [] → IsSomeAnd (option_or a b) (IsLeast clear)) × (clear ≡ [] → MatchOption (option_or a b) (set ≡ []) (IsLeast set))
+either : (clear set : List ℕ) (a b : Option ℕ) → IsLeastThere clear a → IsLeastThere set b → (clear ≢ [] → IsSomeAnd (option_or a b) (IsLeastNumber clear)) × (clear ≡ [] → MatchOption (option_or a b) (set ≡ []) (IsLeastNumber set))
 either clear set None b none there = (λ some. absurd (some none), λ is. there)
-either clear set (Some x) b first there = (λ some. first, λ is. absurd (empty (subst (λ (r : List ℕ). IsLeast r x) is first)))
+either clear set (Some x) b first there = (λ some. first, λ is. absurd (empty (subst (λ (r : List ℕ). IsLeastNumber r x) is first)))
   where
-    empty : IsLeast [] x → ⊥
+    empty : IsLeastNumber [] x → ⊥
     empty it = let none : None ≡ Some x = it.stands in cc
 
 pub adj_label-least : (sids : List AdjSid) → IsAdjLabel sids (adj_label sids)

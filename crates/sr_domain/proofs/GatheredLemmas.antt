@@ -5,21 +5,19 @@ use Rattle.std.specs.Option.{unwrap_or}
 use Rattle.std.specs.List.{filter_map, cons_option}
 use Rattle.std.specs.Map.{lookup}
 use Rattle.std.specs.BTreeMap.{is_at}
-use Rattle.std.specs.Ordering.{is_eq}
-use Rattle.std.specs.declared.cmp.Ordering.{Ordering}
-use Rattle.std.specs.declared.cmp.Ordering.TheVariants.{Less, Equal, Greater}
 use Rattle.std.proofs.lemmas.Bool.Decides.{nat_tests}
 use Rattle.std.proofs.lemmas.List.Elements.{All-nil, All-cons, All-head, All-tail, All-append, All-weaker}
 use Rattle.sr_model.specs.declared.name.LinkKey.{LinkKey}
 use Rattle.sr_model.specs.Key.{mirror, pair_of}
 use Rattle.sr_model.specs.KeyOrder.{key_cmp, same_key}
 use Rattle.sr_model.proofs.KeyOrderLemmas.{key-from_cmp}
+use Rattle.sr_wire.specs.declared.registry.TheConstants.{MAXIMUM_METRIC}
 use Rattle.sr_lsp.specs.declared.lsp.LspId.{LspId}
 use Rattle.sr_lsp.specs.declared.lsp.Lsp.{Lsp}
 use Rattle.sr_lsp.specs.declared.table.Part.{Part}
 use Rattle.sr_lsp.specs.declared.table.Part.TheVariants.{Reach}
 use Rattle.sr_lsp.specs.declared.reach.Reach.{Reach as ReachPart}
-use Rattle.sr_lsp.specs.InRange.{FitsPart, IsInRange}
+use Rattle.sr_lsp.specs.InRange.{FitsPart, FitsLsp}
 use Rattle.sr_lsp.specs.Reach.{FitsReach}
 use Rattle.sr_lsdb.specs.declared.facts.Stored.{Stored}
 use Rattle.sr_lsdb.specs.declared.facts.Facts.{Facts}
@@ -30,8 +28,9 @@ use Rattle.sr_domain.specs.declared.links.FoundLink.{FoundLink}
 use Rattle.sr_domain.specs.Announced.{is_live, first_id, is_present, counts, parts_of, announced_by, announcement_of, announced_in, announcements_of, is_announced, two_way_of}
 use Rattle.sr_domain.specs.Nodes.{node_by, nodes_of}
 use Rattle.sr_lsdb.specs.Tables.{is_down}
-use Rattle.sr_domain.specs.Links.{effective_metric, is_in_use, link_by, link_of, links_of, HasEnds}
+use Rattle.sr_domain.specs.Links.{effective_metric, is_in_use, link_by, link_of, links_of, JoinsNodes}
 use Rattle.sr_domain.specs.Steps.{IsBelowMaximum}
+use Rattle.sr_domain.proofs.SameLemmas.{is_eq-true, some_same}
 use Rattle.sr_domain.proofs.MemberLemmas.{here, kept_by}
 
 -- an id that is tied with the first one of a node is that one
@@ -88,7 +87,7 @@ from-parts : (node : ℕ) (parts : List Part) → All FitsPart parts → All (Is
 from-parts node [] fits = All-nil (IsFrom node)
 from-parts node (part ∷ parts) fits = from-part node part (All-head FitsPart part parts fits) (filter_map (announced_by node) parts) (from-parts node parts (All-tail FitsPart part parts fits))
 
-from-live : (node : ℕ) (id : LspId) (o : Option Lsp) → IfSome o (λ lsp. IsInRange lsp × (lsp.id ≡ id)) → All (IsFrom node) (filter_map (announced_by node) (parts_of o))
+from-live : (node : ℕ) (id : LspId) (o : Option Lsp) → IfSome o (λ lsp. FitsLsp lsp × (lsp.id ≡ id)) → All (IsFrom node) (filter_map (announced_by node) (parts_of o))
 from-live node id None well = All-nil (IsFrom node)
 from-live node id (Some lsp) well = from-parts node lsp.parts well.0
 
@@ -118,11 +117,6 @@ sound-in facts (entry ∷ es) well = All-append (IsSound facts) (cond (counts fa
     (sound-in facts es (All-tail IsStoredWell entry es well))
 
 -- the end at which an announced key begins is present
-is_eq-true : (r : Ordering) → is_eq r ≡ true → r ≡ Equal
-is_eq-true Less e = absurd (cc)
-is_eq-true Equal e = refl
-is_eq-true Greater e = absurd (cc)
-
 any-present : (facts : Facts) (anns : List Announcement) (key : LinkKey) → All (IsSound facts) anns → is_announced anns key ≡ true → is_present facts key.from ≡ true
 any-present facts [] key all e = absurd (cc)
 any-present facts (a ∷ anns) key all e = by (λ h. any-present facts anns key (All-tail (IsSound facts) a anns all) h) (same_key key a.key) refl e
@@ -162,49 +156,44 @@ two-way-sound facts range =
     (announcements_of facts) sound
 
 -- the metrics of links are below the maximum
-lookup-cost : (test : LinkKey → Bool) (es : List (LinkKey × ℕ)) → All IsCost es → (m : ℕ) → lookup test es ≡ Some m → m < 16777215
+lookup-cost : (test : LinkKey → Bool) (es : List (LinkKey × ℕ)) → All IsCost es → (m : ℕ) → lookup test es ≡ Some m → m < MAXIMUM_METRIC
 lookup-cost test [] all m e = absurd (cc)
 lookup-cost test (entry ∷ es) all m e = by (λ h. lookup-cost test es (All-tail IsCost entry es all) m h) (test entry.0) e
   where
-    some_same : (a b : ℕ) → Some a ≡ Some b → a ≡ b
-    some_same a b h = cc
-
-    by : (lookup test es ≡ Some m → m < 16777215) → (b : Bool) → cond b (Some entry.1) (lookup test es) ≡ Some m → m < 16777215
-    by rest true h = subst (λ n. n < 16777215) (some_same entry.1 m h) (All-head IsCost entry es all).1
+    by : (lookup test es ≡ Some m → m < MAXIMUM_METRIC) → (b : Bool) → cond b (Some entry.1) (lookup test es) ≡ Some m → m < MAXIMUM_METRIC
+    by rest true h = subst (λ n. n < MAXIMUM_METRIC) (some_same entry.1 m h) (All-head IsCost entry es all).1
     by rest false h = rest h
 
-metric-small_by : (metric : ℕ) (o : Option ℕ) → metric < 2 ^ 24 → ((m : ℕ) → o ≡ Some m → m < 16777215) → unwrap_or o metric < 16777216
+metric-small_by : (metric : ℕ) (o : Option ℕ) → metric < 2 ^ 24 → ((m : ℕ) → o ≡ Some m → m < MAXIMUM_METRIC) → unwrap_or o metric < 16777216
 metric-small_by metric None small cost = small
-metric-small_by metric (Some m) small cost = let below : m < 16777215 = cost m refl in omega arith
+metric-small_by metric (Some m) small cost = let below : m < MAXIMUM_METRIC = cost m refl in omega arith
 
-metric-below : (n : ℕ) → n < 16777216 → not (n == 16777215) ≡ true → n < 16777215
+metric-below : (n : ℕ) → n < 16777216 → not (n == MAXIMUM_METRIC) ≡ true → n < MAXIMUM_METRIC
 metric-below n small e = grind (arith, nat_tests)
 
+-- the link joins present nodes, and its metric is below the maximum
 pub record IsGoodLink (facts : Facts) (link : FoundLink) : Type 0 where
-  pub ends : HasEnds (nodes_of facts) link
+  pub ends : JoinsNodes (nodes_of facts) link
   pub below : IsBelowMaximum link
 
 link-good : (facts : Facts) → AreInRange facts → (a : Announcement) (link : FoundLink) → IsTwoWay facts a → link_by facts a ≡ Some link → IsGoodLink facts link
 link-good facts range a link two e = by (is_in_use facts a) refl e
   where
-    some_same : (x y : FoundLink) → Some x ≡ Some y → x ≡ y
-    some_same x y h = cc
-
     by : (b : Bool) → is_in_use facts a ≡ b → cond b (Some (link_of facts a)) None ≡ Some link → IsGoodLink facts link
     by false used h = absurd (cc)
     by true used h =
         let small : effective_metric facts a < 16777216 = metric-small_by a.metric (lookup (is_at (key_cmp a.key)) facts.costs) two.sound.metric (lookup-cost (is_at (key_cmp a.key)) facts.costs range.costs) in
         let good : IsGoodLink facts (link_of facts a) = record {
           ends = (present-node facts a.key.from two.sound.present, present-node facts a.key.to two.other, two.sound.differ);
-          below = metric-below (effective_metric facts a) small (and-left (not (effective_metric facts a == 16777215)) (not (is_down facts.downs (pair_of a.key))) used);
+          below = metric-below (effective_metric facts a) small (and-left (not (effective_metric facts a == MAXIMUM_METRIC)) (not (is_down facts.downs (pair_of a.key))) used);
         } in
         subst (λ (l : FoundLink). IsGoodLink facts l) (some_same (link_of facts a) link h) good
 
 pub links-good : (facts : Facts) → AreInRange facts → All (IsGoodLink facts) (links_of facts)
 links-good facts range = pick-all (link_by facts) (IsTwoWay facts) (IsGoodLink facts) (link-good facts range) (two_way_of facts) (two-way-sound facts range)
 
-pub links-ends : (facts : Facts) → AreInRange facts → All (HasEnds (nodes_of facts)) (links_of facts)
-links-ends facts range = All-weaker (IsGoodLink facts) (HasEnds (nodes_of facts)) (λ l g. g.ends) (links_of facts) (links-good facts range)
+pub links-ends : (facts : Facts) → AreInRange facts → All (JoinsNodes (nodes_of facts)) (links_of facts)
+links-ends facts range = All-weaker (IsGoodLink facts) (JoinsNodes (nodes_of facts)) (λ l g. g.ends) (links_of facts) (links-good facts range)
 
 pub links-below : (facts : Facts) → AreInRange facts → All IsBelowMaximum (links_of facts)
 links-below facts range = All-weaker (IsGoodLink facts) IsBelowMaximum (λ l g. g.below) (links_of facts) (links-good facts range)

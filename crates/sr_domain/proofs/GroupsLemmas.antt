@@ -25,11 +25,12 @@ use Rattle.sr_domain.specs.contracts.risks.RiskNameOrd.TheImpl.Laws as name_laws
 use Rattle.sr_model.specs.Key.{pair_of}
 use Rattle.sr_lsdb.specs.Order.{pair_cmp}
 use Rattle.sr_lsdb.proofs.OrderLemmas.{pair_total, pair_exact}
+use Rattle.sr_domain.proofs.SameLemmas.{is_eq-true}
 use Rattle.sr_domain.proofs.DeterminedLists.{sorted-one}
 use Rattle.sr_domain.proofs.KeyLemmas.{any-to, any-from}
 use Rattle.sr_domain.proofs.NumbersLemmas.{ascending-has, ascending-rises}
 use Rattle.sr_domain.specs.Groups.{name_cmp, is_name, numbered_name, unnumbered_name, speaks_of, same_pair, same_number, is_group_of}
-use Rattle.sr_domain.specs.GroupTables.{AreInOrder, GivesGroups, HaveSameNames, HaveSameNotes, IsTable, ascending, groups_in, groups_said, is_noted, is_of, is_under, named, names_from, note_group, pair_name_cmp}
+use Rattle.sr_domain.specs.GroupTables.{AreNotesInOrder, GivesGroups, HaveSameNames, HaveSameNotes, IsRiskTable, ascending, groups_in, groups_said, is_noted, is_of, is_under, named, names_from, note_group, pair_name_cmp}
 
 pub name_total : IsTotalOrder name_cmp
 name_total = name_laws.total-law
@@ -145,11 +146,6 @@ pairs-in_order ns up k d low high =
     ap is_lt (pair_total.antisymm b.pair a.pair) ∙ first-no_later (pair_cmp a.pair b.pair) (name_cmp a.name b.name) less
 
 -- a sort and a dedup keep what a test finds
-is_eq-true : (r : Ordering) → is_eq r ≡ true → r ≡ Equal
-is_eq-true Less e = absurd (cc)
-is_eq-true Equal e = refl
-is_eq-true Greater e = absurd (cc)
-
 pub any-kept : {X : Type 0} {R : X → X → Ordering} (o : IsTotalOrder R) → CmpEqualImpliesEq R → (eq : X → X → Bool) → ((a b : X) → eq a b ≡ eq_by_cmp R a b) → (xs sorted : List X) → IsPermutation xs sorted → (p : X → Bool) → list_any p (dedup eq sorted) ≡ list_any p xs
 any-kept {X} {R} o exact eq ties xs sorted moved p =
     both_ways (list_any p (dedup eq sorted)) (list_any p sorted)
@@ -201,7 +197,7 @@ note_exact a b h = ap made (exact_pairs name_cmp nat_cmp name_exact exact_unsign
 pub notes-kept : (eq : RiskNote → RiskNote → Bool) → ((a b : RiskNote) → eq a b ≡ eq_by_cmp note_cmp a b) → (notes sorted : List RiskNote) → IsPermutation notes sorted → HaveSameNotes notes (dedup eq sorted)
 notes-kept eq ties notes sorted moved = any-kept note_total note_exact eq ties notes sorted moved
 
-pub notes-in_order : (eq : RiskNote → RiskNote → Bool) → ((a b : RiskNote) → eq a b ≡ eq_by_cmp note_cmp a b) → (sorted : List RiskNote) → IsSorted note_cmp sorted → AreInOrder (dedup eq sorted)
+pub notes-in_order : (eq : RiskNote → RiskNote → Bool) → ((a b : RiskNote) → eq a b ≡ eq_by_cmp note_cmp a b) → (sorted : List RiskNote) → IsSorted note_cmp sorted → AreNotesInOrder (dedup eq sorted)
 notes-in_order eq ties sorted up k d low high =
     let ns : List RiskNote = dedup eq sorted in
     let a : RiskNote = get_or ns k d in
@@ -249,7 +245,7 @@ unfolding IsStrictlySortedBy
 none-ascend [] e = tt
 none-ascend (n ∷ ns) e = absurd (cc)
 
-pub no-table : (table : RiskTable) → table.names.items ≡ [] → table.notes.items ≡ [] → IsTable table
+pub no-table : (table : RiskTable) → table.names.items ≡ [] → table.notes.items ≡ [] → IsRiskTable table
 no-table table none silent = record { names = none-ascend table.names.items none; notes = λ k d low high. absurd (omega (arith, ap length silent)) }
 
 pub none-given : (table : RiskTable) (anns : List Announcement) (said : List RiskNote) → table.names.items ≡ [] → said ≡ [] → GivesGroups (groups_in table) anns said

@@ -5,7 +5,6 @@ use Rattle.std.specs.Cmp.{both_ways, IsEquivalence}
 use Rattle.std.specs.List.{list_any, dedup}
 use Rattle.std.specs.List.Sorted.{IsPermutation, IsSorted, IsStrictlySortedBy, IsBinarySearchResult, IsPartitionPoint}
 use Rattle.std.specs.Ordering.{is_eq, is_lt, ordering_reverse}
-use Rattle.std.specs.declared.cmp.Ordering.{Ordering}
 use Rattle.std.specs.declared.cmp.Ordering.TheVariants.{Less, Equal, Greater}
 use Rattle.std.proofs.lemmas.Bool.{cases_lt}
 use Rattle.std.proofs.lemmas.Cmp.{tied_itself, tied_back, eq_by_cmp_equiv}
@@ -18,12 +17,8 @@ use Rattle.sr_model.specs.KeyOrder.{key_cmp, same_key}
 use Rattle.sr_model.proofs.KeyOrderLemmas.{key_total, key-from_cmp}
 use Rattle.sr_domain.specs.declared.announced.Announcement.{Announcement}
 use Rattle.sr_domain.specs.Announced.{AreKeysOf, is_announced, announced_key}
+use Rattle.sr_domain.proofs.SameLemmas.{is_eq-true}
 use Rattle.sr_domain.proofs.MemberLemmas.{here, later, mapped-to, mapped-from}
-
-is_eq-true : (r : Ordering) → is_eq r ≡ true → r ≡ Equal
-is_eq-true Less e = absurd (cc)
-is_eq-true Equal e = refl
-is_eq-true Greater e = absurd (cc)
 
 same-from : (a b : LinkKey) → same_key a b ≡ true → a ≡ b
 same-from a b e = key-from_cmp a b (is_eq-true (key_cmp a b) e)

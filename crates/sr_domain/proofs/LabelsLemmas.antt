@@ -12,7 +12,8 @@ use Rattle.sr_labels.specs.declared.srgb.SrgbBad.TheVariants.{Bad}
 use Rattle.sr_labels.specs.Ranges.{IsRefusal}
 use Rattle.sr_lsdb.specs.declared.facts.Facts.{Facts}
 use Rattle.sr_domain.specs.Nodes.{nodes_of, srgb_of, ranges_of, labels_of, labels_with, node_sid_of}
-use Rattle.sr_domain.specs.Rules.{AreKept, IsFirstBroken, LacksSrgb, HasBadSrgb, NoNode, IsLeastNode}
+use Rattle.sr_domain.specs.Rules.{AreKept, IsFirstBroken, LacksSrgb, HasBadSrgb, HoldsNowhere, IsLeastNode}
+use Rattle.sr_domain.proofs.SameLemmas.{some_same}
 use Rattle.sr_domain.proofs.LeastLemmas.{NoneBelow, none-yet, none-more, none-all, least-at}
 use Rattle.sr_domain.proofs.KeptLemmas.{kept-nothing, kept-more}
 
@@ -29,7 +30,7 @@ left-first f [] (suc k) d y ys e = absurd (cc)
 left-first f (x ∷ xs) zero d y ys e = (omega arith, cc, cc)
 left-first f (x ∷ xs) (suc k) d y ys e = let rest = left-first f xs k d y ys e in (let lt : k < length xs = rest.0 in omega arith, rest.1, rest.2)
 
--- the ranges of the first so many nodes, each of which has some
+-- the ranges of the first m nodes, each of which has some
 pub record RangesMade (facts : Facts) (nodes : List ℕ) (count : ℕ) (out : List (List Range)) : Type 0 where
   pub made : out ≡ map (ranges_of facts) (take count nodes)
   pub none : NoneBelow nodes (LacksSrgb facts) count
@@ -44,7 +45,7 @@ ranges-more facts nodes i node ranges out out' within is before found pushed = r
 }
 
 pub ranges-kept : (facts : Facts) (nodes : List ℕ) (count : ℕ) (out : List (List Range)) → nodes ≡ nodes_of facts → length nodes ≤ count → RangesMade facts nodes count out → AreKept facts 1
-ranges-kept facts nodes count out are all made = kept-more facts 0 (NoSrgb 0) refl (kept-nothing facts) (subst (λ (l : List ℕ). NoNode l (LacksSrgb facts)) are (none-all nodes (LacksSrgb facts) count all made.none))
+ranges-kept facts nodes count out are all made = kept-more facts 0 (NoSrgb 0) refl (kept-nothing facts) (subst (λ (l : List ℕ). HoldsNowhere l (LacksSrgb facts)) are (none-all nodes (LacksSrgb facts) count all made.none))
 
 pub srgb-lacks : (facts : Facts) (nodes : List ℕ) (i node : ℕ) (out : List (List Range)) → nodes ≡ nodes_of facts → IsStrictlyIncreasing nodes → i < length nodes → node ≡ get_or nodes i node → RangesMade facts nodes i out → None ≡ srgb_of facts node → IsFirstBroken facts (NoSrgb node)
 srgb-lacks facts nodes i node out are up within is made lacks = record {
@@ -72,7 +73,7 @@ pub record LabelsMade (facts : Facts) (nodes : List ℕ) (out : List Labels) (le
 module _ (facts : Facts) (nodes : List ℕ) (are : nodes ≡ nodes_of facts) (kept : AreKept facts 1) where
   srgb-some : (node : ℕ) (ranges : List Range) → Contains nodes node → ranges ≡ ranges_of facts node → srgb_of facts node ≡ Some ranges
   srgb-some node ranges there e =
-      let none : NoNode nodes (LacksSrgb facts) = subst (λ (l : List ℕ). NoNode l (LacksSrgb facts)) (sym are) (kept (NoSrgb 0) (omega arith)) in
+      let none : HoldsNowhere nodes (LacksSrgb facts) = subst (λ (l : List ℕ). HoldsNowhere l (LacksSrgb facts)) (sym are) (kept (NoSrgb 0) (omega arith)) in
       srgb-some_by (srgb_of facts node) ranges (λ lacks. none node there lacks) e
 
   pub labels-bad : (out : List Labels) (node : ℕ) (ranges : List Range) (left : List (List Range)) (fault : SrgbBad) → IsStrictlyIncreasing nodes → LabelsMade facts nodes out (ranges ∷ left) → node ≡ get_or nodes (length out) node → IsRefusal ranges fault → IsFirstBroken facts (BadSrgb node)
@@ -96,16 +97,13 @@ module _ (facts : Facts) (nodes : List ℕ) (are : nodes ≡ nodes_of facts) (ke
         made = mapped-more (labels_of facts) nodes (length out) node (labels_with srgb (node_sid_of facts node)) out out' within is made.made (ap (λ r. labels_with r (node_sid_of facts node)) its) pushed ∙ ap (λ n. map (labels_of facts) (take n nodes)) (sym more);
         left_are = here.2 ∙ ap (λ n. map (ranges_of facts) (drop n nodes)) (sym more');
         none = subst (λ n. NoneBelow nodes (HasBadSrgb facts) n) (sym more) (none-more nodes (HasBadSrgb facts) (length out) node within is made.none
-            (λ bad. bad.2 (subst (λ (r : List Range). IsSrgb r) (same_some srgb bad.0 (sym (srgb-some node srgb (length out, within, sym is) its) ∙ bad.1)) good)));
+            (λ bad. bad.2 (subst (λ (r : List Range). IsSrgb r) (some_same srgb bad.0 (sym (srgb-some node srgb (length out, within, sym is) its) ∙ bad.1)) good)));
       }
-    where
-      same_some : (a b : List Range) → Some a ≡ Some b → a ≡ b
-      same_some a b e = cc
 
   pub labels-kept : (out : List Labels) (left : List (List Range)) → LabelsMade facts nodes out left → length left ≡ 0 → (out ≡ map (labels_of facts) nodes) × AreKept facts 2
   labels-kept out left made empty =
       let all : length nodes ≤ length out = none_left nodes (length out) (sym (no_length left empty) ∙ made.left_are) in
-      (made.made ∙ ap (map (labels_of facts)) (take_all (length out) nodes all), kept-more facts 1 (BadSrgb 0) refl kept (subst (λ (l : List ℕ). NoNode l (HasBadSrgb facts)) are (none-all nodes (HasBadSrgb facts) (length out) all made.none)))
+      (made.made ∙ ap (map (labels_of facts)) (take_all (length out) nodes all), kept-more facts 1 (BadSrgb 0) refl kept (subst (λ (l : List ℕ). HoldsNowhere l (HasBadSrgb facts)) are (none-all nodes (HasBadSrgb facts) (length out) all made.none)))
     where
       no_length : (l : List (List Range)) → length l ≡ 0 → l ≡ []
       no_length [] e = refl

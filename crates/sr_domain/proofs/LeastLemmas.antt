@@ -4,16 +4,16 @@ use Rattle.std.specs.List.Sorted.{IsStrictlyIncreasing}
 use Rattle.std.proofs.lemmas.Bool.{cases_lt}
 use Rattle.std.proofs.lemmas.List.{get_or_default}
 use Rattle.std.proofs.lemmas.Map.Keys.{sorted_from_strictly_increasing, below_from_sorted}
-use Rattle.sr_domain.specs.Rules.{IsLeastNode, NoNode}
+use Rattle.sr_domain.specs.Rules.{IsLeastNode, HoldsNowhere}
 
--- the fact holds of none of the first so many nodes
+-- the fact holds of none of the first m nodes
 pub record NoneBelow (nodes : List ℕ) (P : ℕ → Type 0) (count : ℕ) : Type 0 where
   pub none : (k : ℕ) → k < count → P (get_or nodes k 0) → ⊥
 
 pub none-yet : (nodes : List ℕ) (P : ℕ → Type 0) → NoneBelow nodes P 0
 none-yet nodes P = record { none = λ k lt. absurd (omega arith) }
 
-pub none-all : (nodes : List ℕ) (P : ℕ → Type 0) (count : ℕ) → length nodes ≤ count → NoneBelow nodes P count → NoNode nodes P
+pub none-all : (nodes : List ℕ) (P : ℕ → Type 0) (count : ℕ) → length nodes ≤ count → NoneBelow nodes P count → HoldsNowhere nodes P
 none-all nodes P count all below = λ node there holds.
     let at : get_or nodes there.0 0 ≡ node = get_or_default nodes there.0 0 node there.1 ∙ there.2 in
     below.none there.0 (let lt : there.0 < length nodes = there.1 in omega arith) (subst P (sym at) holds)

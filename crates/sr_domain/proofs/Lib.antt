@@ -1,3 +1,4 @@
+pub mod SameLemmas
 pub mod AnnouncedLemmas
 pub mod NodesLemmas
 pub mod NumbersLemmas

@@ -5,8 +5,7 @@ use Rattle.std.specs.Option.{option_map}
 use Rattle.std.specs.List.{filter_map, cons_option, list_any}
 use Rattle.std.specs.List.Sorted.{IsPermutation, IsStrictlyIncreasing}
 use Rattle.std.specs.Ordering.{is_eq}
-use Rattle.std.specs.declared.cmp.Ordering.{Ordering}
-use Rattle.std.specs.declared.cmp.Ordering.TheVariants.{Less, Equal, Greater}
+use Rattle.std.specs.declared.cmp.Ordering.TheVariants.{Less}
 use Rattle.sr_model.specs.declared.rule.DomainRule.TheVariants.{DuplicateIndex, IndexOutside, AdjLabelClash}
 use Rattle.std.proofs.lemmas.Cmp.{tied_itself}
 use Rattle.std.proofs.lemmas.List.{length-map, get_or_default}
@@ -31,6 +30,7 @@ use Rattle.sr_domain.specs.Links.{links_of, link_by, link_of, is_in_use, labelle
 use Rattle.sr_domain.specs.Rules.{AreKept}
 use Rattle.sr_domain.specs.Steps.{IsGraphOf}
 use Rattle.sr_domain.specs.Net.{IsNetOf}
+use Rattle.sr_domain.proofs.SameLemmas.{is_eq-true, some_same}
 use Rattle.sr_domain.proofs.MemberLemmas.{here, later, picked-from}
 use Rattle.sr_domain.proofs.PlacesLemmas.{place-at}
 use Rattle.sr_domain.proofs.AdjLemmas.{clash-moved}
@@ -70,11 +70,6 @@ found-at (l ∷ ls) (f ∷ fs) e same (suc i) lt =
     let r = found-at ls fs (omega arith) parts.1 i (omega arith) in
     (r.0, later f fs r.0 r.1, r.2)
 
-is_eq-true : (r : Ordering) → is_eq r ≡ true → r ≡ Equal
-is_eq-true Less e = absurd (cc)
-is_eq-true Equal e = refl
-is_eq-true Greater e = absurd (cc)
-
 key-there : (keys : List LinkKey) (key : LinkKey) → list_any (same_key key) keys ≡ true → (i : ℕ) × (slice_get keys i ≡ Some key)
 key-there [] key e = absurd (cc)
 key-there (k ∷ ks) key e = by (λ h. key-there ks key h) (same_key key k) refl e
@@ -86,9 +81,6 @@ key-there (k ∷ ks) key e = by (λ h. key-there ks key h) (same_key key k) refl
 slice-at : (keys : List LinkKey) (i : ℕ) (a : LinkKey) → slice_get keys i ≡ Some a → (i < length keys) × (get_or keys i a ≡ a)
 slice-at [] i a e = absurd (cc)
 slice-at (k ∷ ks) zero a e = (omega arith, some_same k a e)
-  where
-    some_same : (x y : LinkKey) → Some x ≡ Some y → x ≡ y
-    some_same x y h = cc
 slice-at (k ∷ ks) (suc i) a e = let r = slice-at ks i a e in (let lt : i < length ks = r.0 in omega arith, r.1)
 
 link-announced : (facts : Facts) (x : FoundLink) → Contains (links_of facts) x → is_announced (two_way_of facts) x.key ≡ true
@@ -98,9 +90,6 @@ link-announced facts x c =
     let at : get_or (two_way_of facts) r.1.0 r.0 ≡ r.0 = r.1.2 in
     list_any_at (λ (a : Announcement). same_key x.key a.key) (two_way_of facts) r.1.0 r.0 r.1.1 (ap (λ (a : Announcement). same_key x.key a.key) at ∙ ap (same_key x.key) key ∙ ap is_eq (tied_itself key_total x.key))
   where
-    some_same : (u v : FoundLink) → Some u ≡ Some v → u ≡ v
-    some_same u v h = cc
-
     same : (a : Announcement) (b : Bool) → cond b (Some (link_of facts a)) None ≡ Some x → a.key ≡ x.key
     same a true h = ap (λ (l : FoundLink). l.key) (some_same (link_of facts a) x h)
     same a false h = absurd (cc)

@@ -13,7 +13,7 @@ use Rattle.sr_domain.specs.GroupTables.{draft_link}
 use Rattle.sr_domain.specs.Links.{links_of}
 use Rattle.sr_domain.specs.Nodes.{nodes_of}
 use Rattle.sr_domain.specs.Named.{domain_fault}
-use Rattle.sr_domain.specs.Rules.{AreKept, IsDomainFault, HasZeroMetric, IsRepeated}
+use Rattle.sr_domain.specs.Rules.{AreKept, IsDomainFault, HasZeroMetric, IsKeyRepeated}
 use Rattle.sr_domain.proofs.KeptLemmas.{kept-more}
 use Rattle.sr_domain.proofs.TopologyLemmas.{least-moved, zero-to, zero-from, twice-to, twice-from, length-same}
 
@@ -36,7 +36,7 @@ module _ (facts : Facts) (m : PairKey → List ℕ) (nodes : List ℕ) (links : 
     earlier = kept;
   }
   refused (DuplicateLink from to) r = record {
-    broken = least-moved (IsTwice drafts) (IsRepeated (links_of facts)) (twice-to m (links_of facts) links drafts moved are) (twice-from m (links_of facts) links drafts moved are) from to r.1;
+    broken = least-moved (IsTwice drafts) (IsKeyRepeated (links_of facts)) (twice-to m (links_of facts) links drafts moved are) (twice-from m (links_of facts) links drafts moved are) from to r.1;
     earlier = no-zero r.0;
   }
   refused (TooManyNodes count) r = record {

@@ -1,12 +1,11 @@
 -- The run of elements with a key, in a list that is sorted by key.
-use Rattle.std.proofs.Common.{◌≡◌, ℕ, zero, suc, ⊎_elim, ◌+◌, ◌-◌, ◌<◌, ◌≤◌, Bool, true, false, cond, List, [], ◌∷◌, length, length-drop, get_or, take, drop, filter, ltb, refl, arith, ap, sym, ◌∙◌}
+use Rattle.std.proofs.Common.{◌≡◌, ℕ, zero, suc, ◌+◌, ◌-◌, ◌<◌, ◌≤◌, Bool, true, false, cond, List, [], ◌∷◌, length, length-drop, get_or, take, drop, filter, ltb, refl, arith, ap, subst, sym, ◌∙◌}
 use Rattle.std.specs.Cmp.{IsTotalOrder}
 use Rattle.std.specs.List.Sorted.{IsPartitionPoint, IsPartitionedBy, IsSortedBy}
-use Rattle.std.specs.Ordering.{eq_by_cmp, is_eq, is_gt, is_lt, ordering_index, ordering_reverse}
+use Rattle.std.specs.Ordering.{eq_by_cmp, is_eq, is_le, is_lt, ordering_index, ordering_reverse}
 use Rattle.std.specs.declared.cmp.Ordering.{Ordering}
 use Rattle.std.specs.declared.cmp.Ordering.TheVariants.{Less, Equal, Greater}
-use Rattle.std.proofs.lemmas.Bool.{cases_lt}
-use Rattle.std.proofs.lemmas.List.{get_or-drop, get_or_default, take_all}
+use Rattle.std.proofs.lemmas.List.{get_or-drop, take_all}
 use Rattle.std.proofs.lemmas.List.Sorted.{IsPartitionedBy-ltb, searchable_from_sorted}
 
 lt-index : (o : Ordering) → is_lt o ≡ ltb (ordering_index o) 1
@@ -14,31 +13,36 @@ lt-index Less = refl
 lt-index Equal = refl
 lt-index Greater = refl
 
-gt-index : (o : Ordering) → is_gt o ≡ true → ordering_index o ≡ 2
-gt-index Less e = absurd (cc)
-gt-index Equal e = absurd (cc)
-gt-index Greater e = refl
-
-index-gt : (o : Ordering) → 2 ≤ ordering_index o → is_eq (ordering_reverse o) ≡ false
-index-gt Less e = absurd (omega arith)
-index-gt Equal e = absurd (omega arith)
-index-gt Greater e = refl
+le-index : (o : Ordering) → is_le o ≡ ltb (ordering_index o) 2
+le-index Less = refl
+le-index Equal = refl
+le-index Greater = refl
 
 before-is : (o : Ordering) → is_lt o ≡ true → is_eq (ordering_reverse o) ≡ false
 before-is Less e = refl
 before-is Equal e = absurd (cc)
 before-is Greater e = refl
 
-within-is : (o : Ordering) → is_lt o ≡ false → is_gt o ≡ false → is_eq (ordering_reverse o) ≡ true
+within-is : (o : Ordering) → is_lt o ≡ false → is_le o ≡ true → is_eq (ordering_reverse o) ≡ true
 within-is Less e f = absurd (cc)
 within-is Equal e f = refl
 within-is Greater e f = absurd (cc)
+
+after-is : (o : Ordering) → is_le o ≡ false → is_eq (ordering_reverse o) ≡ false
+after-is Less e = absurd (cc)
+after-is Equal e = absurd (cc)
+after-is Greater e = refl
 
 -- what a partition point asks, of the tests by which a run begins and ends
 pub partitioned-lt : {K : Type 0} {R : K → K → Ordering} (o : IsTotalOrder R) → {X : Type 0} (key : X → K) (xs : List X) (x : K) → IsSortedBy (λ a b. is_lt (R (key a) (key b))) xs → IsPartitionedBy (λ y. is_lt (R (key y) x)) xs
 partitioned-lt {K} {R} o key xs x up i j d le lt e =
     lt-index (R (key (get_or xs i d)) x)
     ∙ IsPartitionedBy-ltb (λ y. ordering_index (R (key y) x)) xs 1 (searchable_from_sorted o key xs x up) i j d le lt (sym (lt-index (R (key (get_or xs j d)) x)) ∙ e)
+
+pub partitioned-le : {K : Type 0} {R : K → K → Ordering} (o : IsTotalOrder R) → {X : Type 0} (key : X → K) (xs : List X) (x : K) → IsSortedBy (λ a b. is_lt (R (key a) (key b))) xs → IsPartitionedBy (λ y. is_le (R (key y) x)) xs
+partitioned-le {K} {R} o key xs x up i j d le lt e =
+    le-index (R (key (get_or xs i d)) x)
+    ∙ IsPartitionedBy-ltb (λ y. ordering_index (R (key y) x)) xs 2 (searchable_from_sorted o key xs x up) i j d le lt (sym (le-index (R (key (get_or xs j d)) x)) ∙ e)
 
 drop-empty : {X : Type 0} (n : ℕ) → drop {A = X} n [] ≡ []
 drop-empty zero = refl
@@ -61,50 +65,33 @@ run f (x ∷ xs) zero zero before within after =
     run f xs zero zero (λ k d a b. absurd (omega arith)) (λ k d a b c. absurd (omega arith)) (λ k d a b. after (suc k) d (omega arith) (omega arith))
     ∙ ap (λ b. cond b (x ∷ filter f xs) (filter f xs)) (sym (after 0 x (omega arith) (omega arith)))
 
--- from where a search for the key ends, up to the first of a later key, stands the run of the key
-pub run-is : {K : Type 0} {R : K → K → Ordering} (o : IsTotalOrder R) → {X : Type 0} (key : X → K) (xs : List X) (x : K) (low n : ℕ)
-    → IsSortedBy (λ a b. is_lt (R (key a) (key b))) xs
+-- the rest of a list, as a slice has it
+rest-is : {X : Type 0} (xs : List X) (low : ℕ) → take (length xs - low) (drop low xs) ≡ drop low xs
+rest-is xs low = take_all (length xs - low) (drop low xs) (omega (arith, length-drop low xs))
+
+-- the rest of a list is parted by a test that parts the list
+pub partitioned-rest : {X : Type 0} (p : X → Bool) (xs : List X) (low : ℕ) → IsPartitionedBy p xs → IsPartitionedBy p (take (length xs - low) (drop low xs))
+partitioned-rest {X} p xs low parted =
+    subst (λ (r : List X). IsPartitionedBy p r) (sym (rest-is xs low))
+    (λ i j d le lt e. ap p (get_or-drop low xs i d) ∙ parted (low + i) (low + j) d (omega arith) (omega (arith, length-drop low xs)) (sym (ap p (get_or-drop low xs j d)) ∙ e))
+
+-- from the first that isn't below a key, up to the first above it, stands the run of the key
+pub run-of : {K : Type 0} {R : K → K → Ordering} (o : IsTotalOrder R) → {X : Type 0} (key : X → K) (xs : List X) (x : K) (low n : ℕ)
     → IsPartitionPoint (λ y. is_lt (R (key y) x) ≡ true) (λ y. is_lt (R (key y) x) ≡ false) xs low
-    → ((k : ℕ) (d : X) → k < n → is_gt (R (key (get_or (drop low xs) k d)) x) ≡ false)
-    → ((d : X) → n < length (drop low xs) → is_gt (R (key (get_or (drop low xs) n d)) x) ≡ true)
-    → take n (drop low xs) ≡ filter (λ y. eq_by_cmp R x (key y)) xs
-run-is {K} {R} o {X} key xs x low n up parts before later =
-    run (λ y. eq_by_cmp R x (key y)) xs low n
-    (λ k d less _. turned d k ∙ before-is (R (key (get_or xs k d)) x) (parts.0 k d (omega arith) less))
-    (λ k d from below within. turned d k ∙ within-is (R (key (get_or xs k d)) x) (parts.1 k d from within)
-    (ap (λ (y : X). is_gt (R (key y) x)) (shifted d k from) ∙ before (k - low) d (omega arith)))
-    (λ k d from within. turned d k ∙ index-gt (R (key (get_or xs k d)) x) (far k d from within))
+    → IsPartitionPoint (λ y. is_le (R (key y) x) ≡ true) (λ y. is_le (R (key y) x) ≡ false) (take (length xs - low) (drop low xs)) n
+    → take n (take (length xs - low) (drop low xs)) ≡ filter (λ y. eq_by_cmp R x (key y)) xs
+run-of {K} {R} o {X} key xs x low n from to =
+    ap (take n) (rest-is xs low)
+    ∙ run (λ y. eq_by_cmp R x (key y)) xs low n
+    (λ k d less _. turned d k ∙ before-is (R (key (get_or xs k d)) x) (from.0 k d (omega arith) less))
+    (λ k d at below within. turned d k ∙ within-is (R (key (get_or xs k d)) x) (from.1 k d at within) (shifted d k at ∙ to.0 (k - low) d (omega arith) (omega arith)))
+    (λ k d past within. turned d k ∙ after-is (R (key (get_or xs k d)) x) (shifted d k (omega arith) ∙ to.1 (k - low) d (omega arith) (omega (arith, length-drop low xs, ap length (rest-is xs low)))))
   where
     turned : (d : X) (k : ℕ) → is_eq (R x (key (get_or xs k d))) ≡ is_eq (ordering_reverse (R (key (get_or xs k d)) x))
     turned d k = ap is_eq (o.antisymm x (key (get_or xs k d)))
 
-    shifted : (d : X) (k : ℕ) → low ≤ k → get_or xs k d ≡ get_or (drop low xs) (k - low) d
-    shifted d k from = ap (λ m. get_or xs m d) (let e : k ≡ low + (k - low) = omega arith in e) ∙ sym (get_or-drop low xs (k - low) d)
-
-    far : (k : ℕ) (d : X) → low + n ≤ k → k < length xs → 2 ≤ ordering_index (R (key (get_or xs k d)) x)
-    far k d from within =
-        let long : n < length (drop low xs) = omega (arith, length-drop low xs) in
-        let at : ordering_index (R (key (get_or xs (low + n) d)) x) ≡ 2 = gt-index (R (key (get_or xs (low + n) d)) x) (ap (λ (y : X). is_gt (R (key y) x)) (shifted d (low + n) (omega arith)) ∙ ap (λ m. is_gt (R (key (get_or (drop low xs) m d)) x)) (let e : low + n - low ≡ n = omega arith in e) ∙ later d long) in
-        let rises : ordering_index (R (key (get_or xs (low + n) d)) x) ≤ ordering_index (R (key (get_or xs k d)) x) = searchable_from_sorted o key xs x up (low + n) k d from within in
-        omega arith
-
--- the same, where the rest of the list is as a slice has it
-pub run-of : {K : Type 0} {R : K → K → Ordering} (o : IsTotalOrder R) → {X : Type 0} (key : X → K) (xs : List X) (x : K) (low n : ℕ)
-    → IsSortedBy (λ a b. is_lt (R (key a) (key b))) xs
-    → IsPartitionPoint (λ y. is_lt (R (key y) x) ≡ true) (λ y. is_lt (R (key y) x) ≡ false) xs low
-    → ((k : ℕ) (d : X) → k < n → is_gt (R (key (get_or (take (length xs - low) (drop low xs)) k d)) x) ≡ false)
-    → ((d : X) → n < length (take (length xs - low) (drop low xs)) → is_gt (R (key (get_or (take (length xs - low) (drop low xs)) n d)) x) ≡ true)
-    → take n (take (length xs - low) (drop low xs)) ≡ filter (λ y. eq_by_cmp R x (key y)) xs
-run-of {K} {R} o {X} key xs x low n up parts before later =
-    let whole : take (length xs - low) (drop low xs) ≡ drop low xs = take_all (length xs - low) (drop low xs) (omega (arith, length-drop low xs)) in
-    ap (take n) whole
-    ∙ run-is o key xs x low n up parts
-    (λ k d less. ap (λ (r : List X). is_gt (R (key (get_or r k d)) x)) (sym whole) ∙ before k d less)
-    (λ d within. ap (λ (r : List X). is_gt (R (key (get_or r n d)) x)) (sym whole) ∙ later d (omega (arith, ap length whole)))
-
--- one more element that fails a test
-pub one-more : {X : Type 0} (f : X → Bool) (xs : List X) (i : ℕ) (x : X) → i < length xs → x ≡ get_or xs i x → f x ≡ false → ((k : ℕ) (d : X) → k < i → f (get_or xs k d) ≡ false) → (k : ℕ) (d : X) → k < i + 1 → f (get_or xs k d) ≡ false
-one-more {X} f xs i x within is here below k d less = ⊎_elim
-    (λ (low : k < i). below k d low)
-    (λ (high : i ≤ k). ap f (let e : k ≡ i = omega arith in ap (λ m. get_or xs m d) e ∙ get_or_default xs i d x within ∙ sym is) ∙ here)
-    (cases_lt k i)
+    shifted : (d : X) (k : ℕ) → low ≤ k → is_le (R (key (get_or xs k d)) x) ≡ is_le (R (key (get_or (take (length xs - low) (drop low xs)) (k - low) d)) x)
+    shifted d k at =
+        ap (λ (m : ℕ). is_le (R (key (get_or xs m d)) x)) (let e : k ≡ low + (k - low) = omega arith in e)
+        ∙ ap (λ (y : X). is_le (R (key y) x)) (sym (get_or-drop low xs (k - low) d))
+        ∙ ap (λ (r : List X). is_le (R (key (get_or r (k - low) d)) x)) (sym (rest-is xs low))

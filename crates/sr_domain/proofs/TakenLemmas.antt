@@ -13,7 +13,7 @@ use Rattle.sr_domain.specs.declared.names.PairName.{PairName}
 use Rattle.sr_domain.specs.declared.risks.RiskName.{RiskName}
 use Rattle.sr_domain.specs.declared.risks.RiskNote.{RiskNote}
 use Rattle.sr_domain.specs.Groups.{name_cmp, same_name}
-use Rattle.sr_domain.specs.GroupTables.{AreApart, groups_said, is_of, is_under, link_name, note_group, pair_name_cmp}
+use Rattle.sr_domain.specs.GroupTables.{NamesAscend, groups_said, is_of, is_under, link_name, note_group, pair_name_cmp}
 use Rattle.sr_domain.proofs.GroupsLemmas.{name_total}
 
 -- the names of one pair ascend
@@ -33,12 +33,12 @@ names-below pair a of_a (n ∷ ns) all = by (names-below pair a of_a ns all.1) (
     by rest true of_n = (name-less pair a n of_a of_n all.0, rest)
     by rest false of_n = rest
 
-pub names-apart : (pair : PairKey) (ns : List PairName) → IsStrictlySortedBy pair_name_cmp ns → AreApart (filter (is_of pair) ns)
+pub names-apart : (pair : PairKey) (ns : List PairName) → IsStrictlySortedBy pair_name_cmp ns → NamesAscend (filter (is_of pair) ns)
 unfolding IsStrictlySortedBy
 names-apart pair [] up = tt
 names-apart pair (n ∷ ns) up = by (names-apart pair ns up.1) (is_of pair n) refl
   where
-    by : AreApart (filter (is_of pair) ns) → (b : Bool) → is_of pair n ≡ b → AreApart (cond b (n ∷ filter (is_of pair) ns) (filter (is_of pair) ns))
+    by : NamesAscend (filter (is_of pair) ns) → (b : Bool) → is_of pair n ≡ b → NamesAscend (cond b (n ∷ filter (is_of pair) ns) (filter (is_of pair) ns))
     by rest true of_n = (names-below pair n of_n ns up.0, rest)
     by rest false of_n = rest
 
@@ -60,7 +60,7 @@ no-hits note name same (n ∷ ns) all = by (no-hits note name same ns all.1) (is
     by rest false e = omega arith
     by rest true e = absurd (differ (name_cmp name n.name) all.0 ((eq_by_cmp_equiv name_total).congr name note.name n.name same ∙ (eq_by_cmp_equiv name_total).symm note.name n.name ∙ e))
 
-few-hits : (note : RiskNote) (ns : List PairName) → AreApart ns → hits note ns ≤ 1
+few-hits : (note : RiskNote) (ns : List PairName) → NamesAscend ns → hits note ns ≤ 1
 unfolding IsStrictlySortedBy
 few-hits note [] up = omega arith
 few-hits note (n ∷ ns) up = by (few-hits note ns up.1) (is_under n.name note) refl
@@ -86,6 +86,6 @@ said-more (n ∷ ns) note notes =
     by rest true = omega arith
     by rest false = omega arith
 
-pub said-bound : (ns : List PairName) (notes : List RiskNote) → AreApart ns → length (groups_said ns notes) ≤ length notes
+pub said-bound : (ns : List PairName) (notes : List RiskNote) → NamesAscend ns → length (groups_said ns notes) ≤ length notes
 said-bound ns [] up = omega (arith, said-none ns)
 said-bound ns (note ∷ notes) up = omega (arith, said-more ns note notes, few-hits note ns up, said-bound ns notes up)

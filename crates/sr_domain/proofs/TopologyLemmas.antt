@@ -15,13 +15,13 @@ use Rattle.sr_graph.specs.Draft.{IsDraft, AreLeast, HasZero, IsTwice}
 use Rattle.sr_domain.specs.declared.links.FoundLink.{FoundLink}
 use Rattle.sr_model.specs.declared.name.PairKey.{PairKey}
 use Rattle.sr_domain.specs.GroupTables.{draft_link}
-use Rattle.sr_domain.specs.Links.{HasEnds}
-use Rattle.sr_domain.specs.Rules.{HasZeroMetric, IsRepeated}
+use Rattle.sr_domain.specs.Links.{JoinsNodes}
+use Rattle.sr_domain.specs.Rules.{HasZeroMetric, IsKeyRepeated}
 use Rattle.sr_domain.specs.Steps.{IsBelowMaximum}
 use Rattle.sr_domain.proofs.MemberLemmas.{mapped-from, mapped-to}
 
 -- what a graph is built from
-pub draft-fits : (m : PairKey → List ℕ) (nodes : List ℕ) (links : List FoundLink) (drafts : List DraftLink) → IsStrictlyIncreasing nodes → All (HasEnds nodes) links → All IsBelowMaximum links → drafts ≡ map (draft_link m) links → All (λ (d : DraftLink). IsStrictlyIncreasing d.groups) drafts → IsDraft (record { nodes = nodes; links = drafts })
+pub draft-fits : (m : PairKey → List ℕ) (nodes : List ℕ) (links : List FoundLink) (drafts : List DraftLink) → IsStrictlyIncreasing nodes → All (JoinsNodes nodes) links → All IsBelowMaximum links → drafts ≡ map (draft_link m) links → All (λ (d : DraftLink). IsStrictlyIncreasing d.groups) drafts → IsDraft (record { nodes = nodes; links = drafts })
 draft-fits m nodes links drafts up ends metrics are groups = record {
   nodes = up;
   ends = subst (λ (ds : List DraftLink). All (λ (d : DraftLink). Contains nodes d.key.from × Contains nodes d.key.to × (d.key.from ≢ d.key.to)) ds) (sym are) (All-map (λ (d : DraftLink). Contains nodes d.key.from × Contains nodes d.key.to × (d.key.from ≢ d.key.to)) (draft_link m) links ends);
@@ -30,7 +30,7 @@ draft-fits m nodes links drafts up ends metrics are groups = record {
   pairs = λ a b in_a in_b same.
       let x = mapped-from (draft_link m) links a (subst (λ (ds : List DraftLink). Contains ds a) are in_a) in
       let y = mapped-from (draft_link m) links b (subst (λ (ds : List DraftLink). Contains ds b) are in_b) in
-      let differ : b.key.from ≢ b.key.to = subst (λ (d : DraftLink). d.key.from ≢ d.key.to) y.2 (All-contains (HasEnds nodes) links y.0 ends y.1).2 in
+      let differ : b.key.from ≢ b.key.to = subst (λ (d : DraftLink). d.key.from ≢ d.key.to) y.2 (All-contains (JoinsNodes nodes) links y.0 ends y.1).2 in
       ap (λ (d : DraftLink). d.groups) (sym x.2)
       ∙ ap (λ (k : LinkKey). m (pair_of k)) (ap (λ (d : DraftLink). d.key) x.2)
       ∙ ap (λ p. m p) (same-pair a.key b.key differ same)
@@ -69,10 +69,10 @@ module _ (m : PairKey → List ℕ) (found links : List FoundLink) (drafts : Lis
   count-same : (k : LinkKey) → count_by (λ (d : DraftLink). same_key k d.key) drafts ≡ count_by (λ (l : FoundLink). same_key k l.key) found
   count-same k = ap (count_by (λ (d : DraftLink). same_key k d.key)) are ∙ count-map k links ∙ sum_by-IsPermutation (λ (l : FoundLink). cond (same_key k l.key) 1 0) found links moved
 
-  pub twice-to : (k : LinkKey) → IsTwice drafts k → IsRepeated found k
+  pub twice-to : (k : LinkKey) → IsTwice drafts k → IsKeyRepeated found k
   twice-to k t = subst (λ n. 2 ≤ n) (count-same k) t
 
-  pub twice-from : (k : LinkKey) → IsRepeated found k → IsTwice drafts k
+  pub twice-from : (k : LinkKey) → IsKeyRepeated found k → IsTwice drafts k
   twice-from k t = subst (λ n. 2 ≤ n) (sym (count-same k)) t
 
   pub length-same : length drafts ≡ length found

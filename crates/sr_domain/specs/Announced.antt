@@ -1,5 +1,6 @@
--- What the nodes of a domain announce of their links: which nodes are present, what tells their links apart, the labels of adjacencies, and the two-way announcements (this project's rules).
-use Rattle.std.specs.Prelude.{◌≡◌, ℕ, Bool, true, false, not, ◌==◌, ◌&&◌, if◌then◌else◌, List, [], ◌∷◌, ◌++◌, Option, Some, None, is_some, filter, bit_and, min}
+-- What the nodes of a domain announce of their links: which nodes are present, what tells their links apart, the
+-- labels of adjacencies, and the two-way announcements (this project's rules).
+use Rattle.std.specs.Prelude.{◌≡◌, ℕ, Bool, true, false, not, ◌==◌, ◌&&◌, if◌then◌else◌, List, [], ◌∷◌, ◌++◌, Option, Some, None, is_some, filter, bit_and, bit_or, min}
 use Rattle.std.specs.List.{filter_map, list_any}
 use Rattle.std.specs.List.Sorted.{IsStrictlySortedBy}
 use Rattle.std.specs.Option.{option_or}
@@ -8,6 +9,7 @@ use Rattle.sr_model.specs.declared.name.Ident.{Ident}
 use Rattle.sr_model.specs.declared.name.Ident.TheVariants.{None as NoIdent, Addr, Link}
 use Rattle.sr_model.specs.Key.{mirror}
 use Rattle.sr_model.specs.KeyOrder.{key_cmp, same_key}
+use Rattle.sr_wire.specs.declared.registry.TheConstants.{ADJ_SID_BACKUP, ADJ_SID_IPV6, ADJ_SID_SET}
 use Rattle.sr_subtlv.specs.declared.sid.Sid.{Sid}
 use Rattle.sr_subtlv.specs.declared.sid.Sid.TheVariants.{Index, Label}
 use Rattle.sr_subtlv.specs.declared.adj_sid.AdjSid.{AdjSid}
@@ -49,7 +51,8 @@ abbrev pub ident_by_ids : Option LinkIds → Ident
 ident_by_ids None = NoIdent
 ident_by_ids (Some ids) = if ids.remote == 0 then NoIdent else Link ids.local ids.remote
 
--- the identity by the addresses of both ends (sub-TLVs 6 and 8 of RFC 5305, 3.2 and 3.3), and where one is missing by the link identifiers
+-- the identity by the addresses of both ends (sub-TLVs 6 and 8 of RFC 5305, 3.2 and 3.3), and where one is missing by
+-- the link identifiers
 abbrev pub ident_by : Option ℕ → Option ℕ → Option LinkIds → Ident
 ident_by None remote ids = ident_by_ids ids
 ident_by (Some local) None ids = ident_by_ids ids
@@ -59,10 +62,18 @@ ident_by (Some local) (Some remote) ids = Addr local remote
 abbrev pub ident_of : ReachPart → Ident
 ident_of reach = ident_by reach.local reach.remote reach.ids
 
--- the label of a SID whose flags F (0x80) and S (0x08) are clear, and whose flag B (0x40) is set or clear as asked
+-- the flags F and S of an Adj-SID are clear: it is for IPv4, and for one adjacency (RFC 8667, 2.2.1)
+abbrev pub is_for_one : ℕ → Bool
+is_for_one flags = bit_and flags (bit_or ADJ_SID_IPV6 ADJ_SID_SET) == 0
+
+-- the flag B of an Adj-SID is set or clear as asked (RFC 8667, 2.2.1)
+abbrev pub is_backup_as : Bool → ℕ → Bool
+is_backup_as backup flags = bit_and flags ADJ_SID_BACKUP == (if backup then ADJ_SID_BACKUP else 0)
+
+-- the label of a SID whose flags F and S are clear, and whose flag B is as asked
 abbrev pub label_in : Bool → ℕ → Sid → Option ℕ
 label_in backup flags (Index index) = None
-label_in backup flags (Label label) = if (bit_and flags 0x88 == 0) && (bit_and flags 0x40 == (if backup then 0x40 else 0)) then Some label else None
+label_in backup flags (Label label) = if is_for_one flags && is_backup_as backup flags then Some label else None
 
 -- the label of an Adj-SID, for IPv4 and one adjacency (RFC 8667, 2.2.1)
 abbrev pub adj_sid_label : Bool → AdjSid → Option ℕ
@@ -112,7 +123,8 @@ announced_key announcement = announcement.key
 abbrev pub is_announced : List Announcement → LinkKey → Bool
 is_announced announcements key = list_any (λ (a : Announcement). same_key key a.key) announcements
 
--- those whose other end announces the mirrored key: the other node is present, and announces this one with the mirrored identity
+-- those whose other end announces the mirrored key: the other node is present, and announces this one with the
+-- mirrored identity
 abbrev pub two_way : List Announcement → List Announcement
 two_way announcements = filter (λ (a : Announcement). is_announced announcements (mirror a.key)) announcements
 

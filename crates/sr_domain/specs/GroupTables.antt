@@ -29,8 +29,8 @@ abbrev pub HaveSameNotes : List RiskNote → List RiskNote → Type 0
 HaveSameNotes old new = (test : RiskNote → Bool) → list_any test new ≡ list_any test old
 
 -- the notes are in order of names
-abbrev pub AreInOrder : List RiskNote → Type 0
-AreInOrder = IsSortedByKey note_name name_cmp
+abbrev pub AreNotesInOrder : List RiskNote → Type 0
+AreNotesInOrder = IsSortedByKey note_name name_cmp
 
 -- the note is of an earlier name
 abbrev pub comes_before : RiskName → RiskNote → Bool
@@ -75,8 +75,8 @@ abbrev pub link_name : PairName → RiskName
 link_name name = name.name
 
 -- the names ascend, so that no two are alike
-abbrev pub AreApart : List PairName → Type 0
-AreApart names = IsStrictlySortedBy name_cmp (map link_name names)
+abbrev pub NamesAscend : List PairName → Type 0
+NamesAscend names = IsStrictlySortedBy name_cmp (map link_name names)
 
 -- the groups that the notes give these names, with repeats
 abbrev pub groups_said : List PairName → List RiskNote → List ℕ
@@ -98,9 +98,9 @@ abbrev pub groups_in : RiskTable → PairKey → List ℕ
 groups_in table pair = ascending (groups_said (filter (is_of pair) table.names.items) table.notes.items)
 
 -- the names are in order, each once, and the notes in order of names
-pub record IsTable (table : RiskTable) : Type 0 where
+pub record IsRiskTable (table : RiskTable) : Type 0 where
   pub names : IsStrictlySortedBy pair_name_cmp table.names.items
-  pub notes : AreInOrder table.notes.items
+  pub notes : AreNotesInOrder table.notes.items
 
 -- each pair has by these lists its groups
 abbrev pub GivesGroups : (PairKey → List ℕ) → List Announcement → List RiskNote → Type 0

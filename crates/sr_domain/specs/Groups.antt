@@ -1,4 +1,4 @@
--- Shared-risk groups: what the nodes say of their links, and the groups of a pair of links (this project's rules).
+-- Shared-risk groups: what the nodes say of their links, and the groups of a bidirectional link (this project's rules).
 use Rattle.std.specs.Prelude.{◌≡◌, ℕ, Bool, true, false, ◌==◌, ◌&&◌, ◌||◌, if◌then◌else◌, List, [], ◌∷◌, ◌++◌, Option, Some, None, map}
 use Rattle.std.specs.declared.cmp.Ordering.{Ordering}
 use Rattle.std.specs.List.{list_any}
@@ -94,7 +94,8 @@ speaks_of note announcement = is_name note.name (numbered_name announcement) || 
 abbrev pub is_group_of : List Announcement → List RiskNote → PairKey → ℕ → Bool
 is_group_of announcements notes pair group = list_any (λ (a : Announcement). same_pair pair (pair_of a.key) && list_any (λ (n : RiskNote). same_number group n.group && speaks_of n a) notes) announcements
 
--- the groups of a pair, ascending: those that some note of the facts gives to an announcement of the pair, of either end
+-- the groups of a pair, ascending: those that some note of the facts gives to an announcement of the pair, of either
+-- end
 pub record AreGroupsOf (facts : Facts) (pair : PairKey) (groups : List ℕ) : Type 0 where
   pub ascending : IsStrictlyIncreasing groups
   pub each : (group : ℕ) → list_any (same_number group) groups ≡ is_group_of (announcements_of facts) (notes_of facts) pair group

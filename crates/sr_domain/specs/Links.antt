@@ -1,4 +1,5 @@
--- The links of a domain: two-way announcements with their effective metrics, and the adjacency labels with the nodes that give them (this project's rules).
+-- The links of a domain: two-way announcements with their effective metrics, and the adjacency labels with the nodes
+-- that give them (this project's rules).
 use Rattle.std.specs.Prelude.{◌≡◌, ◌≢◌, Contains, ℕ, ◌+◌, ◌<◌, length, slice_index_or, Bool, not, ◌==◌, ◌&&◌, if◌then◌else◌, List, [], ◌∷◌, Option, Some, None}
 use Rattle.std.specs.List.{filter_map}
 use Rattle.std.specs.Option.{unwrap_or, option_map}
@@ -8,6 +9,7 @@ use Rattle.sr_model.specs.declared.label.AdjLabel.{AdjLabel}
 use Rattle.sr_model.specs.declared.link.Link.{Link}
 use Rattle.sr_model.specs.Key.{pair_of}
 use Rattle.sr_model.specs.KeyOrder.{key_cmp}
+use Rattle.sr_wire.specs.declared.registry.TheConstants.{MAXIMUM_METRIC}
 use Rattle.sr_lsdb.specs.declared.facts.Facts.{Facts}
 use Rattle.sr_lsdb.specs.Tables.{metric_at, is_down}
 use Rattle.sr_domain.specs.declared.announced.Announcement.{Announcement}
@@ -21,7 +23,8 @@ effective_metric facts announcement = unwrap_or (metric_at facts.costs announcem
 
 -- neither the maximum metric (RFC 5305, 3: it isn't considered in the computation) nor a pair that is down
 abbrev pub is_in_use : Facts → Announcement → Bool
-is_in_use facts announcement = not (effective_metric facts announcement == 16777215) && not (is_down facts.downs (pair_of announcement.key))
+is_in_use facts announcement =
+    not (effective_metric facts announcement == MAXIMUM_METRIC) && not (is_down facts.downs (pair_of announcement.key))
 
 -- the link of an announcement
 abbrev pub link_of : Facts → Announcement → FoundLink
@@ -67,5 +70,5 @@ abbrev pub link_label : FoundLink → Option ℕ
 link_label link = link.label
 
 -- the link's ends are two of these nodes
-abbrev pub HasEnds : List ℕ → FoundLink → Type 0
-HasEnds nodes link = Contains nodes link.key.from × Contains nodes link.key.to × (link.key.from ≢ link.key.to)
+abbrev pub JoinsNodes : List ℕ → FoundLink → Type 0
+JoinsNodes nodes link = Contains nodes link.key.from × Contains nodes link.key.to × (link.key.from ≢ link.key.to)

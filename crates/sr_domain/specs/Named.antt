@@ -10,10 +10,10 @@ use Rattle.sr_domain.specs.declared.fault.DomainFault.{DomainFault}
 use Rattle.sr_domain.specs.declared.fault.DomainFault.TheVariants.{Rule, Memory}
 
 -- the places are below the number of nodes
-abbrev pub AreWithin : ℕ → LabelRule → Type 0
-AreWithin count (ByPlaces index low high) = (low < count) × (high < count)
-AreWithin count (AtPlace index node) = node < count
-AreWithin count (ClashAtPlace label node) = node < count
+abbrev pub ArePlacesWithin : ℕ → LabelRule → Type 0
+ArePlacesWithin count (ByPlaces index low high) = (low < count) × (high < count)
+ArePlacesWithin count (AtPlace index node) = node < count
+ArePlacesWithin count (ClashAtPlace label node) = node < count
 
 -- the rule is the same, with the nodes at these places
 abbrev pub Names : List ℕ → LabelRule → DomainRule → Type 0

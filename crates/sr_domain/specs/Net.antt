@@ -12,7 +12,9 @@ use Rattle.sr_domain.specs.Links.{links_of, labelled}
 use Rattle.sr_domain.specs.Groups.{AreGroupsOf}
 use Rattle.sr_domain.specs.Rules.{AreKept}
 
--- exactly the net of the facts, which break none of the ten rules: the present nodes with what they announce, the links in use in order of key with their metrics, adjacency labels and groups, no node overloaded, the keys of all two-way announcements, and the depth
+-- exactly the net of the facts, which break none of the ten rules: the present nodes with what they announce, the
+-- links in use in order of key with their metrics, adjacency labels and groups, no node overloaded, the keys of all
+-- two-way announcements, and the depth
 pub record IsNetOf (facts : Facts) (net : Net) : Type 0 where
   pub kept : AreKept facts 10
   pub accepted : IsAccepted net

@@ -1,9 +1,11 @@
--- The nodes of a domain: which are present, and the label ranges, the index and the flags that each announces (this project's rules).
-use Rattle.std.specs.Prelude.{ℕ, Bool, false, not, ◌==◌, nat_lt, ◌&&◌, if◌then◌else◌, List, [], ◌∷◌, Option, Some, None, is_some, bit_and, map}
+-- The nodes of a domain: which are present, and the label ranges, the index and the flags that each announces (this
+-- project's rules).
+use Rattle.std.specs.Prelude.{ℕ, Bool, false, not, ◌==◌, nat_lt, ◌&&◌, if◌then◌else◌, List, [], ◌∷◌, Option, Some, None, is_some, bit_and, bit_or, map}
 use Rattle.std.specs.Option.{unwrap_or, option_map, option_or}
 use Rattle.std.specs.List.{filter_map}
 use Rattle.sr_model.specs.declared.label.Range.{Range}
 use Rattle.sr_model.specs.Label.{Labels}
+use Rattle.sr_wire.specs.declared.registry.TheConstants.{ADDRESS_BITS, LSP_OVERLOAD, PREFIX_SID_EXPLICIT_NULL, PREFIX_SID_NODE, PREFIX_SID_NO_POP, PREFIX_SID_READVERTISED}
 use Rattle.sr_subtlv.specs.declared.sid.Sid.{Sid}
 use Rattle.sr_subtlv.specs.declared.sid.Sid.TheVariants.{Index, Label}
 use Rattle.sr_subtlv.specs.declared.prefix_sid.PrefixSid.{PrefixSid}
@@ -57,10 +59,22 @@ ranges_from node (entry ∷ entries) = option_or (first_ranges (own_parts node e
 abbrev pub srgb_of : Facts → ℕ → Option (List Range)
 srgb_of facts node = ranges_from node facts.database
 
--- the index of a Prefix-SID whose flag N (0x40) is set and R (0x80) clear, with its flags P (0x20) and E (0x10)
+-- the flag N of a Prefix-SID is set, and its flag R clear (RFC 8667, 2.1.1)
+abbrev pub is_of_node : ℕ → Bool
+is_of_node flags = bit_and flags (bit_or PREFIX_SID_READVERTISED PREFIX_SID_NODE) == PREFIX_SID_NODE
+
+-- the index of a Prefix-SID with its flags P and E (RFC 8667, 2.1.1)
+abbrev pub node_sid_with : ℕ → ℕ → NodeSid
+node_sid_with flags index = record {
+  index = index;
+  keep = not (bit_and flags PREFIX_SID_NO_POP == 0);
+  explicit = not (bit_and flags PREFIX_SID_EXPLICIT_NULL == 0);
+}
+
+-- the index of a Prefix-SID whose flag N is set and R clear, with its flags P and E
 abbrev pub sid_in : ℕ → Sid → Option NodeSid
 sid_in flags (Label label) = None
-sid_in flags (Index index) = if bit_and flags 0xc0 == 0x40 then Some (record { index = index; keep = not (bit_and flags 0x20 == 0); explicit = not (bit_and flags 0x10 == 0) }) else None
+sid_in flags (Index index) = if is_of_node flags then Some (node_sid_with flags index) else None
 
 -- that of a Prefix-SID for algorithm 0 (RFC 8667, 2.1)
 abbrev pub node_sid_by : PrefixSid → Option NodeSid
@@ -77,9 +91,9 @@ abbrev pub least_sid : List PrefixSid → Option NodeSid
 least_sid [] = None
 least_sid (sid ∷ sids) = lesser_sid (node_sid_by sid) (least_sid sids)
 
--- the least of a prefix of length 32
+-- the least of a prefix of full length
 abbrev pub sid_of_part : Part → Option NodeSid
-sid_of_part (Prefix prefix) = if prefix.length == 32 then least_sid prefix.sids else None
+sid_of_part (Prefix prefix) = if prefix.length == ADDRESS_BITS then least_sid prefix.sids else None
 sid_of_part _ = None
 
 -- the least of these parts
@@ -110,7 +124,7 @@ keeps_explicit (Some sid) = sid.keep && sid.explicit
 abbrev pub index_of : Option NodeSid → Option ℕ
 index_of sid = option_map (λ (s : NodeSid). s.index) sid
 
--- what a node with these ranges and this index announces; imposition depths aren't read
+-- what a node with these ranges and this index announces; maximum SID depths (MSD) aren't taken
 abbrev pub labels_with : List Range → Option NodeSid → Labels
 labels_with ranges sid = record { srgb = ranges; index = index_of sid; keep = keeps sid; explicit = keeps_explicit sid; imposes = None }
 
@@ -126,10 +140,10 @@ labels_of facts node = labels_with (ranges_of facts node) (node_sid_of facts nod
 abbrev pub all_labels : Facts → List Labels
 all_labels facts = map (labels_of facts) (nodes_of facts)
 
--- whether a live LSP has the overload bit (0x04, ISO 10589, 9.9)
+-- whether a live LSP has the overload bit (ISO 10589, 9.9)
 abbrev pub has_overload : Option Lsp → Bool
 has_overload None = false
-has_overload (Some lsp) = not (bit_and lsp.flags 0x04 == 0)
+has_overload (Some lsp) = not (bit_and lsp.flags LSP_OVERLOAD == 0)
 
 -- the same of what is stored
 abbrev pub overload_in : Option Stored → Bool
@@ -137,5 +151,5 @@ overload_in None = false
 overload_in (Some stored) = has_overload stored.live
 
 -- a node is overloaded where its LSP with pseudonode 0 and fragment 0 has the overload bit
-abbrev pub is_overloaded : Facts → ℕ → Bool
-is_overloaded facts node = overload_in (stored_under facts (first_id node))
+abbrev pub has_overload_bit : Facts → ℕ → Bool
+has_overload_bit facts node = overload_in (stored_under facts (first_id node))

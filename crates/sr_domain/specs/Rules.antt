@@ -1,4 +1,5 @@
--- The rules of the profile on the facts of a domain, in their order, and what is said of the first that is broken (this project's rules).
+-- The rules of the profile on the facts of a domain, in their order, and what is said of the first that is broken
+-- (this project's rules).
 use Rattle.std.specs.Prelude.{◌≡◌, ℕ, ◌<◌, ◌≤◌, true, List, length, Some, None, Contains, count_by, slice_get}
 use Rattle.sr_model.specs.declared.label.Range.{Range}
 use Rattle.sr_model.specs.declared.name.LinkKey.{LinkKey}
@@ -9,10 +10,11 @@ use Rattle.sr_model.specs.Label.{IsSrgb}
 use Rattle.sr_model.specs.Rule.{IsLeastDuplicate, IsLeastOutside, IsLeastClash, NoDuplicate, NoOutside, NoAdjClash}
 use Rattle.sr_graph.specs.Draft.{AreLeast}
 use Rattle.sr_lsdb.specs.declared.facts.Facts.{Facts}
+use Rattle.sr_domain.specs.declared.limits.TheConstants.{MOST_LINKS, MOST_NODES}
 use Rattle.sr_domain.specs.declared.links.FoundLink.{FoundLink}
 use Rattle.sr_domain.specs.declared.fault.DomainFault.{DomainFault}
 use Rattle.sr_domain.specs.declared.fault.DomainFault.TheVariants.{Rule, Memory}
-use Rattle.sr_domain.specs.Nodes.{nodes_of, srgb_of, all_labels, is_overloaded}
+use Rattle.sr_domain.specs.Nodes.{nodes_of, srgb_of, all_labels, has_overload_bit}
 use Rattle.sr_domain.specs.Links.{links_of, found_adj_labels}
 
 -- of these nodes the least of which the fact holds
@@ -22,8 +24,8 @@ pub record IsLeastNode (nodes : List ℕ) (P : ℕ → Type 0) (node : ℕ) : Ty
   pub least : (other : ℕ) → Contains nodes other → P other → node ≤ other
 
 -- the fact holds of none of these nodes
-abbrev pub NoNode : List ℕ → (ℕ → Type 0) → Type 0
-NoNode nodes P = (node : ℕ) → Contains nodes node → P node → ⊥
+abbrev pub HoldsNowhere : List ℕ → (ℕ → Type 0) → Type 0
+HoldsNowhere nodes P = (node : ℕ) → Contains nodes node → P node → ⊥
 
 -- the node announces no SR-Capabilities
 abbrev pub LacksSrgb : Facts → ℕ → Type 0
@@ -35,15 +37,15 @@ HasBadSrgb facts node = (ranges : List Range) × (srgb_of facts node ≡ Some ra
 
 -- the node has the overload bit
 abbrev pub IsOverloaded : Facts → ℕ → Type 0
-IsOverloaded facts node = is_overloaded facts node ≡ true
+IsOverloaded facts node = has_overload_bit facts node ≡ true
 
 -- a link of this key has the effective metric 0
 abbrev pub HasZeroMetric : List FoundLink → LinkKey → Type 0
 HasZeroMetric links key = (link : FoundLink) × Contains links link × (link.key ≡ key) × (link.metric ≡ 0)
 
 -- two links or more have this key
-abbrev pub IsRepeated : List FoundLink → LinkKey → Type 0
-IsRepeated links key = 2 ≤ count_by (λ (link : FoundLink). same_key key link.key) links
+abbrev pub IsKeyRepeated : List FoundLink → LinkKey → Type 0
+IsKeyRepeated links key = 2 ≤ count_by (λ (link : FoundLink). same_key key link.key) links
 
 -- the fact holds of no key
 abbrev pub NoKey : (LinkKey → Type 0) → Type 0
@@ -67,24 +69,25 @@ pub record IsOutsideIndex (facts : Facts) (index node : ℕ) : Type 0 where
   pub least : IsLeastOutside (all_labels facts) index place
   pub node_is : IsNodeAt facts place node
 
--- the least node with an adjacency label that is reserved, in its ranges or of two of its links, with the least such label
+-- the least node with an adjacency label that is reserved, in its ranges or of two of its links, with the least such
+-- label
 pub record IsClashingLabel (facts : Facts) (label node : ℕ) : Type 0 where
   pub place : ℕ
   pub least : IsLeastClash (all_labels facts) (found_adj_labels facts) (record { node = place; label = label })
   pub node_is : IsNodeAt facts place node
 
 -- the rule is broken, and these are the least that break it
-abbrev pub IsBroken : Facts → DomainRule → Type 0
-IsBroken facts (NoSrgb node) = IsLeastNode (nodes_of facts) (LacksSrgb facts) node
-IsBroken facts (SrgbBad node) = IsLeastNode (nodes_of facts) (HasBadSrgb facts) node
-IsBroken facts (DuplicateIndex index low high) = IsSharedIndex facts index low high
-IsBroken facts (IndexOutside index node) = IsOutsideIndex facts index node
-IsBroken facts (AdjLabelClash label node) = IsClashingLabel facts label node
-IsBroken facts (ZeroMetric from to) = AreLeast (HasZeroMetric (links_of facts)) from to
-IsBroken facts (DuplicateLink from to) = AreLeast (IsRepeated (links_of facts)) from to
-IsBroken facts (TooManyNodes count) = (256 < count) × (count ≡ length (nodes_of facts))
-IsBroken facts (TooManyLinks count) = (2048 < count) × (count ≡ length (links_of facts))
-IsBroken facts (Overload node) = IsLeastNode (nodes_of facts) (IsOverloaded facts) node
+abbrev pub IsRuleBroken : Facts → DomainRule → Type 0
+IsRuleBroken facts (NoSrgb node) = IsLeastNode (nodes_of facts) (LacksSrgb facts) node
+IsRuleBroken facts (SrgbBad node) = IsLeastNode (nodes_of facts) (HasBadSrgb facts) node
+IsRuleBroken facts (DuplicateIndex index low high) = IsSharedIndex facts index low high
+IsRuleBroken facts (IndexOutside index node) = IsOutsideIndex facts index node
+IsRuleBroken facts (AdjLabelClash label node) = IsClashingLabel facts label node
+IsRuleBroken facts (ZeroMetric from to) = AreLeast (HasZeroMetric (links_of facts)) from to
+IsRuleBroken facts (DuplicateLink from to) = AreLeast (IsKeyRepeated (links_of facts)) from to
+IsRuleBroken facts (TooManyNodes count) = (MOST_NODES < count) × (count ≡ length (nodes_of facts))
+IsRuleBroken facts (TooManyLinks count) = (MOST_LINKS < count) × (count ≡ length (links_of facts))
+IsRuleBroken facts (Overload node) = IsLeastNode (nodes_of facts) (IsOverloaded facts) node
 
 -- how many rules come before
 abbrev pub rank : DomainRule → ℕ
@@ -101,24 +104,24 @@ rank (Overload node) = 9
 
 -- the rule is kept: nothing breaks it, whatever it names
 abbrev pub Keeps : Facts → DomainRule → Type 0
-Keeps facts (NoSrgb node) = NoNode (nodes_of facts) (LacksSrgb facts)
-Keeps facts (SrgbBad node) = NoNode (nodes_of facts) (HasBadSrgb facts)
+Keeps facts (NoSrgb node) = HoldsNowhere (nodes_of facts) (LacksSrgb facts)
+Keeps facts (SrgbBad node) = HoldsNowhere (nodes_of facts) (HasBadSrgb facts)
 Keeps facts (DuplicateIndex index low high) = NoDuplicate (all_labels facts)
 Keeps facts (IndexOutside index node) = NoOutside (all_labels facts)
 Keeps facts (AdjLabelClash label node) = NoAdjClash (all_labels facts) (found_adj_labels facts)
 Keeps facts (ZeroMetric from to) = NoKey (HasZeroMetric (links_of facts))
-Keeps facts (DuplicateLink from to) = NoKey (IsRepeated (links_of facts))
-Keeps facts (TooManyNodes count) = length (nodes_of facts) ≤ 256
-Keeps facts (TooManyLinks count) = length (links_of facts) ≤ 2048
-Keeps facts (Overload node) = NoNode (nodes_of facts) (IsOverloaded facts)
+Keeps facts (DuplicateLink from to) = NoKey (IsKeyRepeated (links_of facts))
+Keeps facts (TooManyNodes count) = length (nodes_of facts) ≤ MOST_NODES
+Keeps facts (TooManyLinks count) = length (links_of facts) ≤ MOST_LINKS
+Keeps facts (Overload node) = HoldsNowhere (nodes_of facts) (IsOverloaded facts)
 
--- the first so many of the ten rules are kept
+-- that many of the ten rules are kept, the first ones
 abbrev pub AreKept : Facts → ℕ → Type 0
 AreKept facts count = (rule : DomainRule) → rank rule < count → Keeps facts rule
 
 -- the rule is broken, and all earlier ones are kept
 pub record IsFirstBroken (facts : Facts) (rule : DomainRule) : Type 0 where
-  pub broken : IsBroken facts rule
+  pub broken : IsRuleBroken facts rule
   pub earlier : AreKept facts (rank rule)
 
 -- why the facts give no net: the first broken rule; memory may be wanting at any time

@@ -3,22 +3,13 @@ ghost use Rattle.std.specs.Prelude.{◌≡◌, ◌++◌, IfOk, OnOk};
 ghost use Rattle.std.specs.List.{filter_map};
 ghost use Rattle.sr_domain.specs.Announced.{first_id, is_present as is_present_in, ident_by_ids, ident_of, adj_sid_label, adj_label, least, adj_sid_labels, lesser, announced_by, announcements_of};
 
-use crate::draft::MOST_LINKS;
+use crate::limits::MOST_LINKS;
 use sr_lsdb::Facts;
 use sr_lsp::{LspId, Part, Reach};
 use sr_model::{Ident, LinkKey, SystemId};
 use sr_subtlv::{AdjSid, LinkIds, Sid};
+use sr_wire::registry::{ADJ_SID_BACKUP, ADJ_SID_IPV6, ADJ_SID_SET};
 use std::alloc::{AllocError, Global};
-
-/// The flag F of an Adj-SID: the adjacency is for IPv6 (RFC 8667, 2.2.1).
-const IPV6: u8 = 0x80;
-
-/// The flag B of an Adj-SID: the adjacency may be protected, so that its label isn't taken where there is another (RFC
-/// 8667, 2.2.1).
-const BACKUP: u8 = 0x40;
-
-/// The flag S of an Adj-SID: the label stands for a set of adjacencies (RFC 8667, 2.2.1).
-const SET: u8 = 0x08;
 
 /// A link as a node announces it: its name, the announced metric, the label of the adjacency, and the link
 /// identifiers.
@@ -80,15 +71,18 @@ fn ident_of(reach: &Reach) -> Ident
     }
 }
 
-/// The label of an adjacency SID that may be used.
+/// The label of an adjacency SID that may be used. One that may be protected isn't taken where there is another, so that
+/// the flag B is as asked (this project's rule).
 fn adj_sid_label(backup: bool, sid: AdjSid) -> Option<u32>
     ensures { result ≡ adj_sid_label backup sid }
 {
     match sid.sid {
         Sid::Index(_) => None,
         Sid::Label(label) => {
-            let wanted = if backup { BACKUP } else { 0 };
-            if sid.flags & (IPV6 | SET) == 0 && sid.flags & BACKUP == wanted {
+            let wanted = if backup { ADJ_SID_BACKUP } else { 0 };
+            if sid.flags & (ADJ_SID_IPV6 | ADJ_SID_SET) == 0
+                && sid.flags & ADJ_SID_BACKUP == wanted
+            {
                 Some(label)
             } else {
                 None

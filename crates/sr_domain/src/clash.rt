@@ -1,13 +1,13 @@
 //! The rules on the labels of all nodes together.
-ghost use Rattle.std.specs.Prelude.{◌≡◌, ◌<◌, ℕ, length, map, All, Contains, IfOk, IfErr};
+ghost use Rattle.std.specs.Prelude.{◌≡◌, ◌<◌, ℕ, length, All, Contains, IfOk, IfErr};
 ghost use Rattle.std.specs.List.{filter_map};
 ghost use Rattle.std.specs.List.Sorted.{IsStrictlyIncreasing};
 ghost use Rattle.sr_labels.specs.Rules.{AreOfNodes, HaveSrgbs};
 ghost use Rattle.sr_domain.specs.declared.links.FoundLink.{FoundLink as Found};
-ghost use Rattle.sr_domain.specs.Nodes.{nodes_of, labels_of as labels_in};
-ghost use Rattle.sr_domain.specs.Links.{place_in, adj_label_by, links_of, HasEnds};
+ghost use Rattle.sr_domain.specs.Links.{place_in, adj_label_by, JoinsNodes};
 ghost use Rattle.sr_domain.specs.Rules.{AreKept, IsDomainFault};
-ghost use Rattle.sr_domain.specs.Named.{AreWithin, Names};
+ghost use Rattle.sr_domain.specs.Steps.{AreLabelled};
+ghost use Rattle.sr_domain.specs.Named.{ArePlacesWithin, Names};
 
 use crate::fault::DomainFault;
 use crate::links::FoundLink;
@@ -50,7 +50,7 @@ fn adj_labels(
     links: &[FoundLink],
 ) -> Result<Vec<AdjLabel>, AllocError>
     requires ascending { IsStrictlyIncreasing nodes.now }
-    requires ends { All (HasEnds nodes.now) links.now }
+    requires ends { All (JoinsNodes nodes.now) links.now }
     ensures labels { IfOk result (λ v. v.items ≡ filter_map (adj_label_by nodes.now) links.now) }
     ensures nodes { IfOk result (λ v. AreOfNodes (length nodes.now) v.items) }
 {
@@ -70,8 +70,8 @@ fn adj_labels(
 }
 
 /// The rule on labels with the nodes' system ids in place of their places.
-fn named(nodes: &[SystemId], rule: LabelRule) -> DomainRule
-    requires { AreWithin (length nodes.now) rule }
+fn with_system_ids(nodes: &[SystemId], rule: LabelRule) -> DomainRule
+    requires { ArePlacesWithin (length nodes.now) rule }
     ensures { Names nodes.now rule result }
 {
     match rule {
@@ -99,12 +99,7 @@ pub(crate) fn check_labels(
     labels: &[NodeLabels],
     links: &[FoundLink],
 ) -> Result<(), DomainFault>
-    requires nodes { nodes.now ≡ nodes_of facts.now }
-    requires ascending { IsStrictlyIncreasing nodes.now }
-    requires labels { labels.now ≡ map (labels_in facts.now) nodes.now }
-    requires links { links.now ≡ links_of facts.now }
-    requires ends { All (HasEnds nodes.now) links.now }
-    requires kept { AreKept facts.now 2 }
+    requires { AreLabelled facts.now nodes.now labels.now links.now }
     ensures kept { IfOk result (λ _. AreKept facts.now 5) }
     ensures ranges { IfOk result (λ _. HaveSrgbs labels.now) }
     ensures fault { IfErr result (IsDomainFault facts.now) }
@@ -113,6 +108,6 @@ pub(crate) fn check_labels(
     let broken = first_clash(alloc, labels, &adj)?;
     match broken {
         None => Ok(()),
-        Some(rule) => Err(DomainFault::Rule(named(nodes, rule))),
+        Some(rule) => Err(DomainFault::Rule(with_system_ids(nodes, rule))),
     }
 }

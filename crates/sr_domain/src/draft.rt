@@ -5,11 +5,13 @@ ghost use Rattle.sr_model.specs.KeyOrder.{key_cmp};
 ghost use Rattle.sr_graph.specs.declared.draft.DraftLink.{DraftLink as Drafted};
 ghost use Rattle.sr_domain.specs.Announced.{announcements_of};
 ghost use Rattle.sr_domain.specs.Groups.{notes_of};
-ghost use Rattle.sr_domain.specs.GroupTables.{GivesGroups, IsTable, draft_link, groups_in};
+ghost use Rattle.sr_domain.specs.GroupTables.{GivesGroups, IsRiskTable, draft_link, groups_in};
+ghost use Rattle.sr_domain.specs.declared.limits.TheConstants.{MOST_LINKS};
 ghost use Rattle.sr_domain.specs.Links.{KeysAscend, link_key, link_label};
 
 use crate::announced::Announcement;
 use crate::groups::{RiskTable, by_name, groups_of};
+use crate::limits::MOST_LINKS;
 use crate::links::FoundLink;
 use crate::names::names_of;
 use crate::risks::notes;
@@ -19,11 +21,8 @@ use sr_seq::Seq;
 use std::alloc::{AllocError, Global};
 use std::cmp::Ordering;
 
-/// The most directed links that a graph has.
-pub(crate) const MOST_LINKS: usize = 2048;
-
 /// Sorts the links by key.
-pub(crate) fn sort(links: &mut [FoundLink])
+pub(crate) fn sort_links(links: &mut [FoundLink])
     ensures same { IsPermutation links.old links.new }
     ensures ascending { IsSortedByKey link_key key_cmp links.new }
 {
@@ -45,7 +44,7 @@ fn has_repeat(links: &[FoundLink]) -> bool
 
 /// Whether no graph has these links, which are in order of key: there are too many, or some stand twice.
 fn are_refused(links: &[FoundLink]) -> bool
-    ensures { length links.now ≤ 2048 → KeysAscend links.now → result ≡ false }
+    ensures { length links.now ≤ MOST_LINKS → KeysAscend links.now → result ≡ false }
 {
     if links.len() > MOST_LINKS {
         return true;
@@ -73,8 +72,8 @@ pub(crate) fn risk_table(
     links: &[FoundLink],
 ) -> Result<RiskTable, AllocError>
     requires { announced.now ≡ announcements_of facts.now }
-    ensures order { IfOk result IsTable }
-    ensures groups { IfOk result (λ t. length links.now ≤ 2048 → KeysAscend links.now →
+    ensures order { IfOk result IsRiskTable }
+    ensures groups { IfOk result (λ t. length links.now ≤ MOST_LINKS → KeysAscend links.now →
         GivesGroups (groups_in t) (announcements_of facts.now) (notes_of facts.now)) }
 {
     if are_refused(links) {
@@ -95,7 +94,7 @@ pub(crate) fn draft_links(
     table: &RiskTable,
     links: &[FoundLink],
 ) -> Result<Vec<DraftLink>, AllocError>
-    requires { IsTable table.now }
+    requires { IsRiskTable table.now }
     ensures links { IfOk result (λ v. v.items ≡ map (draft_link (groups_in table.now)) links.now) }
     ensures groups { IfOk result (λ v. All (λ (d : Drafted). IsStrictlyIncreasing d.groups) v.items) }
 {

@@ -9,7 +9,7 @@ use std::alloc::AllocError;
 pub enum DomainFault {
     /// The first rule that they break.
     Rule(DomainRule),
-    /// Memory is wanting.
+    /// Out of memory.
     Memory(AllocError),
 }
 

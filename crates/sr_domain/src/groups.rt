@@ -1,20 +1,15 @@
-//! The shared-risk groups of pairs of links.
-ghost use Rattle.std.specs.Prelude.{◌≡◌, ℕ, ◌<◌, ◌≤◌, ◌++◌, true, false, length, map, slice_index_or, IfOk, OnOk};
+//! The shared-risk groups of bidirectional links.
+ghost use Rattle.std.specs.Prelude.{◌≡◌, ◌≤◌, ◌++◌, length, map, IfOk, OnOk};
 ghost use Rattle.std.specs.List.{filter};
 ghost use Rattle.std.specs.List.Sorted.{IsStrictlyIncreasing, IsStrictlySortedBy};
-ghost use Rattle.std.specs.Ordering.{is_gt};
-ghost use Rattle.sr_lsdb.specs.Order.{pair_cmp};
-ghost use Rattle.sr_domain.specs.Groups.{name_cmp};
-ghost use Rattle.sr_domain.specs.declared.names.PairName.{PairName as Named};
-ghost use Rattle.sr_domain.specs.declared.risks.RiskNote.{RiskNote as Spoken};
-ghost use Rattle.sr_domain.specs.GroupTables.{AreApart, AreInOrder, HaveSameNotes, IsTable, groups_in, groups_said, is_of, is_under, note_group, pair_name_cmp};
+ghost use Rattle.sr_domain.specs.GroupTables.{NamesAscend, AreNotesInOrder, HaveSameNotes, IsRiskTable, groups_in, groups_said, is_of, is_under, note_group, pair_name_cmp};
 
 use crate::names::PairName;
 use crate::risks::{RiskName, RiskNote};
 use sr_model::PairKey;
 use std::alloc::{AllocError, Global};
 
-/// The names of pairs of links, in order, each once, and what is said of risks, in order of names.
+/// The names of bidirectional links, in order, each once, and what is said of risks, in order of names.
 #[derive(Debug, Drop)]
 pub(crate) struct RiskTable {
     pub names: Vec<PairName>,
@@ -24,54 +19,22 @@ pub(crate) struct RiskTable {
 /// The notes in order of names, each once.
 pub(crate) fn by_name(mut notes: Vec<RiskNote>) -> Vec<RiskNote>
     ensures same { HaveSameNotes notes.items result.items }
-    ensures ascending { AreInOrder result.items }
+    ensures ascending { AreNotesInOrder result.items }
 {
     notes.sort_unstable();
     notes.dedup();
     notes
 }
 
-/// How many of the notes come before one of a later name.
-fn notes_until_later(notes: &[RiskNote], name: &RiskName) -> usize
-    ensures bound { result ≤ length notes.now }
-    ensures before { (k : ℕ) (d : Spoken) → k < result →
-        is_gt (name_cmp (slice_index_or notes.now k d).name name.now) ≡ false }
-    ensures later { (d : Spoken) → result < length notes.now →
-        is_gt (name_cmp (slice_index_or notes.now result d).name name.now) ≡ true }
-{
-    for (place, note) in notes.iter().enumerate() {
-        if note.name.cmp(name).is_gt() {
-            return place;
-        }
-    }
-    notes.len()
-}
-
 /// The notes under the name, of notes in order of names.
 fn notes_under<'a>(notes: &'a [RiskNote], name: &RiskName) -> &'a [RiskNote]
-    requires { AreInOrder notes.now }
+    requires { AreNotesInOrder notes.now }
     ensures { result.now ≡ filter (is_under name.now) notes.now }
 {
     let start = notes.partition_point(|note| note.name.cmp(name).is_lt());
     let rest = &notes[start..];
-    let count = notes_until_later(rest, name);
+    let count = rest.partition_point(|note| note.name.cmp(name).is_le());
     &rest[..count]
-}
-
-/// How many of the names come before one of a later pair.
-fn names_until_later(names: &[PairName], pair: &PairKey) -> usize
-    ensures bound { result ≤ length names.now }
-    ensures before { (k : ℕ) (d : Named) → k < result →
-        is_gt (pair_cmp (slice_index_or names.now k d).pair pair.now) ≡ false }
-    ensures later { (d : Named) → result < length names.now →
-        is_gt (pair_cmp (slice_index_or names.now result d).pair pair.now) ≡ true }
-{
-    for (place, named) in names.iter().enumerate() {
-        if named.pair.cmp(pair).is_gt() {
-            return place;
-        }
-    }
-    names.len()
 }
 
 /// The names of the pair, of names in order.
@@ -81,7 +44,7 @@ fn names_with<'a>(names: &'a [PairName], pair: &PairKey) -> &'a [PairName]
 {
     let start = names.partition_point(|named| named.pair.cmp(pair).is_lt());
     let rest = &names[start..];
-    let count = names_until_later(rest, pair);
+    let count = rest.partition_point(|named| named.pair.cmp(pair).is_le());
     &rest[..count]
 }
 
@@ -102,8 +65,8 @@ fn groups_said(
     names: &[PairName],
     notes: &[RiskNote],
 ) -> Result<Vec<u32>, AllocError>
-    requires order { AreInOrder notes.now }
-    requires apart { AreApart names.now }
+    requires order { AreNotesInOrder notes.now }
+    requires apart { NamesAscend names.now }
     ensures groups { IfOk result (λ v. v.items ≡ groups_said names.now notes.now) }
     ensures bound { IfOk result (λ v. length v.items ≤ length notes.now) }
 {
@@ -121,7 +84,7 @@ pub(crate) fn groups_of(
     table: &RiskTable,
     pair: &PairKey,
 ) -> Result<Vec<u32>, AllocError>
-    requires { IsTable table.now }
+    requires { IsRiskTable table.now }
     ensures ascending { IfOk result (λ v. IsStrictlyIncreasing v.items) }
     ensures groups { IfOk result (λ v. v.items ≡ groups_in table.now pair.now) }
 {

@@ -3,6 +3,7 @@ ghost use Rattle.std.specs.Prelude.{◌≡◌, map, IfOk, IfErr};
 ghost use Rattle.std.specs.List.Sorted.{IsStrictlyIncreasing};
 ghost use Rattle.sr_domain.specs.Nodes.{nodes_of, ranges_of, node_sid_of, labels_with, labels_of as labels_in};
 ghost use Rattle.sr_domain.specs.Rules.{AreKept, IsDomainFault};
+ghost use Rattle.sr_domain.specs.Steps.{HaveRanges};
 
 use crate::fault::DomainFault;
 use crate::nodes::{node_sid, srgb_of};
@@ -39,7 +40,7 @@ fn all_ranges(
 }
 
 /// What the node announces, with this SRGB.
-fn labels_of(facts: &Facts, node: SystemId, srgb: Srgb) -> NodeLabels
+fn announced_labels(facts: &Facts, node: SystemId, srgb: Srgb) -> NodeLabels
     ensures { result ≡ labels_with srgb (node_sid_of facts.now node) }
 {
     match node_sid(facts, node) {
@@ -55,10 +56,7 @@ fn with_ranges(
     nodes: &[SystemId],
     ranges: Vec<Seq<Range>>,
 ) -> Result<Vec<NodeLabels>, DomainFault>
-    requires nodes { nodes.now ≡ nodes_of facts.now }
-    requires ascending { IsStrictlyIncreasing nodes.now }
-    requires ranges { ranges.items ≡ map (ranges_of facts.now) nodes.now }
-    requires kept { AreKept facts.now 1 }
+    requires { HaveRanges facts.now nodes.now ranges.items }
     ensures labels { IfOk result (λ v. v.items ≡ map (labels_in facts.now) nodes.now) }
     ensures kept { IfOk result (λ _. AreKept facts.now 2) }
     ensures fault { IfErr result (IsDomainFault facts.now) }
@@ -68,7 +66,7 @@ fn with_ranges(
         let node = nodes[out.len()];
         match Srgb::new(ranges.into_vec()) {
             Err(_) => return Err(DomainFault::Rule(DomainRule::SrgbBad { node })),
-            Ok(srgb) => match out.push(labels_of(facts, node, srgb)) {
+            Ok(srgb) => match out.push(announced_labels(facts, node, srgb)) {
                 Ok(()) => {}
                 Err(_) => return Err(DomainFault::Memory(AllocError)),
             },

@@ -9,6 +9,7 @@ mod gathered;
 mod groups;
 mod labels;
 mod laws;
+mod limits;
 mod links;
 mod names;
 mod net;

@@ -6,10 +6,8 @@ ghost use Rattle.sr_domain.specs.Links.{effective_metric, link_by};
 use crate::announced::Announcement;
 use sr_lsdb::Facts;
 use sr_model::LinkKey;
+use sr_wire::registry::MAXIMUM_METRIC;
 use std::alloc::{AllocError, Global};
-
-/// The metric of an announcement that isn't considered (RFC 5305, 3).
-const MAXIMUM: u32 = 16777215;
 
 /// A link as it is found: its key, its effective metric, and its adjacency label.
 #[derive(Clone, Copy, Debug, PartialEq, Eq)]
@@ -34,7 +32,7 @@ fn link_by(facts: &Facts, announcement: &Announcement) -> Option<FoundLink>
     ensures { result ≡ link_by facts.now announcement.now }
 {
     let metric = effective_metric(facts, announcement);
-    if metric != MAXIMUM && !facts.downs.contains(&announcement.key.pair()) {
+    if metric != MAXIMUM_METRIC && !facts.downs.contains(&announcement.key.pair()) {
         Some(FoundLink {
             key: announcement.key,
             metric,

@@ -8,7 +8,7 @@ use crate::risks::{RiskName, numbered_name, unnumbered_name};
 use sr_model::PairKey;
 use std::alloc::{AllocError, Global};
 
-/// A pair of links with a name of one of them; in order of pairs, and then of names.
+/// A bidirectional link with a name of one of its two links; in order of pairs, and then of names.
 #[derive(Clone, Copy, Debug, PartialEq, Eq, PartialOrd, Ord)]
 pub struct PairName {
     pub pair: PairKey,

@@ -1,18 +1,14 @@
 //! The net of the facts, or the first broken rule.
-ghost use Rattle.std.specs.Prelude.{◌≡◌, ◌≤◌, All, IfOk, IfErr};
-ghost use Rattle.std.specs.List.Sorted.{IsPermutation};
+ghost use Rattle.std.specs.Prelude.{◌≡◌, IfOk, IfErr};
 ghost use Rattle.sr_lsdb.specs.Facts.{AreInRange};
-ghost use Rattle.sr_labels.specs.Rules.{HaveSrgbs};
 ghost use Rattle.sr_domain.specs.Announced.{two_way_of};
-ghost use Rattle.sr_domain.specs.Nodes.{nodes_of, all_labels};
-ghost use Rattle.sr_domain.specs.Links.{links_of};
-ghost use Rattle.sr_domain.specs.Rules.{AreKept, IsDomainFault};
-ghost use Rattle.sr_domain.specs.Steps.{AreGathered, IsGraphOf};
+ghost use Rattle.sr_domain.specs.Rules.{IsDomainFault};
+ghost use Rattle.sr_domain.specs.Steps.{AreParts, AreReady};
 ghost use Rattle.sr_domain.specs.Net.{IsNetOf};
 
 use crate::announced::Announcement;
 use crate::clash::check_labels;
-use crate::draft::{label_list, risk_table, sort};
+use crate::draft::{label_list, risk_table, sort_links};
 use crate::fault::DomainFault;
 use crate::gathered::{Gathered, gather};
 use crate::labels::node_labels;
@@ -35,13 +31,8 @@ fn assemble(
     links: &[FoundLink],
     two_way: &[Announcement],
 ) -> Result<Net, AllocError>
-    requires depth { facts.now.depth ≤ 12 }
-    requires graph { IsGraphOf facts.now (nodes_of facts.now) links.now graph }
-    requires labels { labels.items ≡ all_labels facts.now }
-    requires ranges { HaveSrgbs labels.items }
-    requires same { IsPermutation (links_of facts.now) links.now }
+    requires parts { AreParts facts.now graph labels.items links.now }
     requires two_way { two_way.now ≡ two_way_of facts.now }
-    requires kept { AreKept facts.now 10 }
     ensures { IfOk result (IsNetOf facts.now) }
 {
     let adj = label_list(alloc, links)?;
@@ -56,11 +47,7 @@ fn net_with(
     gathered: Gathered,
     labels: Vec<NodeLabels>,
 ) -> Result<Net, DomainFault>
-    requires depth { facts.now.depth ≤ 12 }
-    requires gathered { AreGathered facts.now gathered }
-    requires labels { labels.items ≡ all_labels facts.now }
-    requires ranges { HaveSrgbs labels.items }
-    requires kept { AreKept facts.now 5 }
+    requires { AreReady facts.now gathered labels.items }
     ensures net { IfOk result (IsNetOf facts.now) }
     ensures fault { IfErr result (IsDomainFault facts.now) }
 {
@@ -70,7 +57,7 @@ fn net_with(
         nodes,
         mut links,
     } = gathered;
-    sort(&mut links);
+    sort_links(&mut links);
     let overloaded = first_overloaded(facts, &nodes);
     let table = risk_table(alloc, facts, &announced, &links)?;
     let graph = graph_of(alloc, facts, nodes, &links, &table)?;
@@ -83,7 +70,7 @@ fn net_with(
 }
 
 /// The net of the facts, or the first rule of the profile that they break, with the least that breaks it, or
-/// `DomainFault::Memory` where memory is wanting.
+/// `DomainFault::Memory` where it runs out of memory.
 pub fn net_of(alloc: Global, facts: &Facts) -> Result<Net, DomainFault>
     requires { AreInRange facts.now }
     ensures net { IfOk result (IsNetOf facts.now) }

@@ -3,7 +3,7 @@ ghost use Rattle.std.specs.Prelude.{◌≡◌, map, IfOk};
 ghost use Rattle.std.specs.Option.{option_map};
 ghost use Rattle.std.specs.List.{filter_map};
 ghost use Rattle.std.specs.List.Sorted.{IsStrictlyIncreasing};
-ghost use Rattle.sr_domain.specs.Nodes.{past_own, nodes_of, first_ranges, srgb_of as srgb_in, node_sid_by, lesser_sid, least_sid, sid_of_part, least_of_parts, node_sid_of, is_overloaded as is_overloaded_in};
+ghost use Rattle.sr_domain.specs.Nodes.{past_own, nodes_of, first_ranges, srgb_of as srgb_in, node_sid_by, lesser_sid, least_sid, sid_of_part, least_of_parts, node_sid_of, has_overload_bit as has_overload_bit_in};
 ghost use Rattle.sr_domain.specs.Announced.{first_id};
 
 use crate::announced::first_id;
@@ -11,22 +11,11 @@ use sr_lsdb::Facts;
 use sr_lsp::{LspId, Part};
 use sr_model::{Range, SystemId};
 use sr_subtlv::{PrefixSid, Sid};
+use sr_wire::registry::{
+    ADDRESS_BITS, LSP_OVERLOAD, PREFIX_SID_EXPLICIT_NULL, PREFIX_SID_NO_POP, PREFIX_SID_NODE,
+    PREFIX_SID_READVERTISED,
+};
 use std::alloc::{AllocError, Global};
-
-/// The flag R of a Prefix-SID: the prefix comes from another level or another protocol (RFC 8667, 2.1.1).
-const READVERTISED: u8 = 0x80;
-
-/// The flag N of a Prefix-SID: it is that of a node (RFC 8667, 2.1.1).
-const NODE: u8 = 0x40;
-
-/// The flag P of a Prefix-SID: the neighbour before the node keeps the label (RFC 8667, 2.1.1).
-const KEEP: u8 = 0x20;
-
-/// The flag E of a Prefix-SID: the neighbour before the node puts the explicit null label in its place (RFC 8667, 2.1.1).
-const EXPLICIT: u8 = 0x10;
-
-/// The overload bit of an LSP (ISO 10589, 9.9).
-const OVERLOAD: u8 = 0x04;
 
 /// The index of a node with its flags P (`keep`) and E (`explicit`).
 #[derive(Clone, Copy, Debug, PartialEq, Eq)]
@@ -123,11 +112,11 @@ fn node_sid_by(sid: PrefixSid) -> Option<NodeSid>
     match sid.sid {
         Sid::Label(_) => None,
         Sid::Index(index) => {
-            if sid.flags & (READVERTISED | NODE) == NODE {
+            if sid.flags & (PREFIX_SID_READVERTISED | PREFIX_SID_NODE) == PREFIX_SID_NODE {
                 Some(NodeSid {
                     index,
-                    keep: sid.flags & KEEP != 0,
-                    explicit: sid.flags & EXPLICIT != 0,
+                    keep: sid.flags & PREFIX_SID_NO_POP != 0,
+                    explicit: sid.flags & PREFIX_SID_EXPLICIT_NULL != 0,
                 })
             } else {
                 None
@@ -166,7 +155,7 @@ fn sid_of_part(part: &Part) -> Option<NodeSid>
 {
     match part {
         Part::Prefix(prefix) => {
-            if prefix.length == 32 {
+            if prefix.length == ADDRESS_BITS {
                 least_sid(prefix.sids.as_slice())
             } else {
                 None
@@ -206,12 +195,12 @@ pub(crate) fn node_sid(facts: &Facts, node: SystemId) -> Option<NodeSid>
 }
 
 /// Whether the node's LSP with pseudonode 0 and fragment 0 has the overload bit.
-pub(crate) fn is_overloaded(facts: &Facts, node: SystemId) -> bool
-    ensures { result ≡ is_overloaded_in facts.now node }
+pub(crate) fn has_overload_bit(facts: &Facts, node: SystemId) -> bool
+    ensures { result ≡ has_overload_bit_in facts.now node }
 {
     match facts.database.get(&first_id(node)) {
         Some(stored) => match &stored.live {
-            Some(shared) => shared.lsp().flags & OVERLOAD != 0,
+            Some(shared) => shared.lsp().flags & LSP_OVERLOAD != 0,
             None => false,
         },
         None => false,

@@ -3,7 +3,7 @@ ghost use Rattle.std.specs.Prelude.{◌≡◌, ℕ, ◌++◌, map, IfOk, OnOk};
 ghost use Rattle.sr_domain.specs.Groups.{notes_by, notes_from, notes_of, numbered_name, unnumbered_name};
 
 use crate::announced::{Announcement, is_present};
-use crate::draft::MOST_LINKS;
+use crate::limits::MOST_LINKS;
 use sr_lsdb::Facts;
 use sr_lsp::Part;
 use sr_model::{Ident, SystemId};

@@ -1,6 +1,6 @@
 //! Announcements of small domains.
 ghost use Rattle.std.specs.Prelude.{◌≡◌, ◌<◌, IfOk};
-ghost use Rattle.sr_lsp.specs.InRange.{IsInRange};
+ghost use Rattle.sr_lsp.specs.InRange.{FitsLsp};
 
 use crate::announced::Announcement;
 use crate::groups::{RiskTable, by_name, groups_of};
@@ -28,7 +28,7 @@ const PDU: [u8; 58] = [
 
 /// The PDU with other octets at some places.
 fn pdu(alloc: Global, changes: &[(usize, u8)]) -> Result<Lsp, ReadFault>
-    ensures { IfOk result (λ lsp. IsInRange lsp) }
+    ensures { IfOk result (λ lsp. FitsLsp lsp) }
 {
     let mut octets = Vec::from_slice(alloc, &PDU)?;
     for &(at, octet) in changes {

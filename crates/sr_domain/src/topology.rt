@@ -1,15 +1,8 @@
 //! The graph of a domain.
-ghost use Rattle.std.specs.Prelude.{◌≡◌, ◌≤◌, length, All, IfOk, IfErr};
-ghost use Rattle.std.specs.List.Sorted.{IsPermutation, IsSortedByKey, IsStrictlyIncreasing};
-ghost use Rattle.sr_model.specs.KeyOrder.{key_cmp};
-ghost use Rattle.sr_domain.specs.Announced.{announcements_of};
-ghost use Rattle.sr_domain.specs.Nodes.{nodes_of};
-ghost use Rattle.sr_domain.specs.Groups.{notes_of};
-ghost use Rattle.sr_domain.specs.GroupTables.{GivesGroups, IsTable, groups_in};
-ghost use Rattle.sr_domain.specs.Links.{links_of, link_key, HasEnds, KeysAscend};
+ghost use Rattle.std.specs.Prelude.{◌≡◌, IfOk, IfErr};
 ghost use Rattle.sr_domain.specs.Rules.{AreKept, IsDomainFault};
 ghost use Rattle.sr_domain.specs.Named.{domain_fault as domain_fault_of};
-ghost use Rattle.sr_domain.specs.Steps.{IsBelowMaximum, IsGraphOf};
+ghost use Rattle.sr_domain.specs.Steps.{AreDrafted, IsGraphOf};
 
 use crate::draft::draft_links;
 use crate::fault::DomainFault;
@@ -52,16 +45,7 @@ pub(crate) fn graph_of(
     links: &[FoundLink],
     table: &RiskTable,
 ) -> Result<Graph, DomainFault>
-    requires nodes { nodes.items ≡ nodes_of facts.now }
-    requires ascending { IsStrictlyIncreasing nodes.items }
-    requires same { IsPermutation (links_of facts.now) links.now }
-    requires sorted { IsSortedByKey link_key key_cmp links.now }
-    requires ends { All (HasEnds nodes.items) links.now }
-    requires metrics { All IsBelowMaximum links.now }
-    requires table { IsTable table.now }
-    requires groups { length links.now ≤ 2048 → KeysAscend links.now →
-        GivesGroups (groups_in table.now) (announcements_of facts.now) (notes_of facts.now) }
-    requires kept { AreKept facts.now 5 }
+    requires { AreDrafted facts.now nodes.items links.now table.now }
     ensures graph { IfOk result (IsGraphOf facts.now nodes.items links.now) }
     ensures kept { IfOk result (λ _. AreKept facts.now 9) }
     ensures fault { IfErr result (IsDomainFault facts.now) }

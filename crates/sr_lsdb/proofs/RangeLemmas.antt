@@ -8,7 +8,7 @@ use Rattle.std.specs.BTreeMap.{insert_entry}
 use Rattle.std.proofs.lemmas.List.Elements.{All-cons, All-head, All-nil, All-tail}
 use Rattle.std.proofs.lemmas.Map.Lookups.{CmpEqualImpliesEq}
 use Rattle.sr_lsp.specs.declared.lsp.Lsp.{Lsp}
-use Rattle.sr_lsp.specs.InRange.{IsInRange}
+use Rattle.sr_lsp.specs.InRange.{FitsLsp}
 use Rattle.sr_lsdb.specs.declared.facts.Facts.{Facts}
 use Rattle.sr_lsdb.specs.Edit.{Edit, IsEditInRange, apply}
 use Rattle.sr_lsdb.specs.Edit.Edit.{Announce, SetCost, TakeDown, BringUp, SetDepth}
@@ -28,7 +28,7 @@ All-insert_entry {K} {X} {cmp} exact P (e ∷ es) k v all one =
     (λ same. All-cons P (e.0, v) es (subst (λ (key : K). P (key, v)) (exact k e.0 same) one) (All-tail P e es all))
     (All-cons P e (insert_entry cmp es k v) (All-head P e es all) (All-insert_entry exact P es k v (All-tail P e es all) one))
 
-stored_well : (lsp : Lsp) (gone : Bool) → IsInRange lsp → IfSome (if gone then None else Some lsp) (λ (live : Lsp). IsInRange live × (live.id ≡ lsp.id))
+stored_well : (lsp : Lsp) (gone : Bool) → FitsLsp lsp → IfSome (if gone then None else Some lsp) (λ (live : Lsp). FitsLsp live × (live.id ≡ lsp.id))
 stored_well lsp true fits = tt
 stored_well lsp false fits = (fits, refl)
 

@@ -9,6 +9,6 @@ abbrev pub editing_of : Sides → ℕ → Editing
 editing_of sides staged = record { accepted = sides.front; tentative = latest (staged == 0) sides; staged = staged }
 
 -- the sides of a steady editing, which differ only in what is noted
-pub record AreKept (sides : Sides) (staged : ℕ) : Type 0 where
+pub record AreSteadySides (sides : Sides) (staged : ℕ) : Type 0 where
   pub steady : IsSteady (editing_of sides staged)
   pub noted : IsNoted sides

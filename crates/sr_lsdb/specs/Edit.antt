@@ -7,7 +7,7 @@ use Rattle.sr_model.specs.declared.name.LinkKey.{LinkKey}
 use Rattle.sr_model.specs.declared.name.PairKey.{PairKey}
 use Rattle.sr_model.specs.KeyOrder.{key_cmp}
 use Rattle.sr_lsp.specs.declared.lsp.Lsp.{Lsp}
-use Rattle.sr_lsp.specs.InRange.{IsInRange}
+use Rattle.sr_lsp.specs.InRange.{FitsLsp}
 use Rattle.sr_lsdb.specs.declared.facts.Facts.{Facts}
 use Rattle.sr_lsdb.specs.Order.{id_cmp, pair_cmp}
 use Rattle.sr_lsdb.specs.Facts.{IsCost, stored_of}
@@ -20,7 +20,8 @@ pub data Edit : Type 0 where
   BringUp : PairKey → Edit
   SetDepth : ℕ → Edit
 
--- the facts after an edit: a PDU is stored under its id, a metric is set for a key, a pair is among those that are down or isn't, the depth is set
+-- the facts after an edit: a PDU is stored under its id, a metric is set for a key, a pair is among those that are
+-- down or isn't, the depth is set
 abbrev pub apply : Edit → Facts → Facts
 apply (Announce lsp) facts = record { database = insert_entry id_cmp facts.database lsp.id (stored_of lsp); costs = facts.costs; downs = facts.downs; depth = facts.depth }
 apply (SetCost key metric) facts = record { database = facts.database; costs = insert_entry key_cmp facts.costs key metric; downs = facts.downs; depth = facts.depth }
@@ -30,7 +31,7 @@ apply (SetDepth depth) facts = record { database = facts.database; costs = facts
 
 -- an edit in range: a PDU that fits its layouts, the metric of a link in use, or at most 12 segments
 abbrev pub IsEditInRange : Edit → Type 0
-IsEditInRange (Announce lsp) = IsInRange lsp
+IsEditInRange (Announce lsp) = FitsLsp lsp
 IsEditInRange (SetCost key metric) = IsCost (key, metric)
 IsEditInRange (TakeDown pair) = Unit {0}
 IsEditInRange (BringUp pair) = Unit {0}

@@ -1,6 +1,7 @@
 -- The accepted facts, the edits that are staged, and what staging and accepting do.
 use Rattle.std.specs.Prelude.{◌≡◌, ℕ, ◌+◌, ◌≤◌}
 use Rattle.sr_lsdb.specs.declared.facts.Facts.{Facts}
+use Rattle.sr_lsdb.specs.declared.limits.TheConstants.{MOST_STAGED}
 use Rattle.sr_lsdb.specs.Facts.{no_facts, AreInRange}
 use Rattle.sr_lsdb.specs.Edit.{Edit, apply}
 
@@ -9,10 +10,6 @@ pub record Editing : Type 0 where
   pub accepted : Facts
   pub tentative : Facts
   pub staged : ℕ
-
--- the most edits that are staged at a time (this project's rule)
-abbrev pub most_staged : ℕ
-most_staged = 4096
 
 -- before the first edit
 abbrev pub opening : Editing
@@ -30,9 +27,10 @@ with_accepted editing = record { accepted = editing.tentative; tentative = editi
 abbrev pub with_none_staged : Editing → Editing
 with_none_staged editing = record { accepted = editing.accepted; tentative = editing.accepted; staged = 0 }
 
--- what holds of every editor: the facts are in range, not too much is staged, and where nothing is the tentative facts are the accepted ones
+-- what holds of every editor: the facts are in range, not too much is staged, and where nothing is the tentative
+-- facts are the accepted ones
 pub record IsSteady (editing : Editing) : Type 0 where
   pub accepted : AreInRange editing.accepted
   pub tentative : AreInRange editing.tentative
-  pub staged : editing.staged ≤ most_staged
+  pub staged : editing.staged ≤ MOST_STAGED
   pub idle : editing.staged ≡ 0 → editing.tentative ≡ editing.accepted

@@ -21,7 +21,8 @@ with_stored id stored facts = record { database = insert_entry id_cmp facts.data
 abbrev pub IsNoted : Sides → Type 0
 IsNoted sides = Agree sides.touched.items sides.front sides.back
 
--- the draft is now these facts, or memory ran out and the latest facts stayed; the accepted facts stay, and what differs is noted
+-- the draft is now these facts, or memory ran out and the latest facts stayed; the accepted facts stay, and what
+-- differs is noted
 pub record Drafts {E : Type 0} (idle : Bool) (facts : Facts) (old new : Sides) (result : Result (Unit {0}) E) : Type 0 where
   pub accepted : new.front ≡ old.front
   pub noted : IsNoted new

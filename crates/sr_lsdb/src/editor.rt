@@ -1,12 +1,14 @@
 //! The edits of the facts: staged one by one, and then accepted or dropped together.
 ghost use Rattle.std.specs.Prelude.{◌≡◌, ◌<◌, ◌≤◌};
-ghost use Rattle.sr_lsp.specs.InRange.{IsInRange};
+ghost use Rattle.sr_wire.specs.declared.registry.TheConstants.{MAXIMUM_METRIC};
+ghost use Rattle.sr_lsp.specs.InRange.{FitsLsp};
 ghost use Rattle.sr_lsdb.specs.Edit.Edit.{BringUp, SetCost, SetDepth, TakeDown};
 ghost use Rattle.sr_lsdb.specs.Editing.{IsSteady, opening, with_accepted, with_none_staged};
 ghost use Rattle.sr_lsdb.specs.Facts.{AreInRange};
 ghost use Rattle.sr_lsdb.specs.Staging.{Stages, StagesLsp};
 
 use crate::facts::{Facts, Stored};
+use crate::limits::MOST_STAGED;
 use crate::sides::Sides;
 use crate::stage_fault::StageFault;
 use sr_lsp::Lsp;
@@ -27,15 +29,12 @@ impl Model for Editor {
 
     ghost Value = { Editing };
 
-    ghost use Rattle.sr_lsdb.specs.Draft.{AreKept, editing_of};
+    ghost use Rattle.sr_lsdb.specs.Draft.{AreSteadySides, editing_of};
 
     ghost view = { λ e. editing_of e.sides e.staged };
 
-    ghost invariant = { λ e. AreKept e.sides e.staged };
+    ghost invariant = { λ e. AreSteadySides e.sides e.staged };
 }
-
-/// The most edits that are staged at a time.
-const MOST_STAGED: u32 = 4096;
 
 impl Editor {
     /// An editor of no facts, with nothing staged.
@@ -78,7 +77,7 @@ impl Editor {
     /// Stages a PDU, and answers how many edits are staged. It is `Stale` where it isn't newer than what the tentative
     /// facts have of it (ISO 10589, 7.3.16), and else `Full` where 4,096 are staged. An error changes nothing.
     pub fn stage_lsp(&mut self, lsp: Lsp) -> Result<u32, StageFault>
-        requires { IsInRange lsp }
+        requires { FitsLsp lsp }
         ensures { StagesLsp lsp self.old self.new result }
     {
         if let Some(stored) = self.sides.latest(self.staged == 0).stale_number(&lsp) {
@@ -101,7 +100,7 @@ impl Editor {
     /// where 4,096 are. An error changes nothing.
     pub fn stage_cost(&mut self, key: &LinkKey, metric: u32) -> Result<u32, StageFault>
         requires positive { 0 < metric }
-        requires in_use { metric < 16777215 }
+        requires in_use { metric < MAXIMUM_METRIC }
         ensures { Stages (SetCost key.now metric) self.old self.new result }
     {
         if self.staged == MOST_STAGED {
@@ -112,7 +111,7 @@ impl Editor {
         Ok(self.staged)
     }
 
-    /// Stages that a pair of links goes down, and answers how many edits are staged. It is `Full`
+    /// Stages that a bidirectional link goes down, and answers how many edits are staged. It is `Full`
     /// where 4,096 are. An error changes nothing.
     pub fn stage_down(&mut self, pair: PairKey) -> Result<u32, StageFault>
         ensures { Stages (TakeDown pair) self.old self.new result }
@@ -125,7 +124,7 @@ impl Editor {
         Ok(self.staged)
     }
 
-    /// Stages that a pair of links comes up, and answers how many edits are staged. It is `Full`
+    /// Stages that a bidirectional link comes up, and answers how many edits are staged. It is `Full`
     /// where 4,096 are. An error changes nothing.
     pub fn stage_up(&mut self, pair: PairKey) -> Result<u32, StageFault>
         ensures { Stages (BringUp pair) self.old self.new result }

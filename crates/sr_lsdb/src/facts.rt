@@ -55,8 +55,8 @@ impl Stored {
     }
 }
 
-/// The facts of a domain: its link-state database, the metrics that are set for links, the pairs of links that are down,
-/// and how many segments a repair list may have.
+/// The facts of a domain: its link-state database, the metrics that are set for links, the bidirectional links that
+/// are down, and how many segments a repair list may have.
 #[derive(Debug, Drop)]
 pub struct Facts {
     pub database: Database,

@@ -4,6 +4,7 @@
 mod editor;
 mod facts;
 mod laws;
+mod limits;
 mod shared;
 mod sides;
 mod stage_fault;
@@ -13,6 +14,7 @@ mod touched;
 pub use editor::Editor;
 pub use facts::{Facts, Stored};
 pub use laws::{edits_keep_the_range, ids_are_ordered, pairs_are_ordered};
+pub use limits::MOST_STAGED;
 pub use shared::SharedLsp;
 pub use stage_fault::StageFault;
 pub use tables::{Database, DownPairs, LinkCosts};

@@ -43,7 +43,7 @@ impl Sides {
         if idle { &self.front } else { &self.back }
     }
 
-    /// The draft comes to the front, and the facts that were accepted go to the back.
+    /// The draft moves to the front, and the facts that were accepted go to the back.
     pub(crate) fn turn(&mut self)
         requires { IsNoted self.old }
         ensures front { self.new.front ≡ self.old.back }

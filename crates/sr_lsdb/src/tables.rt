@@ -174,7 +174,7 @@ impl LinkCosts {
     }
 }
 
-/// The pairs of links that are down, in order.
+/// The bidirectional links that are down, in order.
 #[derive(Debug, Drop)]
 pub struct DownPairs {
     pairs: BTreeSet<PairKey>,

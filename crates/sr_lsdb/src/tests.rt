@@ -1,5 +1,5 @@
 ghost use Rattle.std.specs.Prelude.{IfOk};
-ghost use Rattle.sr_lsp.specs.InRange.{IsInRange};
+ghost use Rattle.sr_lsp.specs.InRange.{FitsLsp};
 
 use super::*;
 use sr_lsp::{Lsp, ReadFault, read_lsp};
@@ -19,7 +19,7 @@ const PDU: [u8; 58] = [
 
 /// The PDU with other octets at some places.
 fn pdu(alloc: Global, changes: &[(usize, u8)]) -> Result<Lsp, ReadFault>
-    ensures { IfOk result (λ lsp. IsInRange lsp) }
+    ensures { IfOk result (λ lsp. FitsLsp lsp) }
 {
     let mut octets = Vec::from_slice(alloc, &PDU)?;
     for &(at, octet) in changes {

@@ -13,7 +13,7 @@ use Rattle.sr_lsp.specs.declared.lsp.Lsp.{Lsp}
 use Rattle.sr_lsp.specs.declared.lsp.LspId.{LspId}
 use Rattle.sr_lsp.specs.declared.table.Part.{Part}
 use Rattle.sr_lsp.specs.Header.{header_fault, header_of}
-use Rattle.sr_lsp.specs.InRange.{FitsPart, HasWidths, IsInRange}
+use Rattle.sr_lsp.specs.InRange.{FitsPart, HasWidths, FitsLsp}
 use Rattle.sr_lsp.specs.Lsp.{BodyFault, IsBroken, Reads}
 use Rattle.sr_lsp.specs.Table.{rows, spelling}
 use Rattle.sr_lsp.specs.Text.{HasSpelling, header_text, lsp_text, pdu_length}
@@ -87,11 +87,11 @@ same_fault octets x y a b =
 pub body_in_range : (body : List ℕ) (parts : List Part) → AreOctets body → (body_of rows).says body parts → All FitsPart parts
 body_in_range = body_fit FitsPart rows table_laws
 
-pub reads_in_range : (octets : List ℕ) (lsp : Lsp) → AreOctets octets → Reads octets lsp → IsInRange lsp
+pub reads_in_range : (octets : List ℕ) (lsp : Lsp) → AreOctets octets → Reads octets lsp → FitsLsp lsp
 reads_in_range octets lsp small reads = body_in_range (slice_range octets 27 reads.header.pdu_length) lsp.parts (octets_range octets 27 reads.header.pdu_length small) reads.body
 
 -- the octets that are written read as the PDU
-pub lsp_again : (lsp : Lsp) (rest : List ℕ) → HasWidths lsp → IsInRange lsp → HasSpelling lsp → Reads (lsp_text lsp ++ rest) lsp
+pub lsp_again : (lsp : Lsp) (rest : List ℕ) → HasWidths lsp → FitsLsp lsp → HasSpelling lsp → Reads (lsp_text lsp ++ rest) lsp
 lsp_again lsp rest widths fits spelled =
     let body = body_text spelling lsp.parts in
     let long = pdu_length lsp in

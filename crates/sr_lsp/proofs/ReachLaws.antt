@@ -32,7 +32,7 @@ use Rattle.sr_subtlv.proofs.LinkIdsLaws.{ids_laws}
 use Rattle.sr_lsp.specs.declared.reach.Reach.{Reach}
 use Rattle.sr_lsp.specs.declared.table.Part.{Part}
 use Rattle.sr_lsp.specs.declared.table.Part.TheVariants.{Reach as ReachPart}
-use Rattle.sr_lsp.specs.Reach.{Entry, FitsReach, HasReachWidths, IsEntry, SaysOne, SaysReach, entry_layout, entry_of, entry_text, link_fields, link_subs_of, reach_kind, reach_subs, reach_value}
+use Rattle.sr_lsp.specs.Reach.{Entry, FitsReach, HasReachWidths, IsReachEntry, SaysOne, SaysReach, entry_layout, reach_entry_of, entry_text, link_fields, link_subs_of, reach_kind, reach_subs, reach_value}
 
 link_laws : FieldsLaws link_fields
 link_laws = (
@@ -48,7 +48,7 @@ entry_same x y a b c d =
     ∙ ap (λ (k : ℕ). record { neighbour = y.neighbour; pseudonode = y.pseudonode; metric = k; subs = x.subs }) c
     ∙ ap (λ (s : List ℕ). record { neighbour = y.neighbour; pseudonode = y.pseudonode; metric = y.metric; subs = s }) d
 
-entry_one : (x y : Entry) (a b : List ℕ) → IsEntry x → IsEntry y → entry_text x ++ a ≡ entry_text y ++ b → (x ≡ y) × (a ≡ b)
+entry_one : (x y : Entry) (a b : List ℕ) → IsReachEntry x → IsReachEntry y → entry_text x ++ a ≡ entry_text y ++ b → (x ≡ y) × (a ≡ b)
 entry_one x y a b px py e =
     let back_x : big_number 6 (entry_text x ++ a) ≡ x.neighbour = big_number-reads_back 6 x.neighbour (drop 6 (entry_text x ++ a)) px.neighbour in
     let back_y : big_number 6 (entry_text y ++ b) ≡ y.neighbour = big_number-reads_back 6 y.neighbour (drop 6 (entry_text y ++ b)) py.neighbour in
@@ -62,7 +62,7 @@ entry_one x y a b px py e =
     let both = fronts x.subs y.subs a b lengths rests in
     (entry_same x y neighbours pseudonodes metrics both.0, both.1)
 
-entry_code : IsCode IsEntry entry_text
+entry_code : IsCode IsReachEntry entry_text
 entry_code = record { one = entry_one; some = λ x a e. absurd {0} (cc) }
 
 -- an entry says one value
@@ -95,7 +95,7 @@ piece_laws = record {
 sound_entry : (entry : Entry) (reach : Reach) → SaysReach entry reach → IsSound entry_layout entry
 sound_entry entry reach says at check fault = whole_subs_sound entry.subs says.subs says.are fault.0 check fault.1
 
-reach_fits : (entry : Entry) (reach : Reach) → AreOctets (entry_text entry) → IsEntry entry → SaysReach entry reach → FitsReach reach
+reach_fits : (entry : Entry) (reach : Reach) → AreOctets (entry_text entry) → IsReachEntry entry → SaysReach entry reach → FitsReach reach
 reach_fits entry reach small is says =
     let front : List ℕ = big_bytes 6 entry.neighbour ++ entry.pseudonode ∷ big_bytes 3 entry.metric ++ length entry.subs ∷ [] in
     let subs : AreOctets entry.subs = octets_back front entry.subs small in
@@ -135,7 +135,7 @@ reach_laws = record {
 }
 
 -- for the functions: an entry in octets
-entry_again : (octets : List ℕ) → AreOctets octets → 11 ≤ length octets → slice_index octets 10 ≡ length (drop 11 octets) → octets ≡ entry_text (entry_of octets)
+entry_again : (octets : List ℕ) → AreOctets octets → 11 ≤ length octets → slice_index octets 10 ≡ length (drop 11 octets) → octets ≡ entry_text (reach_entry_of octets)
 entry_again octets small long told =
     let six : octets ≡ big_bytes 6 (big_number 6 octets) ++ drop 6 octets = split_number 6 0 octets small (omega arith) in
     let seventh : drop 6 octets ≡ slice_index octets 6 ∷ drop 7 octets = split_octet 6 octets (omega arith) in
@@ -144,7 +144,7 @@ entry_again octets small long told =
     six ∙ ap (λ (xs : List ℕ). big_bytes 6 (big_number 6 octets) ++ xs)
     (seventh ∙ ap (λ (xs : List ℕ). slice_index octets 6 ∷ xs) (three ∙ ap (λ (xs : List ℕ). big_bytes 3 (big_number 3 (drop 7 octets)) ++ xs) eleventh))
 
-entry_fits : (octets : List ℕ) → AreOctets octets → IsEntry (entry_of octets)
+entry_fits : (octets : List ℕ) → AreOctets octets → IsReachEntry (reach_entry_of octets)
 entry_fits octets small = record { neighbour = number_fits 6 0 octets small; metric = number_fits 3 7 octets small }
 
 entry_room : (octets : List ℕ) (entry : Entry) (rest : List ℕ) → octets ≡ entry_text entry ++ rest → 11 + slice_index octets 10 ≤ length octets
@@ -156,13 +156,13 @@ entry_room octets entry rest e =
     omega arith
 
 entry_at : (value : List ℕ) (at end : ℕ) → AreOctets value → at + 11 ≤ end → end ≤ length value → end ≡ at + 11 + slice_index value (at + 10)
-    → drop at value ≡ entry_text (entry_of (slice_range value at end)) ++ drop end value
+    → drop at value ≡ entry_text (reach_entry_of (slice_range value at end)) ++ drop end value
 entry_at value at end small room within is =
     let octets = slice_range value at end in
     let long : length octets ≡ end - at = range_long value at end (omega arith) within in
     let here : slice_index octets 10 ≡ slice_index value (at + 10) = index_in_range value at end 10 (omega arith) in
     let rest : length (drop 11 octets) ≡ length octets - 11 = length-drop 11 octets in
-    let text : octets ≡ entry_text (entry_of octets) = entry_again octets (octets_range value at end small) (omega arith) (omega arith) in
+    let text : octets ≡ entry_text (reach_entry_of octets) = entry_again octets (octets_range value at end small) (omega arith) (omega arith) in
     drop_split value at end (omega arith) ∙ ap (λ (xs : List ℕ). xs ++ drop end value) text
 
 -- where no entry stands
@@ -173,10 +173,10 @@ no_entry value at within short entry rest e =
     omega (arith, length-drop at value)
 
 -- an entry of octets is the next piece, or one with a fault inside
-pub next_entry : (value : List ℕ) (at end : ℕ) (reach : Reach) → AreOctets value → end ≤ length value → end ≡ at + 11 + slice_index value (at + 10) → SaysReach (entry_of (slice_range value at end)) reach
+pub next_entry : (value : List ℕ) (at end : ℕ) (reach : Reach) → AreOctets value → end ≤ length value → end ≡ at + 11 + slice_index value (at + 10) → SaysReach (reach_entry_of (slice_range value at end)) reach
     → IsNextPiece entry_layout SaysOne value at end (ReachPart reach ∷ [])
 next_entry value at end reach small room is says =
-    let entry = entry_of (slice_range value at end) in
+    let entry = reach_entry_of (slice_range value at end) in
     record {
       piece = entry;
       further = omega arith;
@@ -188,9 +188,9 @@ next_entry value at end reach small room is says =
     }
 
 pub faulty_entry : (value : List ℕ) (at end inside : ℕ) (check : Check) → AreOctets value → end ≤ length value → end ≡ at + 11 + slice_index value (at + 10)
-    → entry_layout.fault (entry_of (slice_range value at end)) inside check → FaultyPiece entry_layout (drop at value) inside check
+    → entry_layout.fault (reach_entry_of (slice_range value at end)) inside check → FaultyPiece entry_layout (drop at value) inside check
 faulty_entry value at end inside check small room is fault = record {
-  piece = entry_of (slice_range value at end);
+  piece = reach_entry_of (slice_range value at end);
   rest = drop end value;
   is = entry_fits (slice_range value at end) (octets_range value at end small);
   text = entry_at value at end small (omega arith) room is;

@@ -48,7 +48,7 @@ sound_risk value risk says at fault =
       ]
     ]
 
--- one field is the first that so many octets cut
+-- one field is the first that a value of that length cuts
 same_cut : (long at other : ℕ) → CutField long at → CutField long other → at ≡ other
 same_cut long at other a b = grind arith
 

@@ -1,7 +1,7 @@
 -- What the layouts of the TLVs say, field by field, without tables.
 use Rattle.std.specs.Prelude.{◌≡◌, ℕ, ◌≤◌, ◌==◌, List, [], ◌∷◌, ◌++◌, Option, MatchBool, bit_and, drop, length, map, nat_le, not, replicate, unwrap_or}
 use Rattle.byteorder.specs.Endian.{big_number}
-use Rattle.sr_wire.specs.declared.registry.TheConstants.{ADJ_SID, LINK_IDS, NEIGHBOUR_ADDR, NODE_MSD, OWN_ADDR, PREFIX_SID, SR_CAPABILITIES}
+use Rattle.sr_wire.specs.declared.registry.TheConstants.{ADDRESS_BITS, ADJ_SID, LINK_IDS, NEIGHBOUR_ADDR, NODE_MSD, OWN_ADDR, PREFIX_DOWN, PREFIX_SID, SR_CAPABILITIES}
 use Rattle.sr_wire.specs.Octets.{number, octet}
 use Rattle.sr_wire.specs.Run.{IsRun}
 use Rattle.sr_wire.specs.Sub.{AllSay, AreSubs, FirstSays}
@@ -27,7 +27,8 @@ use Rattle.sr_lsp.specs.Prefix.{PrefixEntry, bits_of, prefix_layout}
 use Rattle.sr_lsp.specs.Reach.{Entry, entry_layout}
 use Rattle.sr_lsp.specs.Risk.{SaysRisk}
 
--- what the sub-TLVs of an entry of extended IS reachability say: the link identifiers, the addresses of both ends, and the SIDs of the adjacency
+-- what the sub-TLVs of an entry of extended IS reachability say: the link identifiers, the addresses of both ends,
+-- and the SIDs of the adjacency
 pub record SaysLink (octets : List ℕ) (ids : Option LinkIds) (local remote : Option ℕ) (adj : List AdjSid) : Type 0 where
   pub subs : List Tlv
   pub text : AreSubs octets subs
@@ -66,14 +67,16 @@ pub record SaysSids (octets : List ℕ) (sids : List PrefixSid) : Type 0 where
 -- what an entry of TLV 135 says whose prefix has at most 32 bits: octets of the prefix that aren't there are 0
 pub record SaysAddress (entry : PrefixEntry) (prefix : Prefix) : Type 0 where
   pub metric : prefix.metric ≡ entry.metric
-  pub down : prefix.down ≡ not (bit_and entry.control 0x80 == 0)
+  pub down : prefix.down ≡ not (bit_and entry.control PREFIX_DOWN == 0)
   pub length : prefix.length ≡ bits_of entry
   pub address : prefix.prefix ≡ big_number 4 (entry.prefix ++ replicate 4 0)
   pub sids : SaysSids entry.subs prefix.sids
 
 -- an entry with a longer prefix says nothing
 abbrev pub SaysAtMost32 : PrefixEntry → List Prefix → Type 0
-SaysAtMost32 entry own = MatchBool (nat_le (bits_of entry) 32) ((prefix : Prefix) × SaysAddress entry prefix × (own ≡ prefix ∷ [])) (own ≡ [])
+SaysAtMost32 entry own =
+    MatchBool (nat_le (bits_of entry) ADDRESS_BITS) ((prefix : Prefix) × SaysAddress entry prefix × (own ≡ prefix ∷ []))
+    (own ≡ [])
 
 -- what the entries say, in order of place
 abbrev pub SaysPrefixes : List PrefixEntry → List Prefix → Type 0

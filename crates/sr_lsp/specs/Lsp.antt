@@ -7,7 +7,8 @@ use Rattle.sr_lsp.specs.declared.lsp.Lsp.{Lsp}
 use Rattle.sr_lsp.specs.Header.{IsHeader, header_fault}
 use Rattle.sr_lsp.specs.Table.{rows}
 
--- the octets read as the value: a header with its fields, whole TLVs to the PDU length whose parts are the value's, and anything after them
+-- the octets read as the value: a header with its fields, whole TLVs to the PDU length whose parts are the value's,
+-- and anything after them
 pub record Reads (octets : List ℕ) (lsp : Lsp) : Type 0 where
   pub header : Header
   pub first : IsHeader octets header

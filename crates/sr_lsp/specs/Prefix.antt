@@ -10,6 +10,7 @@ use Rattle.sr_wire.specs.Octets.{number, octet}
 use Rattle.sr_wire.specs.Run.{Layout}
 use Rattle.sr_wire.specs.Sub.{AreSubs, SubFault}
 use Rattle.sr_wire.specs.Tlv.{Tlv}
+use Rattle.sr_subtlv.specs.declared.prefix_sid.PrefixSid.{PrefixSid}
 use Rattle.sr_subtlv.specs.PrefixSid.{prefix_sid_sub}
 use Rattle.sr_lsp.specs.declared.prefix.Prefix.{Prefix}
 use Rattle.sr_lsp.specs.declared.prefix.PrefixSubs.{PrefixSubs}
@@ -28,7 +29,7 @@ pub record PrefixEntry : Type 0 where
 abbrev pub bits_of : PrefixEntry → ℕ
 bits_of entry = entry.control % 64
 
--- how many octets hold a prefix of so many bits
+-- how many octets hold a prefix of that many bits
 abbrev pub prefix_octets : ℕ → ℕ
 prefix_octets bits = (bits + 7) / 8
 
@@ -44,7 +45,8 @@ subs_text entry = if has_subs entry then length entry.subs ∷ entry.subs else [
 abbrev pub prefix_text : PrefixEntry → List ℕ
 prefix_text entry = (big_bytes 4 entry.metric ++ entry.control ∷ entry.prefix) ++ subs_text entry
 
--- its metric fits its octets, its prefix has as few octets as hold its length, and there are sub-TLVs only where the bit says so
+-- its metric fits its octets, its prefix has as few octets as hold its length, and there are sub-TLVs only where the
+-- bit says so
 pub record IsPrefixEntry (entry : PrefixEntry) : Type 0 where
   pub metric : entry.metric < 2 ^ 32
   pub long : length entry.prefix ≡ prefix_octets (bits_of entry)
@@ -68,6 +70,14 @@ pub record IsExtent (value : List ℕ) (at : ℕ) (extent : Extent) : Type 0 whe
   pub is : IsPrefixEntry (prefix_entry_at value at extent)
   pub text : drop at value ≡ prefix_text (prefix_entry_at value at extent) ++ drop extent.end value
   pub behind : (extent.subs_from ≡ extent.prefix_end + 1) ⊎ (extent.end ≡ extent.subs_from)
+
+-- what the entry at a place says whose prefix ends there, with these SIDs: octets of the prefix that aren't there are 0
+pub record IsPrefixAt (value : List ℕ) (at prefix_end : ℕ) (said : List PrefixSid) (read : Prefix) : Type 0 where
+  pub metric : read.metric ≡ number value at 4
+  pub down : read.down ≡ not (bit_and (octet value (at + 4)) PREFIX_DOWN == 0)
+  pub length : read.length ≡ octet value (at + 4) % 64
+  pub address : read.prefix ≡ big_number 4 (slice_range value (at + 5) prefix_end ++ replicate 4 0)
+  pub sids : read.sids ≡ said
 
 -- a fault inside an entry is one of its sub-TLVs, which stand behind five octets, the prefix and their length
 abbrev pub prefix_layout : Layout PrefixEntry

@@ -30,19 +30,29 @@ abbrev pub entry_text : Entry → List ℕ
 entry_text entry = big_bytes 6 entry.neighbour ++ entry.pseudonode ∷ big_bytes 3 entry.metric ++ length entry.subs ∷ entry.subs
 
 -- its numbers fit their octets
-pub record IsEntry (entry : Entry) : Type 0 where
+pub record IsReachEntry (entry : Entry) : Type 0 where
   pub neighbour : entry.neighbour < 2 ^ 48
   pub metric : entry.metric < 2 ^ 24
 
 -- the entry that octets are, which hold its sub-TLVs and no more
-abbrev pub entry_of : List ℕ → Entry
-entry_of octets = record { neighbour = number octets 0 6; pseudonode = octet octets 6; metric = number octets 7 3; subs = drop 11 octets }
+abbrev pub reach_entry_of : List ℕ → Entry
+reach_entry_of octets = record {
+  neighbour = number octets 0 6;
+  pseudonode = octet octets 6;
+  metric = number octets 7 3;
+  subs = drop 11 octets;
+}
 
 -- a fault inside an entry is one of its sub-TLVs, which stand behind eleven octets
 abbrev pub entry_layout : Layout Entry
-entry_layout = record { is = IsEntry; text = entry_text; fault = λ entry at check. (inside : ℕ) × SubFault entry.subs inside check × (at ≡ 11 + inside) }
+entry_layout = record {
+  is = IsReachEntry;
+  text = entry_text;
+  fault = λ entry at check. (inside : ℕ) × SubFault entry.subs inside check × (at ≡ 11 + inside);
+}
 
--- the fields that sub-TLVs say, in order of their types: the first link identifiers, the first address of each end, and all SIDs of the adjacency
+-- the fields that sub-TLVs say, in order of their types: the first link identifiers, the first address of each end,
+-- and all SIDs of the adjacency
 abbrev pub link_fields : List (Field LinkSubs)
 link_fields =
     first_of ids_sub (λ link. link.ids) ∷ first_of own_addr_sub (λ link. link.local) ∷ first_of neighbour_addr_sub (λ link. link.remote)

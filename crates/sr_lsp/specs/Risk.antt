@@ -4,13 +4,14 @@ use Rattle.byteorder.specs.Endian.{big_bytes}
 use Rattle.sr_wire.specs.declared.fault.Check.TheVariants.{FieldExtent}
 use Rattle.sr_wire.specs.declared.registry.TheConstants.{RISK_NUMBERED, SHARED_RISK}
 use Rattle.sr_wire.specs.Format.{Kind, one_part}
-use Rattle.sr_wire.specs.Numbers.{AreNumbers, FitsFourOctets, FitsSixOctets, IsCut, bit_if, numbers_text}
+use Rattle.sr_wire.specs.Numbers.{AreNumbers, FitsFourOctets, FitsSixOctets, PassesEnd, bit_if, numbers_text}
 use Rattle.sr_wire.specs.Octets.{number, octet}
 use Rattle.sr_lsp.specs.declared.risk.Risk.{Risk}
 use Rattle.sr_lsp.specs.declared.table.Part.{Part}
 use Rattle.sr_lsp.specs.declared.table.Part.TheVariants.{Risk as RiskPart}
 
--- the neighbour's system id and pseudonode, flags whose lowest bit says that the link is numbered, two fields that name the link, and the groups, four octets each
+-- the neighbour's system id and pseudonode, flags whose lowest bit says that the link is numbered, two fields that
+-- name the link, and the groups, four octets each
 pub record SaysRisk (value : List ℕ) (risk : Risk) : Type 0 where
   pub whole : 16 ≤ length value
   pub neighbour : risk.neighbour ≡ number value 0 6
@@ -23,8 +24,12 @@ pub record SaysRisk (value : List ℕ) (risk : Risk) : Type 0 where
 -- the first field that passes the end: one of the five, or a group of which some octets stand
 abbrev pub CutField : ℕ → ℕ → Type 0
 CutField long at =
-    ((at ≡ 0) × IsCut long 0 6) ⊎ ((at ≡ 6) × IsCut long 6 1) ⊎ ((at ≡ 7) × IsCut long 7 1) ⊎ ((at ≡ 8) × IsCut long 8 4) ⊎ ((at ≡ 12) × IsCut long 12 4)
-    ⊎ ((k : ℕ) × (at ≡ 16 + 4 * k) × (long ≢ at) × IsCut long at 4)
+    ((at ≡ 0) × PassesEnd long 0 6)
+    ⊎ ((at ≡ 6) × PassesEnd long 6 1)
+    ⊎ ((at ≡ 7) × PassesEnd long 7 1)
+    ⊎ ((at ≡ 8) × PassesEnd long 8 4)
+    ⊎ ((at ≡ 12) × PassesEnd long 12 4)
+    ⊎ ((k : ℕ) × (at ≡ 16 + 4 * k) × (long ≢ at) × PassesEnd long at 4)
 
 -- its one spelling: unused flags are 0
 abbrev pub risk_value : Risk → List ℕ

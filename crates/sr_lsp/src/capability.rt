@@ -1,6 +1,6 @@
 //! The router capability, TLV 242 (RFC 7981, 2): read, written, and what it holds.
 
-ghost use Rattle.std.specs.Prelude.{◌≡◌, ◌<◌, ◌≤◌, ◌+◌, ◌^◌, ◌++◌, ◌∷◌, [], length, IfErr, MatchResult, OnOk};
+ghost use Rattle.std.specs.Prelude.{◌≡◌, ◌<◌, ◌≤◌, ◌+◌, ◌^◌, ◌++◌, ◌∷◌, [], length, IfErr, MatchResult, OnErr, OnOk};
 ghost use Rattle.byteorder.specs.Endian.{big_bytes};
 ghost use Rattle.sr_wire.specs.Fault.{IfMalformed};
 ghost use Rattle.sr_wire.specs.Fields.{text_if_some, sub_text};
@@ -30,7 +30,7 @@ pub struct Capability {
 }
 
 /// The octets before the sub-TLVs.
-const FIXED: usize = 5;
+const OCTETS_BEFORE_SUBS: usize = 5;
 
 /// What the sub-TLVs say.
 #[derive(Debug, Drop)]
@@ -66,7 +66,9 @@ impl TlvKind<Part> for Capability {
     }
 
     fn length(&self) -> u128 {
-        FIXED as u128 + first_length::<SrCap, SrCap>(&self.srgb) + depths_length(&self.msd)
+        OCTETS_BEFORE_SUBS as u128
+            + first_length::<SrCap, SrCap>(&self.srgb)
+            + depths_length(&self.msd)
     }
 
     fn write(&self, out: &mut Vec<u8>) -> Result<(), AllocError> {
@@ -94,14 +96,14 @@ fn read_capability(alloc: Global, value: &[u8]) -> Result<Capability, ReadFault>
     if value.len() < 4 {
         return Err(ReadFault::cut(0));
     }
-    if value.len() < FIXED {
+    if value.len() < OCTETS_BEFORE_SUBS {
         return Err(ReadFault::cut(4));
     }
     let none = NodeSubs {
         srgb: None,
         msd: None,
     };
-    match read_subs(alloc, &value[FIXED..], none) {
+    match read_subs(alloc, &value[OCTETS_BEFORE_SUBS..], none) {
         Ok(subs) => Ok(Capability {
             router: u32_at(value, 0),
             flags: value[4],
@@ -111,7 +113,7 @@ fn read_capability(alloc: Global, value: &[u8]) -> Result<Capability, ReadFault>
                 None => Seq::empty(alloc),
             },
         }),
-        Err(fault) => Err(fault.behind(FIXED)),
+        Err(fault) => Err(fault.behind(OCTETS_BEFORE_SUBS)),
     }
 }
 
@@ -129,8 +131,9 @@ fn depths_length(depths: &Seq<Msd>) -> u128
 
 /// Appends the type and the length of the TLV, the router id, and the flags.
 fn write_router(capability: &Capability, octets: u8, out: &mut Vec<u8>) -> Result<(), AllocError>
-    ensures { OnOk result (out.new.items ≡ out.old.items
+    ensures ok { OnOk result (out.new.items ≡ out.old.items
         ++ (ROUTER_CAPABILITY ∷ octets ∷ big_bytes 4 capability.now.router ++ capability.now.flags ∷ [])) }
+    ensures err { OnErr result (out.new.items ≡ out.old.items) }
 {
     let mut front = [ROUTER_CAPABILITY, octets, 0, 0, 0, 0, capability.flags];
     BigEndian::write_u32(&mut front[2..], capability.router);
@@ -140,7 +143,8 @@ fn write_router(capability: &Capability, octets: u8, out: &mut Vec<u8>) -> Resul
 /// Appends the sub-TLV of the depths, where there are some.
 fn write_depths(depths: &Seq<Msd>, out: &mut Vec<u8>) -> Result<(), AllocError>
     requires { length (text_if_some (sub_text msds_sub) (if_any depths.now)) ≤ 255 }
-    ensures { OnOk result (out.new.items ≡ out.old.items ++ text_if_some (sub_text msds_sub) (if_any depths.now)) }
+    ensures ok { OnOk result (out.new.items ≡ out.old.items ++ text_if_some (sub_text msds_sub) (if_any depths.now)) }
+    ensures err { OnErr result (out.new.items ≡ out.old.items) }
 {
     if depths.as_slice().is_empty() {
         Ok(())

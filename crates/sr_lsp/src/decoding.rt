@@ -3,7 +3,7 @@
 ghost use Rattle.std.specs.Prelude.{◌≤◌, length, IfErr, IfOk, MatchResult};
 ghost use Rattle.sr_wire.specs.Fault.{IfMalformed};
 ghost use Rattle.sr_wire.specs.Parts.{body_of};
-ghost use Rattle.sr_lsp.specs.InRange.{IsInRange};
+ghost use Rattle.sr_lsp.specs.InRange.{FitsLsp};
 ghost use Rattle.sr_lsp.specs.Lsp.{IsBroken, Reads};
 ghost use Rattle.sr_lsp.specs.Table.{rows};
 
@@ -19,7 +19,7 @@ use std::alloc::Global;
 /// value that is read.
 pub fn read_lsp(alloc: Global, octets: &[u8]) -> Result<Lsp, ReadFault>
     ensures says { MatchResult result (λ lsp. Reads octets.now lsp) (λ fault. IfMalformed fault (λ malformed. IsBroken octets.now malformed)) }
-    ensures range { IfOk result (λ lsp. IsInRange lsp) }
+    ensures range { IfOk result (λ lsp. FitsLsp lsp) }
 {
     let header = match Header::read(octets) {
         Ok(header) => header,

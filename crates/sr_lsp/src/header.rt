@@ -2,7 +2,7 @@
 
 ghost use Rattle.std.specs.Prelude.{◌≡◌, ◌≤◌, length, nat_le, ◌==◌, ◌||◌, ◌&&◌, IfOk, IfErr};
 
-use crate::octets::system_at;
+use crate::octets::system_id_at;
 use sr_model::SystemId;
 use sr_wire::octets::{u16_at, u32_at};
 use sr_wire::{Check, Malformed};
@@ -81,7 +81,7 @@ impl Header {
         Header {
             pdu_length: u16_at(octets, 8),
             lifetime: u16_at(octets, 10),
-            system: system_at(octets, 12),
+            system: system_id_at(octets, 12),
             pseudonode: octets[18],
             fragment: octets[19],
             sequence: u32_at(octets, 20),
@@ -98,7 +98,7 @@ fn is_id_length(octet: u8) -> bool
     octet == 0 || octet == 6
 }
 
-/// Whether a PDU may have this length, of so many octets that are given.
+/// Whether a PDU may have this length, of that many octets that are given.
 fn is_pdu_length(length: usize, given: usize) -> bool
     ensures { result ≡ (nat_le 27 length && nat_le length given) }
 {

@@ -11,7 +11,7 @@ ghost use Rattle.sr_wire.specs.Tlv.{Tlv};
 ghost use Rattle.sr_lsp.specs.declared.lsp.Lsp.{Lsp};
 ghost use Rattle.sr_lsp.specs.declared.table.Part.{Part};
 ghost use Rattle.sr_lsp.specs.Capability.{CapabilityFault};
-ghost use Rattle.sr_lsp.specs.InRange.{HasWidths, IsInRange};
+ghost use Rattle.sr_lsp.specs.InRange.{HasWidths, FitsLsp};
 ghost use Rattle.sr_lsp.specs.Layouts.{SaysAllPrefixes, SaysAllReaches, SaysOneRisk, SaysOneRouter};
 ghost use Rattle.sr_lsp.specs.Lsp.{IsBroken, Reads};
 ghost use Rattle.sr_lsp.specs.Prefix.{prefix_layout};
@@ -37,7 +37,7 @@ pub fn the_fault_is_determined()
 
 /// What is written of a PDU is read as that PDU, whatever octets follow.
 pub fn what_is_written_is_read_again()
-    ensures { (lsp : Lsp) (rest : List ℕ) → HasWidths lsp → IsInRange lsp → HasSpelling lsp → Reads (lsp_text lsp ++ rest) lsp }
+    ensures { (lsp : Lsp) (rest : List ℕ) → HasWidths lsp → FitsLsp lsp → HasSpelling lsp → Reads (lsp_text lsp ++ rest) lsp }
 {}
 
 /// What the table of kinds says of a TLV is what the layout of its type says, written out field by field; a TLV of a type

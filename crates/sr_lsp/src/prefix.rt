@@ -1,14 +1,14 @@
 //! Extended IP reachability, TLV 135 (RFC 5305, 4): read, written, and what it holds.
 
-ghost use Rattle.std.specs.Prelude.{◌≡◌, ℕ, ◌↔◌, ◌<◌, ◌≤◌, ◌+◌, ◌^◌, ◌++◌, ◌%◌, ◌∷◌, [], ◌==◌, List, All, bit_and, drop, length, not, replicate, slice_index, slice_range, take, IfNone, IfSome, IsTrue, OnOk};
+ghost use Rattle.std.specs.Prelude.{◌≡◌, ℕ, ◌↔◌, ◌<◌, ◌≤◌, ◌+◌, ◌^◌, ◌++◌, ◌%◌, ◌∷◌, [], ◌==◌, List, All, bit_and, drop, length, not, replicate, slice_index, slice_range, take, IfNone, IfSome, IsTrue, OnErr, OnOk};
 ghost use Rattle.byteorder.specs.Endian.{big_bytes, big_number};
-ghost use Rattle.sr_wire.specs.Octets.{number, octet};
+ghost use Rattle.sr_wire.specs.Octets.{Continues, number, octet};
 ghost use Rattle.sr_lsp.specs.declared.table.Part.{Part};
 ghost use Rattle.sr_wire.specs.Entries.{if_some};
 ghost use Rattle.sr_wire.specs.Fields.{SayFields};
 ghost use Rattle.sr_wire.specs.Sub.{AreSubs};
 ghost use Rattle.sr_wire.specs.Tlv.{Tlv};
-ghost use Rattle.sr_lsp.specs.Prefix.{FitsPrefix, IsExtent, IsPrefixEntry, PrefixEntry, SaysOwn, control_octet, counted_subs, prefix_entry_at, prefix_fields, prefix_kind, prefix_layout, prefix_octets, prefix_text};
+ghost use Rattle.sr_lsp.specs.Prefix.{FitsPrefix, IsExtent, IsPrefixAt, IsPrefixEntry, PrefixEntry, SaysOwn, control_octet, counted_subs, prefix_entry_at, prefix_fields, prefix_kind, prefix_layout, prefix_octets, prefix_text};
 
 use crate::prefix_extent::Extent;
 use crate::table::Part;
@@ -19,7 +19,7 @@ use sr_wire::octets::u32_at;
 use sr_wire::registry::{ADDRESS_BITS, EXTENDED_PREFIX, PREFIX_DOWN, PREFIX_SUBS};
 use sr_wire::{
     Entries, Next, ReadFault, SubTlvs, TlvKind, add_all, all_fit, all_length, all_widths,
-    read_entries, read_subs, write_all,
+    read_entries, read_subs, write_all_subs,
 };
 use std::alloc::{AllocError, Global};
 
@@ -35,7 +35,7 @@ pub struct Prefix {
 }
 
 /// The octets of an entry before its prefix.
-const FIXED: usize = 5;
+const OCTETS_BEFORE_PREFIX: usize = 5;
 
 /// The bits of the control octet that hold the length of the prefix.
 const LENGTH: u8 = 0x3f;
@@ -70,7 +70,7 @@ impl TlvKind<Part> for Prefix {
     }
 
     fn length(&self) -> u128 {
-        FIXED as u128 + octets_of(self.length) as u128 + subs_length(self)
+        OCTETS_BEFORE_PREFIX as u128 + octets_of(self.length) as u128 + subs_length(self)
     }
 
     fn write(&self, out: &mut Vec<u8>) -> Result<(), AllocError> {
@@ -124,10 +124,10 @@ fn extent_of(value: &[u8], at: usize) -> Option<Extent>
     ensures none { IfNone result ((entry : PrefixEntry) (rest : List ℕ) → IsPrefixEntry entry → drop at value.now ≡ prefix_text entry ++ rest → ⊥) }
     ensures extent { IfSome result (IsExtent value.now at) }
 {
-    if value.len() - at < FIXED {
+    if value.len() - at < OCTETS_BEFORE_PREFIX {
         return None;
     }
-    let prefix_end = at + FIXED + octets_of(bits_in(value[at + 4]));
+    let prefix_end = at + OCTETS_BEFORE_PREFIX + octets_of(bits_in(value[at + 4]));
     if value[at + 4] & PREFIX_SUBS == 0 {
         if value.len() < prefix_end {
             return None;
@@ -170,17 +170,13 @@ fn part_at(value: &[u8], at: usize, extent: Extent, said: PrefixSubs) -> Option<
 fn prefix_at(value: &[u8], at: usize, prefix_end: usize, sids: Few<PrefixSid>) -> Prefix
     requires room { at + 5 ≤ prefix_end }
     requires within { prefix_end ≤ length value.now }
-    ensures metric { result.metric ≡ number value.now at 4 }
-    ensures down { result.down ≡ not (bit_and (octet value.now (at + 4)) PREFIX_DOWN == 0) }
-    ensures length { result.length ≡ octet value.now (at + 4) % 64 }
-    ensures prefix { result.prefix ≡ big_number 4 (slice_range value.now (at + 5) prefix_end ++ replicate 4 0) }
-    ensures sids { result.sids ≡ sids }
+    ensures { IsPrefixAt value.now at prefix_end sids result }
 {
     Prefix {
         metric: u32_at(value, at),
         down: value[at + 4] & PREFIX_DOWN != 0,
         length: bits_in(value[at + 4]),
-        prefix: prefix_of(&value[at + FIXED..prefix_end]),
+        prefix: prefix_of(&value[at + OCTETS_BEFORE_PREFIX..prefix_end]),
         sids,
     }
 }
@@ -224,7 +220,7 @@ fn bits_in(control: u8) -> u8
     control & LENGTH
 }
 
-/// How many octets hold so many bits.
+/// How many octets hold that many bits.
 fn octets_of(bits: u8) -> usize
     ensures is { result ≡ prefix_octets bits }
     ensures small { result ≤ 32 }
@@ -247,8 +243,9 @@ fn subs_length(prefix: &Prefix) -> u128
 /// Appends the type and the length of the TLV, the metric, and the control octet.
 fn write_metric(prefix: &Prefix, octets: u8, out: &mut Vec<u8>) -> Result<(), AllocError>
     requires { FitsPrefix prefix.now }
-    ensures { OnOk result (out.new.items ≡ out.old.items
+    ensures ok { OnOk result (out.new.items ≡ out.old.items
         ++ (EXTENDED_PREFIX ∷ octets ∷ big_bytes 4 prefix.now.metric ++ control_octet prefix.now ∷ [])) }
+    ensures err { OnErr result (out.new.items ≡ out.old.items) }
 {
     let mut front = [EXTENDED_PREFIX, octets, 0, 0, 0, 0, control(prefix)];
     BigEndian::write_u32(&mut front[2..], prefix.metric);
@@ -269,10 +266,11 @@ fn control(prefix: &Prefix) -> u8
     down + subs + prefix.length
 }
 
-/// Appends as few octets of an address as hold so many bits.
+/// Appends as few octets of an address as hold that many bits.
 fn write_address(address: u32, bits: u8, out: &mut Vec<u8>) -> Result<(), AllocError>
     requires { bits ≤ 32 }
-    ensures { OnOk result (out.new.items ≡ out.old.items ++ take (prefix_octets bits) (big_bytes 4 address)) }
+    ensures ok { OnOk result (out.new.items ≡ out.old.items ++ take (prefix_octets bits) (big_bytes 4 address)) }
+    ensures err { OnErr result (out.new.items ≡ out.old.items) }
 {
     let mut octets = [0; 4];
     BigEndian::write_u32(&mut octets, address);
@@ -283,12 +281,13 @@ fn write_address(address: u32, bits: u8, out: &mut Vec<u8>) -> Result<(), AllocE
 fn write_subs(prefix: &Prefix, out: &mut Vec<u8>) -> Result<(), AllocError>
     requires fits { FitsPrefix prefix.now }
     requires short { length (counted_subs prefix.now) ≤ 255 }
-    ensures { OnOk result (out.new.items ≡ out.old.items ++ counted_subs prefix.now) }
+    ensures ok { OnOk result (out.new.items ≡ out.old.items ++ counted_subs prefix.now) }
+    ensures err { OnErr result (Continues out.old.items out.new.items) }
 {
     let sids = prefix.sids.as_slice();
     if sids.is_empty() {
         return Ok(());
     }
     out.push(all_length::<PrefixSid, PrefixSid>(sids) as u8)?;
-    write_all::<PrefixSid, PrefixSid>(sids, out)
+    write_all_subs::<PrefixSid, PrefixSid>(sids, out)
 }

@@ -1,12 +1,13 @@
 //! Extended IS reachability, TLV 22 (RFC 5305, 3): read, written, and what it holds.
 
-ghost use Rattle.std.specs.Prelude.{◌≡◌, ℕ, ◌↔◌, ◌<◌, ◌≤◌, ◌+◌, ◌^◌, ◌++◌, ◌∷◌, [], List, length, drop, slice_index, IfErr, IfNone, IfSome, IsTrue, MatchResult, OnOk};
+ghost use Rattle.std.specs.Prelude.{◌≡◌, ℕ, ◌↔◌, ◌<◌, ◌≤◌, ◌+◌, ◌^◌, ◌++◌, ◌∷◌, [], List, length, drop, slice_index, IfErr, IfNone, IfSome, IsTrue, MatchResult, OnErr, OnOk};
+ghost use Rattle.sr_wire.specs.Octets.{Continues};
 ghost use Rattle.byteorder.specs.Endian.{big_bytes};
 ghost use Rattle.sr_wire.specs.Fault.{IfMalformed};
 ghost use Rattle.sr_lsp.specs.declared.table.Part.{Part};
-ghost use Rattle.sr_lsp.specs.Reach.{Entry, FitsReach, SaysReach, entry_layout, entry_of, entry_text, reach_kind, reach_subs};
+ghost use Rattle.sr_lsp.specs.Reach.{Entry, FitsReach, SaysReach, entry_layout, reach_entry_of, entry_text, reach_kind, reach_subs};
 
-use crate::octets::system_at;
+use crate::octets::system_id_at;
 use crate::table::Part;
 use byteorder::{BigEndian, ByteOrder};
 use sr_model::SystemId;
@@ -16,7 +17,7 @@ use sr_wire::octets::u24_at;
 use sr_wire::registry::EXTENDED_REACH;
 use sr_wire::{
     Entries, Next, ReadFault, SubTlvs, TlvKind, add_all, add_first, all_fit, all_length,
-    all_widths, first_length, first_widths, read_entries, read_subs, write_all, write_first,
+    all_widths, first_length, first_widths, read_entries, read_subs, write_all_subs, write_first,
 };
 use std::alloc::{AllocError, Global};
 
@@ -146,8 +147,9 @@ fn entry_end(value: &[u8], at: usize) -> Option<usize>
 /// What an entry says.
 fn read_reach(alloc: Global, entry: &[u8]) -> Result<Reach, ReadFault>
     requires { 11 ≤ length entry.now }
-    ensures says { MatchResult result (λ reach. SaysReach (entry_of entry.now) reach)
-        (λ fault. IfMalformed fault (λ malformed. entry_layout.fault (entry_of entry.now) malformed.offset malformed.check)) }
+    ensures says { MatchResult result (λ reach. SaysReach (reach_entry_of entry.now) reach)
+        (λ fault. IfMalformed fault
+        (λ malformed. entry_layout.fault (reach_entry_of entry.now) malformed.offset malformed.check)) }
     ensures within { IfErr result (λ fault. IfMalformed fault (λ malformed. malformed.offset ≤ length entry.now)) }
 {
     let none = LinkSubs {
@@ -161,7 +163,7 @@ fn read_reach(alloc: Global, entry: &[u8]) -> Result<Reach, ReadFault>
         Err(fault) => return Err(fault.behind(ENTRY_OCTETS)),
     };
     Ok(Reach {
-        neighbour: system_at(entry, 0),
+        neighbour: system_id_at(entry, 0),
         pseudonode: entry[6],
         metric: u24_at(entry, 7),
         ids: subs.ids,
@@ -182,10 +184,12 @@ fn subs_length(reach: &Reach) -> u128
         + all_length::<AdjSid, AdjSid>(reach.adj.as_slice())
 }
 
-/// Appends the type and the length of the TLV whose sub-TLVs have so many octets, and the neighbour's system id.
+/// Appends the type and the length of the TLV whose sub-TLVs have that many octets, and the neighbour's system id.
 fn write_neighbour(reach: &Reach, subs: u8, out: &mut Vec<u8>) -> Result<(), AllocError>
     requires { 11 + subs ≤ 255 }
-    ensures { OnOk result (out.new.items ≡ out.old.items ++ (EXTENDED_REACH ∷ (11 + subs) ∷ big_bytes 6 reach.now.neighbour)) }
+    ensures ok { OnOk result (out.new.items ≡ out.old.items
+        ++ (EXTENDED_REACH ∷ (11 + subs) ∷ big_bytes 6 reach.now.neighbour)) }
+    ensures err { OnErr result (out.new.items ≡ out.old.items) }
 {
     let mut octets = [EXTENDED_REACH, ENTRY_OCTETS as u8 + subs, 0, 0, 0, 0, 0, 0];
     BigEndian::write_u48(&mut octets[2..], reach.neighbour.value());
@@ -195,8 +199,9 @@ fn write_neighbour(reach: &Reach, subs: u8, out: &mut Vec<u8>) -> Result<(), All
 /// Appends the pseudonode, the metric, and how many octets the sub-TLVs have.
 fn write_metric(reach: &Reach, subs: u8, out: &mut Vec<u8>) -> Result<(), AllocError>
     requires { FitsReach reach.now }
-    ensures { OnOk result (out.new.items ≡ out.old.items
+    ensures ok { OnOk result (out.new.items ≡ out.old.items
         ++ (reach.now.pseudonode ∷ big_bytes 3 reach.now.metric ++ subs ∷ [])) }
+    ensures err { OnErr result (out.new.items ≡ out.old.items) }
 {
     let mut octets = [reach.pseudonode, 0, 0, 0, subs];
     BigEndian::write_u24(&mut octets[1..], reach.metric);
@@ -206,10 +211,11 @@ fn write_metric(reach: &Reach, subs: u8, out: &mut Vec<u8>) -> Result<(), AllocE
 /// Appends the sub-TLVs.
 fn write_subs(reach: &Reach, out: &mut Vec<u8>) -> Result<(), AllocError>
     requires { FitsReach reach.now }
-    ensures { OnOk result (out.new.items ≡ out.old.items ++ reach_subs reach.now) }
+    ensures ok { OnOk result (out.new.items ≡ out.old.items ++ reach_subs reach.now) }
+    ensures err { OnErr result (Continues out.old.items out.new.items) }
 {
     write_first::<LinkIds, LinkIds>(&reach.ids, out)?;
     write_first::<u32, OwnAddr>(&reach.local, out)?;
     write_first::<u32, NeighbourAddr>(&reach.remote, out)?;
-    write_all::<AdjSid, AdjSid>(reach.adj.as_slice(), out)
+    write_all_subs::<AdjSid, AdjSid>(reach.adj.as_slice(), out)
 }

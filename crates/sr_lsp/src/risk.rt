@@ -1,13 +1,14 @@
 //! Shared-risk link groups, TLV 138 (RFC 5307, 1.4): read, written, and what they hold.
 
-ghost use Rattle.std.specs.Prelude.{◌≡◌, ℕ, ◌%◌, ◌≤◌, ◌+◌, ◌++◌, ◌∷◌, [], List, length, IfErr, IfSome, MatchOption, MatchResult, OnOk};
+ghost use Rattle.std.specs.Prelude.{◌≡◌, ℕ, ◌%◌, ◌≤◌, ◌+◌, ◌++◌, ◌∷◌, [], List, length, IfErr, IfSome, MatchOption, MatchResult, OnErr, OnOk};
+ghost use Rattle.sr_wire.specs.Octets.{Continues};
 ghost use Rattle.byteorder.specs.Endian.{big_bytes};
 ghost use Rattle.sr_wire.specs.Fault.{IfMalformed};
 ghost use Rattle.sr_wire.specs.Numbers.{bit_if, numbers_text};
 ghost use Rattle.sr_lsp.specs.declared.table.Part.{Part};
 ghost use Rattle.sr_lsp.specs.Risk.{CutField, risk_kind};
 
-use crate::octets::system_at;
+use crate::octets::system_id_at;
 use crate::table::Part;
 use byteorder::{BigEndian, ByteOrder};
 use sr_model::SystemId;
@@ -30,7 +31,7 @@ pub struct Risk {
 }
 
 /// The octets before the groups.
-const FIXED: usize = 16;
+const OCTETS_BEFORE_GROUPS: usize = 16;
 
 impl TlvKind<Part> for Risk {
     ghost kind = { risk_kind };
@@ -40,19 +41,19 @@ impl TlvKind<Part> for Risk {
             return Err(ReadFault::cut(offset));
         }
         let risk = Risk {
-            neighbour: system_at(value, 0),
+            neighbour: system_id_at(value, 0),
             pseudonode: value[6],
             numbered: value[7] % 2 == RISK_NUMBERED,
             local: u32_at(value, 8),
             remote: u32_at(value, 12),
-            groups: read_numbers(alloc, value, FIXED)?,
+            groups: read_numbers(alloc, value, OCTETS_BEFORE_GROUPS)?,
         };
         parts.push(Part::Risk(risk))?;
         Ok(())
     }
 
     fn length(&self) -> u128 {
-        FIXED as u128 + numbers_length(self.groups.as_slice())
+        OCTETS_BEFORE_GROUPS as u128 + numbers_length(self.groups.as_slice())
     }
 
     fn write(&self, out: &mut Vec<u8>) -> Result<(), AllocError> {
@@ -73,7 +74,7 @@ impl TlvKind<Part> for Risk {
     }
 }
 
-/// The first field that passes the end of a value of so many octets.
+/// The first field that passes the end of a value of that many octets.
 #[tactic(auto, using(crate::proofs::RiskLaws::cut_group))]
 fn cut_field(length: usize) -> Option<usize>
     ensures cut { MatchOption result ((16 ≤ length) × (length % 4 ≡ 0)) (λ at. CutField length at) }
@@ -88,7 +89,7 @@ fn cut_field(length: usize) -> Option<usize>
     if length < 12 {
         return Some(8);
     }
-    if length < FIXED {
+    if length < OCTETS_BEFORE_GROUPS {
         return Some(12);
     }
     let cut = length % 4;
@@ -100,7 +101,9 @@ fn cut_field(length: usize) -> Option<usize>
 
 /// Appends the type and the length of the TLV, and the neighbour's system id.
 fn write_neighbour(risk: &Risk, octets: u8, out: &mut Vec<u8>) -> Result<(), AllocError>
-    ensures { OnOk result (out.new.items ≡ out.old.items ++ (SHARED_RISK ∷ octets ∷ big_bytes 6 risk.now.neighbour)) }
+    ensures ok { OnOk result (out.new.items ≡ out.old.items
+        ++ (SHARED_RISK ∷ octets ∷ big_bytes 6 risk.now.neighbour)) }
+    ensures err { OnErr result (out.new.items ≡ out.old.items) }
 {
     let mut front = [SHARED_RISK, octets, 0, 0, 0, 0, 0, 0];
     BigEndian::write_u48(&mut front[2..], risk.neighbour.value());
@@ -109,15 +112,18 @@ fn write_neighbour(risk: &Risk, octets: u8, out: &mut Vec<u8>) -> Result<(), All
 
 /// Appends the pseudonode, and the flags, of which only the lowest is used.
 fn write_flags(risk: &Risk, out: &mut Vec<u8>) -> Result<(), AllocError>
-    ensures { OnOk result (out.new.items ≡ out.old.items ++ (risk.now.pseudonode ∷ bit_if risk.now.numbered RISK_NUMBERED ∷ [])) }
+    ensures ok { OnOk result (out.new.items ≡ out.old.items
+        ++ (risk.now.pseudonode ∷ bit_if risk.now.numbered RISK_NUMBERED ∷ [])) }
+    ensures err { OnErr result (out.new.items ≡ out.old.items) }
 {
     out.extend_from_slice(&[risk.pseudonode, u8::from(risk.numbered)])
 }
 
 /// Appends the two fields that name the link, and the groups.
 fn write_link_and_groups(risk: &Risk, out: &mut Vec<u8>) -> Result<(), AllocError>
-    ensures { OnOk result (out.new.items ≡ out.old.items
+    ensures ok { OnOk result (out.new.items ≡ out.old.items
         ++ (big_bytes 4 risk.now.local ++ big_bytes 4 risk.now.remote ++ numbers_text risk.now.groups)) }
+    ensures err { OnErr result (Continues out.old.items out.new.items) }
 {
     let mut link = [0; 8];
     BigEndian::write_u32(&mut link, risk.local);

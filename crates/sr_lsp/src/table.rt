@@ -1,9 +1,10 @@
 //! The table of the kinds of TLVs: a row each in the enum and in the two matches.
 
-ghost use Rattle.std.specs.Prelude.{◌≡◌, ℕ, ◌↔◌, ◌≤◌, ◌++◌, List, length, IfErr, IsTrue, MatchResult, OnOk};
+ghost use Rattle.std.specs.Prelude.{◌≡◌, ℕ, ◌↔◌, ◌≤◌, ◌++◌, List, length, IfErr, IsTrue, MatchResult, OnErr, OnOk};
+ghost use Rattle.sr_wire.specs.Octets.{Continues};
 ghost use Rattle.sr_wire.specs.Fault.{IfMalformed};
 ghost use Rattle.sr_wire.specs.Format.{TlvSays, ValueFault};
-ghost use Rattle.sr_wire.specs.Parts.{IsShort, part_text};
+ghost use Rattle.sr_wire.specs.Parts.{HasShortValue, part_text};
 ghost use Rattle.sr_lsp.specs.declared.table.Part.{Part};
 ghost use Rattle.sr_lsp.specs.Table.{rows, spelling};
 
@@ -70,11 +71,12 @@ pub(crate) fn part_length(part: &Part) -> u128
     of_part!(part, value => value.length())
 }
 
-/// Appends the TLV of a part.
+/// Appends the TLV of a part, or a beginning of it before an error.
 pub(crate) fn write_part(part: &Part, out: &mut Vec<u8>) -> Result<(), AllocError>
     requires fits { (spelling part.now).fits }
-    requires short { IsShort spelling part.now }
-    ensures { OnOk result (out.new.items ≡ out.old.items ++ part_text spelling part.now) }
+    requires short { HasShortValue spelling part.now }
+    ensures ok { OnOk result (out.new.items ≡ out.old.items ++ part_text spelling part.now) }
+    ensures err { OnErr result (Continues out.old.items out.new.items) }
 {
     of_part!(part, value => value.write(out))
 }

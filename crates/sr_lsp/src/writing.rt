@@ -1,9 +1,10 @@
 //! Writing a link-state PDU.
 
-ghost use Rattle.std.specs.Prelude.{◌≡◌, ◌↔◌, ℕ, ◌++◌, ◌∷◌, List, [], All, IfErr, IfOk, IsTrue, OnOk};
+ghost use Rattle.std.specs.Prelude.{◌≡◌, ◌↔◌, ℕ, ◌++◌, ◌∷◌, List, [], All, IfErr, IfOk, IsTrue, OnErr, OnOk};
+ghost use Rattle.sr_wire.specs.Octets.{Continues};
 ghost use Rattle.byteorder.specs.Endian.{big_bytes};
-ghost use Rattle.sr_wire.specs.Parts.{IsFirstTooLong, IsShort};
-ghost use Rattle.sr_lsp.specs.InRange.{HasPartWidths, HasWidths, IsInRange};
+ghost use Rattle.sr_wire.specs.Parts.{IsFirstTooLong, HasShortValue};
+ghost use Rattle.sr_lsp.specs.InRange.{HasPartWidths, HasWidths, FitsLsp};
 ghost use Rattle.sr_lsp.specs.Lsp.{Reads};
 ghost use Rattle.sr_lsp.specs.Table.{spelling};
 ghost use Rattle.sr_lsp.specs.Text.{HasSpelling, header_text, lsp_text, pdu_length};
@@ -19,7 +20,7 @@ use std::alloc::{AllocError, Global};
 
 /// Whether every field fits its layout.
 pub fn in_range(lsp: &Lsp) -> bool
-    ensures { IsTrue result ↔ IsInRange lsp.now }
+    ensures { IsTrue result ↔ FitsLsp lsp.now }
 {
     for part in lsp.parts.as_slice() {
         if !fits_part(part) {
@@ -36,7 +37,7 @@ pub fn in_range(lsp: &Lsp) -> bool
 /// 65535 octets is `PduTooLong`. No other PDU is refused, but memory may run out at any. What is written is read as the
 /// same PDU, whatever octets follow.
 pub fn write_lsp(alloc: Global, lsp: &Lsp) -> Result<Vec<u8>, WriteFault>
-    requires { IsInRange lsp.now }
+    requires { FitsLsp lsp.now }
     ensures text { IfOk result (λ octets. octets.items ≡ lsp_text lsp.now) }
     ensures spelled { IfOk result (λ octets. HasSpelling lsp.now) }
     ensures again { IfOk result (λ octets. (rest : List ℕ) → Reads (octets.items ++ rest) lsp.now) }
@@ -78,9 +79,9 @@ fn widths_of_parts(parts: &[Part])
 
 /// How many octets the PDU has, or the first part that is too long.
 fn lsp_length(lsp: &Lsp) -> Result<u128, usize>
-    requires { IsInRange lsp.now }
+    requires { FitsLsp lsp.now }
     ensures is { IfOk result (λ octets. octets ≡ pdu_length lsp.now) }
-    ensures short { IfOk result (λ octets. All (IsShort spelling) lsp.now.parts) }
+    ensures short { IfOk result (λ octets. All (HasShortValue spelling) lsp.now.parts) }
     ensures long { IfErr result (IsFirstTooLong spelling lsp.now.parts) }
 {
     let mut octets = HEADER_OCTETS as u128;
@@ -94,10 +95,10 @@ fn lsp_length(lsp: &Lsp) -> Result<u128, usize>
     Ok(octets)
 }
 
-/// The octets of a PDU that has so many.
+/// The encoding of a PDU that has that many octets.
 fn write_octets(alloc: Global, lsp: &Lsp, octets: u16) -> Result<Vec<u8>, AllocError>
-    requires fits { IsInRange lsp.now }
-    requires short { All (IsShort spelling) lsp.now.parts }
+    requires fits { FitsLsp lsp.now }
+    requires short { All (HasShortValue spelling) lsp.now.parts }
     requires whole { octets ≡ pdu_length lsp.now }
     ensures { IfOk result (λ text. text.items ≡ lsp_text lsp.now) }
 {
@@ -109,9 +110,10 @@ fn write_octets(alloc: Global, lsp: &Lsp, octets: u16) -> Result<Vec<u8>, AllocE
     Ok(out)
 }
 
-/// Appends the header of a PDU of so many octets.
+/// Appends the header of a PDU of that many octets.
 fn write_header(lsp: &Lsp, octets: u16, out: &mut Vec<u8>) -> Result<(), AllocError>
-    ensures { OnOk result (out.new.items ≡ out.old.items ++ header_text lsp.now octets) }
+    ensures ok { OnOk result (out.new.items ≡ out.old.items ++ header_text lsp.now octets) }
+    ensures err { OnErr result (Continues out.old.items out.new.items) }
 {
     write_fixed(out)?;
     write_lifetime(lsp, octets, out)?;
@@ -121,14 +123,16 @@ fn write_header(lsp: &Lsp, octets: u16, out: &mut Vec<u8>) -> Result<(), AllocEr
 
 /// Appends the octets that each link-state PDU of level 2 begins with.
 fn write_fixed(out: &mut Vec<u8>) -> Result<(), AllocError>
-    ensures { OnOk result (out.new.items ≡ out.old.items ++ (0x83 ∷ 27 ∷ 1 ∷ 0 ∷ 20 ∷ 1 ∷ 0 ∷ 0 ∷ [])) }
+    ensures ok { OnOk result (out.new.items ≡ out.old.items ++ (0x83 ∷ 27 ∷ 1 ∷ 0 ∷ 20 ∷ 1 ∷ 0 ∷ 0 ∷ [])) }
+    ensures err { OnErr result (out.new.items ≡ out.old.items) }
 {
     out.extend_from_slice(&[0x83, 27, 1, 0, 20, 1, 0, 0])
 }
 
 /// Appends the length of the PDU, and its lifetime.
 fn write_lifetime(lsp: &Lsp, octets: u16, out: &mut Vec<u8>) -> Result<(), AllocError>
-    ensures { OnOk result (out.new.items ≡ out.old.items ++ (big_bytes 2 octets ++ big_bytes 2 lsp.now.lifetime)) }
+    ensures ok { OnOk result (out.new.items ≡ out.old.items ++ (big_bytes 2 octets ++ big_bytes 2 lsp.now.lifetime)) }
+    ensures err { OnErr result (out.new.items ≡ out.old.items) }
 {
     let mut numbers = [0; 4];
     BigEndian::write_u16(&mut numbers, octets);
@@ -138,8 +142,9 @@ fn write_lifetime(lsp: &Lsp, octets: u16, out: &mut Vec<u8>) -> Result<(), Alloc
 
 /// Appends the name of the PDU.
 fn write_id(lsp: &Lsp, out: &mut Vec<u8>) -> Result<(), AllocError>
-    ensures { OnOk result (out.new.items ≡ out.old.items
+    ensures ok { OnOk result (out.new.items ≡ out.old.items
         ++ (big_bytes 6 lsp.now.id.system ++ lsp.now.id.pseudonode ∷ lsp.now.id.fragment ∷ [])) }
+    ensures err { OnErr result (out.new.items ≡ out.old.items) }
 {
     let mut id = [0, 0, 0, 0, 0, 0, lsp.id.pseudonode, lsp.id.fragment];
     BigEndian::write_u48(&mut id, lsp.id.system.value());
@@ -148,8 +153,9 @@ fn write_id(lsp: &Lsp, out: &mut Vec<u8>) -> Result<(), AllocError>
 
 /// Appends the sequence number, the checksum, and the flags.
 fn write_version(lsp: &Lsp, out: &mut Vec<u8>) -> Result<(), AllocError>
-    ensures { OnOk result (out.new.items ≡ out.old.items
+    ensures ok { OnOk result (out.new.items ≡ out.old.items
         ++ (big_bytes 4 lsp.now.sequence ++ big_bytes 2 lsp.now.checksum ++ lsp.now.flags ∷ [])) }
+    ensures err { OnErr result (out.new.items ≡ out.old.items) }
 {
     let mut version = [0, 0, 0, 0, 0, 0, lsp.flags];
     BigEndian::write_u32(&mut version, lsp.sequence);

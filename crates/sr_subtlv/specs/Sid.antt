@@ -4,7 +4,8 @@ use Rattle.byteorder.specs.Endian.{big_number, big_bytes}
 use Rattle.sr_subtlv.specs.declared.sid.Sid.{Sid}
 use Rattle.sr_subtlv.specs.declared.sid.Sid.TheVariants.{Index, Label}
 
--- these octets say the SID: where the V and L flags are clear an index in four octets, and where both are set a label in the 20 rightmost bits of three. The mask has those two flags.
+-- these octets say the SID: where the V and L flags are clear an index in four octets, and where both are set a label
+-- in the 20 rightmost bits of three. The mask has those two flags.
 abbrev pub SaysSid : ℕ → ℕ → List ℕ → Sid → Type 0
 SaysSid mask flags octets (Index i) = (bit_and flags mask ≡ 0) × (length octets ≡ 4) × (i ≡ big_number 4 octets)
 SaysSid mask flags octets (Label l) = (bit_and flags mask ≡ mask) × (length octets ≡ 3) × (l ≡ big_number 3 octets % 2 ^ 20)

@@ -8,7 +8,8 @@ use Rattle.sr_wire.specs.declared.registry.TheConstants.{SID_LABEL, SR_CAPABILIT
 use Rattle.sr_wire.specs.Fields.{Sub}
 use Rattle.sr_wire.specs.Octets.{octet, number}
 
--- a range's size in three octets, and a SID/Label sub-TLV (RFC 8667, 2.3) of length 3, whose 20 rightmost bits are the first label
+-- a range's size in three octets, and a SID/Label sub-TLV (RFC 8667, 2.3) of length 3, whose 20 rightmost bits are
+-- the first label
 pub record IsRange (octets : List ℕ) (range : Range) : Type 0 where
   pub long : length octets ≡ 8
   pub kind : octet octets 3 ≡ SID_LABEL

@@ -1,6 +1,7 @@
 //! Maximum SID depths of a node (RFC 8491, 2): read, written, and what they hold.
 
 ghost use Rattle.std.specs.Prelude.{◌≡◌, ◌↔◌, ℕ, ◌*◌, ◌%◌, ◌≤◌, ◌++◌, List, length, IfOk, OnErr, OnOk};
+ghost use Rattle.sr_wire.specs.Octets.{Continues};
 ghost use Rattle.sr_wire.specs.Fields.{sub_text};
 ghost use Rattle.sr_subtlv.specs.declared.msd.Msd.{Msd};
 ghost use Rattle.sr_subtlv.specs.Msd.{AreMsds, msds_sub, msds_value};
@@ -93,7 +94,7 @@ fn write_msds(msds: &[Msd], out: &mut Vec<u8>) -> Result<(), AllocError>
 fn push_msds(msds: &[Msd], out: &mut Vec<u8>) -> Result<(), AllocError>
     requires { 2 * length msds.now ≤ LONGEST_VALUE }
     ensures ok { OnOk result (out.new.items ≡ out.old.items ++ sub_text msds_sub msds.now) }
-    ensures err { OnErr result ((more : List ℕ) × (out.new.items ≡ out.old.items ++ more)) }
+    ensures err { OnErr result (Continues out.old.items out.new.items) }
 {
     out.extend_from_slice(&[NODE_MSD, (DEPTH * msds.len()) as u8])?;
     for msd in msds {

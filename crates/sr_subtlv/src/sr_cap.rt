@@ -1,6 +1,7 @@
 //! SR-Capabilities (RFC 8667, 3.1): read, written, and what they hold.
 
 ghost use Rattle.std.specs.Prelude.{◌≡◌, ◌↔◌, ℕ, ◌≤◌, ◌+◌, ◌*◌, ◌++◌, List, length, take, drop, All, IfOk, IfSome, IsTrue, MatchOption, OnErr, OnOk};
+ghost use Rattle.sr_wire.specs.Octets.{Continues};
 ghost use Rattle.sr_model.specs.declared.label.Range.{Range};
 ghost use Rattle.sr_wire.specs.Fields.{sub_text};
 ghost use Rattle.sr_subtlv.specs.declared.sr_cap.SrCap.{SrCap};
@@ -145,7 +146,7 @@ fn push_sr_cap(cap: &SrCap, out: &mut Vec<u8>) -> Result<(), AllocError>
     requires fits { FitsSrCap cap.now }
     requires few { 1 + 8 * length cap.now.ranges ≤ LONGEST_VALUE }
     ensures ok { OnOk result (out.new.items ≡ out.old.items ++ sub_text sr_cap_sub cap.now) }
-    ensures err { OnErr result ((more : List ℕ) × (out.new.items ≡ out.old.items ++ more)) }
+    ensures err { OnErr result (Continues out.old.items out.new.items) }
 {
     let ranges = cap.ranges.as_slice();
     out.extend_from_slice(&[SR_CAPABILITIES, (1 + RANGE * ranges.len()) as u8, cap.flags])?;

@@ -1,7 +1,7 @@
 use super::*;
 use sr_model::Range;
 use sr_seq::{Few, Seq};
-use sr_wire::{SubKind, add_all, add_first, all_length, first_length, write_all, write_first};
+use sr_wire::{SubKind, add_all, add_first, all_length, first_length, write_all_subs, write_first};
 use std::alloc::{AllocError, Global};
 use std::test::Fail;
 
@@ -210,7 +210,7 @@ fn fields_are_written(rt: HostRuntime) -> Result<(), Fail> {
     assert_eq!(rt; out.as_slice(), &text[..10]);
     assert_eq!(rt; first_length::<LinkIds, LinkIds>(&Some(ids)), 10);
     let mut out = Vec::new(alloc);
-    write_all::<LinkIds, LinkIds>(&[ids, ids], &mut out)?;
+    write_all_subs::<LinkIds, LinkIds>(&[ids, ids], &mut out)?;
     assert_eq!(rt; out.as_slice(), text.as_slice());
     assert_eq!(rt; all_length::<LinkIds, LinkIds>(&[ids, ids]), 20);
     Ok(())

@@ -41,7 +41,7 @@ octets_same xs ys e small = let P : List ℕ → Type 0 = λ zs. AreOctets zs in
 pub octets_drop : (n : ℕ) (xs : List ℕ) → AreOctets xs → AreOctets (drop n xs)
 octets_drop n xs small k = rw (get_or-drop n xs k 0) (small (n + k))
 
--- the first so many octets are octets
+-- the first m octets are octets
 pub octets_take : (n : ℕ) (xs : List ℕ) → AreOctets xs → AreOctets (take n xs)
 octets_take n xs small = octets_front (take n xs) (drop n xs) (octets_same xs (take n xs ++ drop n xs) (sym (take-append-drop n xs)) small)
 

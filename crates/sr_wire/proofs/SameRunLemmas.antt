@@ -69,7 +69,7 @@ same_piece_fault {X = X} layout code one rest at other check check' a b =
     let P : X → Type 0 = λ x. layout.fault x at check in
     one b.piece at other check check' (subst P same.0 a.fault) b.fault
 
--- what a run's first fault is, where the pieces before it have so many octets
+-- what a run's first fault is, where the pieces before it have that many octets
 abbrev Here : {X : Type 0} → Layout X → Check → List ℕ → ℕ → ℕ → Check → Type 0
 Here layout own rest long at check = (NoPiece layout rest × (at ≡ long) × (check ≡ own)) ⊎ ((inside : ℕ) × FaultyPiece layout rest inside check × (at ≡ long + inside))
 

@@ -4,7 +4,8 @@ use Rattle.std.specs.List.{flat_map}
 use Rattle.sr_wire.specs.Tlv.{Tlv, tlv_text}
 use Rattle.sr_wire.specs.Sub.{AddsAll, AddsFirst, AllSay, FirstSays}
 
--- a kind of sub-TLV: its type, what the octets of a value mean, the one spelling of a value, which values have one, and which have numbers that fit their octets
+-- a kind of sub-TLV: its type, what the octets of a value mean, the one spelling of a value, which values have one,
+-- and which have numbers that fit their octets
 pub record Sub (X : Type 0) : Type 1 where
   pub kind : ℕ
   pub means : List ℕ → X → Type 0
@@ -30,7 +31,8 @@ abbrev pub text_if_some : {X : Type 0} → (X → List ℕ) → Option X → Lis
 text_if_some text None = []
 text_if_some text (Some x) = text x
 
--- a field that sub-TLVs of one kind say: their type, what they say of the field, those in which it is written and their octets, what one more adds, which fields have a spelling, and which have numbers that fit their octets
+-- a field that sub-TLVs of one kind say: their type, what they say of the field, those in which it is written and
+-- their octets, what one more adds, which fields have a spelling, and which have numbers that fit their octets
 pub record Field (S : Type 0) : Type 1 where
   pub kind : ℕ
   pub says : List Tlv → S → Type 0

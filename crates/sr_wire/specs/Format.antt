@@ -28,7 +28,8 @@ pub record SaysRun {E X : Type 0} (layout : Layout E) (says : E → List X → T
 abbrev pub run_of : {E X : Type 0} → Layout E → Check → (E → List X → Type 0) → Format X
 run_of layout own says = record { says = SaysRun layout says; fault = RunFault layout own }
 
--- a kind of TLV: its type, the part of a PDU that a value is, what the octets of a value say as parts, the one spelling of a value, which values have one, and which have numbers that fit their octets
+-- a kind of TLV: its type, the part of a PDU that a value is, what the octets of a value say as parts, the one
+-- spelling of a value, which values have one, and which have numbers that fit their octets
 pub record Kind (P X : Type 0) : Type 1 where
   pub kind : ℕ
   pub part : X → P
@@ -69,7 +70,8 @@ ValueFault (r ∷ rs) tlv at check = MatchBool (tlv.kind == r.kind) (r.format.fa
 abbrev pub tlv_layout : {P : Type 0} → List (Row P) → Layout Tlv
 tlv_layout rows = record { is = λ tlv. Unit {0}; text = tlv_text; fault = λ tlv at check. (inside : ℕ) × ValueFault rows tlv inside check × (at ≡ 2 + inside) }
 
--- a part as it is written: the type and the value of its TLV, whether it has a spelling, and whether its numbers fit their octets
+-- a part as it is written: the type and the value of its TLV, whether it has a spelling, and whether its numbers fit
+-- their octets
 pub record Spelling : Type 1 where
   pub kind : ℕ
   pub value : List ℕ

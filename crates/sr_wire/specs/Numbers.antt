@@ -22,8 +22,8 @@ abbrev pub numbers_text : List ℕ → List ℕ
 numbers_text numbers = flat_map (big_bytes 4) numbers
 
 -- a field of `size` octets, from place `at` of `long` octets on, passes their end
-abbrev pub IsCut : ℕ → ℕ → ℕ → Type 0
-IsCut long at size = (at ≤ long) × (long < at + size)
+abbrev pub PassesEnd : ℕ → ℕ → ℕ → Type 0
+PassesEnd long at size = (at ≤ long) × (long < at + size)
 
 -- the octet with this bit where a fact holds
 abbrev pub bit_if : Bool → ℕ → ℕ

@@ -23,12 +23,12 @@ abbrev pub body_text : {P : Type 0} → (P → Spelling) → List P → List ℕ
 body_text spelling parts = flat_map (part_text spelling) parts
 
 -- the length of the value fits one octet
-abbrev pub IsShort : {P : Type 0} → (P → Spelling) → P → Type 0
-IsShort spelling part = length (spelling part).value ≤ LONGEST_VALUE
+abbrev pub HasShortValue : {P : Type 0} → (P → Spelling) → P → Type 0
+HasShortValue spelling part = length (spelling part).value ≤ LONGEST_VALUE
 
 -- the part at place k is the first that is too long
 pub record IsFirstTooLong {P : Type 0} (spelling : P → Spelling) (parts : List P) (k : ℕ) : Type 0 where
   pub part : P
   pub there : slice_get parts k ≡ Some part
   pub long : LONGEST_VALUE < length (spelling part).value
-  pub earlier : All (IsShort spelling) (take k parts)
+  pub earlier : All (HasShortValue spelling) (take k parts)

@@ -3,7 +3,8 @@ use Rattle.std.specs.Prelude.{◌≡◌, ◌≢◌, ℕ, ◌+◌, ◌⊎◌, Lis
 use Rattle.std.specs.List.{flat_map, AllByRecursion}
 use Rattle.sr_wire.specs.declared.fault.Check.{Check}
 
--- how a kind of pieces stands in octets: which pieces there are, the text of one, and the faults inside one, by their places in its text
+-- how a kind of pieces stands in octets: which pieces there are, the encoding of one, and the faults inside one, by
+-- their places in its encoding
 pub record Layout (X : Type 0) : Type 1 where
   pub is : X → Type 0
   pub text : X → List ℕ
@@ -28,7 +29,8 @@ pub record FaultyPiece {X : Type 0} (layout : Layout X) (octets : List ℕ) (at 
   pub text : octets ≡ layout.text piece ++ rest
   pub fault : layout.fault piece at check
 
--- the first fault of a run: pieces without fault, and then no whole piece, which fails the check `own`, or a piece with a fault inside
+-- the first fault of a run: pieces without fault, and then no whole piece, which fails the check `own`, or a piece
+-- with a fault inside
 pub record RunFault {X : Type 0} (layout : Layout X) (own : Check) (octets : List ℕ) (at : ℕ) (check : Check) : Type 0 where
   pub before : List X
   pub rest : List ℕ

@@ -1,4 +1,5 @@
--- Values behind their type and their length. The octets of TLVs are laid out so (ISO 10589, 9.9), and those of sub-TLVs (RFC 5305, 3).
+-- Values behind their type and their length. The octets of TLVs are laid out so (ISO 10589, 9.9), and those of
+-- sub-TLVs (RFC 5305, 3).
 use Rattle.std.specs.Prelude.{◌≡◌, ℕ, ◌+◌, ◌≤◌, List, ◌∷◌, ◌++◌, length, drop, slice_range}
 use Rattle.sr_wire.specs.declared.place.Frame.{Frame}
 use Rattle.sr_wire.specs.declared.place.Overrun.{Overrun}

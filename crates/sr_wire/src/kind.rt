@@ -1,6 +1,7 @@
 //! What each kind of TLV does: its module gives these calls, and no clause.
 
-ghost use Rattle.std.specs.Prelude.{◌≡◌, ◌↔◌, ◌≤◌, ◌++◌, List, length, IfErr, IsTrue, MatchResult, OnOk};
+ghost use Rattle.std.specs.Prelude.{◌≡◌, ◌↔◌, ◌≤◌, ◌++◌, List, length, IfErr, IsTrue, MatchResult, OnErr, OnOk};
+ghost use Rattle.sr_wire.specs.Octets.{Continues};
 ghost use Rattle.sr_wire.specs.Fault.{IfMalformed};
 ghost use Rattle.sr_wire.specs.Format.{Kind, kind_text};
 
@@ -26,11 +27,12 @@ pub trait TlvKind<P> {
         requires { kind.fits self.now }
         ensures { result ≡ length (kind.value self.now) };
 
-    /// Appends the TLV of the part.
+    /// Appends the TLV of the part, or a beginning of it before an error; what was there stands before it.
     fn write(&self, out: &mut Vec<u8>) -> Result<(), AllocError>
         requires fits { kind.fits self.now }
         requires short { length (kind.value self.now) ≤ LONGEST_VALUE }
-        ensures { OnOk result (out.new.items ≡ out.old.items ++ kind_text kind self.now) };
+        ensures ok { OnOk result (out.new.items ≡ out.old.items ++ kind_text kind self.now) }
+        ensures err { OnErr result (Continues out.old.items out.new.items) };
 
     /// Whether the fields fit their layout.
     fn fits(&self) -> bool

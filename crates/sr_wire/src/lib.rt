@@ -23,7 +23,7 @@ pub use place::{Frame, Overrun};
 pub use read_fault::ReadFault;
 pub use sub_fields::{
     add_all, add_first, all_fit, all_length, all_widths, first_fits, first_length, first_widths,
-    write_all, write_first,
+    write_all_subs, write_first,
 };
 pub use sub_kind::SubKind;
 pub use subs::{SubTlvs, read_subs};

@@ -1,6 +1,7 @@
 //! Lists of numbers of four octets each.
 
-ghost use Rattle.std.specs.Prelude.{◌≡◌, ◌-◌, ◌%◌, ◌<◌, ◌≤◌, ◌^◌, ◌++◌, length, drop, All, IfOk, OnOk};
+ghost use Rattle.std.specs.Prelude.{◌≡◌, ◌-◌, ◌%◌, ◌<◌, ◌≤◌, ◌^◌, ◌++◌, length, drop, All, IfOk, OnErr, OnOk};
+ghost use Rattle.sr_wire.specs.Octets.{Continues};
 ghost use Rattle.sr_wire.specs.Numbers.{AreNumbers, FitsFourOctets, numbers_text};
 
 use crate::octets::u32_at;
@@ -34,9 +35,10 @@ pub fn numbers_length(numbers: &[u32]) -> u128
     NUMBER as u128 * numbers.len() as u128
 }
 
-/// Appends the octets of the numbers.
+/// Appends the octets of the numbers, or those of some before an error.
 pub fn write_numbers(numbers: &[u32], out: &mut Vec<u8>) -> Result<(), AllocError>
-    ensures { OnOk result (out.new.items ≡ out.old.items ++ numbers_text numbers.now) }
+    ensures ok { OnOk result (out.new.items ≡ out.old.items ++ numbers_text numbers.now) }
+    ensures err { OnErr result (Continues out.old.items out.new.items) }
 {
     for &number in numbers {
         let mut octets = [0; 4];

@@ -50,7 +50,7 @@ impl ReadFault {
         })
     }
 
-    /// The same fault, where so many more octets stand in front.
+    /// The same fault, where that many more octets stand in front.
     pub fn behind(self, octets: usize) -> ReadFault
         requires { IfMalformed self (λ malformed. malformed.offset + octets < 2 ^ 64) }
         ensures { result ≡ fault_behind self octets }

@@ -47,6 +47,33 @@ pub const PREFIX_SID_FORM: u8 = 0x0c;
 /// (RFC 8667, 2.2.1).
 pub const ADJ_SID_FORM: u8 = 0x30;
 
+/// Flag R of a Prefix-SID: the prefix comes from another level or another protocol (RFC 8667, 2.1.1).
+pub const PREFIX_SID_READVERTISED: u8 = 0x80;
+
+/// Flag N of a Prefix-SID: it is the SID of a node (RFC 8667, 2.1.1).
+pub const PREFIX_SID_NODE: u8 = 0x40;
+
+/// Flag P of a Prefix-SID: the neighbour before the node doesn't pop the label (RFC 8667, 2.1.1).
+pub const PREFIX_SID_NO_POP: u8 = 0x20;
+
+/// Flag E of a Prefix-SID: the neighbour before the node puts the explicit null label in its place (RFC 8667, 2.1.1).
+pub const PREFIX_SID_EXPLICIT_NULL: u8 = 0x10;
+
+/// Flag F of an Adj-SID: the adjacency is for IPv6 (RFC 8667, 2.2.1).
+pub const ADJ_SID_IPV6: u8 = 0x80;
+
+/// Flag B of an Adj-SID: the adjacency may be protected (RFC 8667, 2.2.1).
+pub const ADJ_SID_BACKUP: u8 = 0x40;
+
+/// Flag S of an Adj-SID: the label stands for a set of adjacencies (RFC 8667, 2.2.1).
+pub const ADJ_SID_SET: u8 = 0x08;
+
+/// Flag of an LSP: its router is overloaded (ISO 10589, 9.9).
+pub const LSP_OVERLOAD: u8 = 0x04;
+
+/// The metric of a link that the computation leaves out (RFC 5305, 3).
+pub const MAXIMUM_METRIC: u32 = 16777215;
+
 /// Control octet of extended IP reachability: the prefix came down from a higher level (RFC 5305, 4).
 pub const PREFIX_DOWN: u8 = 0x80;
 

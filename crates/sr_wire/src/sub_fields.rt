@@ -1,6 +1,7 @@
 //! Fields that sub-TLVs say: what one more sub-TLV adds, and how the fields are written.
 
-ghost use Rattle.std.specs.Prelude.{◌≡◌, ◌↔◌, ◌+◌, ◌*◌, ◌≤◌, ◌^◌, ◌++◌, length, All, IfSome, IsTrue, OnOk};
+ghost use Rattle.std.specs.Prelude.{◌≡◌, ◌↔◌, ◌+◌, ◌*◌, ◌≤◌, ◌^◌, ◌++◌, length, All, IfSome, IsTrue, OnErr, OnOk};
+ghost use Rattle.sr_wire.specs.Octets.{Continues};
 ghost use Rattle.std.specs.List.{flat_map};
 ghost use Rattle.sr_wire.specs.Fields.{sub_text, text_if_some};
 ghost use Rattle.sr_wire.specs.Sub.{AddsAll, AddsFirst};
@@ -67,11 +68,12 @@ pub fn all_length<X, K: SubKind<X>>(field: &[X]) -> u128
     octets
 }
 
-/// Appends the sub-TLV of the field, where it holds a value.
+/// Appends the sub-TLV of the field, where it holds a value; an error leaves the octets as they were.
 pub fn write_first<X, K: SubKind<X>>(field: &Option<X>, out: &mut Vec<u8>) -> Result<(), AllocError>
     requires fits { IfSome field.now K.sub.fits }
     requires short { length (text_if_some (sub_text K.sub) field.now) ≤ LONGEST_VALUE }
-    ensures { OnOk result (out.new.items ≡ out.old.items ++ text_if_some (sub_text K.sub) field.now) }
+    ensures ok { OnOk result (out.new.items ≡ out.old.items ++ text_if_some (sub_text K.sub) field.now) }
+    ensures err { OnErr result (out.new.items ≡ out.old.items) }
 {
     match field {
         Some(x) => K::write(x, out),
@@ -79,11 +81,12 @@ pub fn write_first<X, K: SubKind<X>>(field: &Option<X>, out: &mut Vec<u8>) -> Re
     }
 }
 
-/// Appends the sub-TLVs of the values.
-pub fn write_all<X, K: SubKind<X>>(field: &[X], out: &mut Vec<u8>) -> Result<(), AllocError>
+/// Appends the sub-TLVs of the values, or some of them before an error.
+pub fn write_all_subs<X, K: SubKind<X>>(field: &[X], out: &mut Vec<u8>) -> Result<(), AllocError>
     requires most { K.most ≤ LONGEST_VALUE }
     requires fit { All K.sub.fits field.now }
-    ensures { OnOk result (out.new.items ≡ out.old.items ++ flat_map (sub_text K.sub) field.now) }
+    ensures ok { OnOk result (out.new.items ≡ out.old.items ++ flat_map (sub_text K.sub) field.now) }
+    ensures err { OnErr result (Continues out.old.items out.new.items) }
 {
     for x in field {
         // Its clause says that the value is short enough to be written.

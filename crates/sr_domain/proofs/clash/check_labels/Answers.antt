@@ -16,5 +16,5 @@ pub returns-clause-fault : goal.returns-clause-fault
 returns-clause-fault c =
     let its : c.args.labels.now ≡ all_labels c.args.facts.now = c.requires.labels ∙ ap (map (labels_of c.args.facts.now)) c.requires.nodes in
     let theirs : c.deref.result.now ≡ found_adj_labels c.args.facts.now = c.deref.ensures.value ∙ c.in_ok-adj.ensures.labels ∙ ap (filter_map (adj_label_by c.args.nodes.now)) c.requires.links ∙ ap (λ (n : List ℕ). filter_map (adj_label_by n) (links_of c.args.facts.now)) c.requires.nodes in
-    clash-some c.args.facts.now c.args.nodes.now c.args.labels.now c.deref.result.now c.requires.nodes its theirs c.requires.kept c.in-Some.rule c.named.result
-    (rw c.in-Some.is at c.in_ok-broken.ensures.first) c.named.ensures
+    clash-some c.args.facts.now c.args.nodes.now c.args.labels.now c.deref.result.now c.requires.nodes its theirs c.requires.kept c.in-Some.rule c.with_system_ids.result
+    (rw c.in-Some.is at c.in_ok-broken.ensures.first) c.with_system_ids.ensures

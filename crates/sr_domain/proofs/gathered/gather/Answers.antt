@@ -4,7 +4,7 @@ use Rattle.std.specs.List.{filter_map}
 use Rattle.sr_domain.specs.declared.links.FoundLink.{FoundLink}
 use Rattle.sr_domain.specs.Announced.{two_way, two_way_of}
 use Rattle.sr_domain.specs.Nodes.{nodes_of}
-use Rattle.sr_domain.specs.Links.{links_of, link_by, HasEnds}
+use Rattle.sr_domain.specs.Links.{links_of, link_by, JoinsNodes}
 use Rattle.sr_domain.specs.Steps.{IsBelowMaximum}
 use Rattle.sr_domain.proofs.GatheredLemmas.{links-ends, links-below}
 use Rattle.sr_domain.proofs.gathered.gather.Goals as goal
@@ -20,6 +20,6 @@ returns c =
       nodes = nodes;
       ascending = c.in_ok-nodes.ensures.ascending;
       links = links;
-      ends = subst (λ (ns : List ℕ). All (HasEnds ns) c.in_ok-links.links.items) (sym nodes) (subst (λ (ls : List FoundLink). All (HasEnds (nodes_of c.args.facts.now)) ls) (sym links) (links-ends c.args.facts.now c.requires));
+      ends = subst (λ (ns : List ℕ). All (JoinsNodes ns) c.in_ok-links.links.items) (sym nodes) (subst (λ (ls : List FoundLink). All (JoinsNodes (nodes_of c.args.facts.now)) ls) (sym links) (links-ends c.args.facts.now c.requires));
       metrics = subst (λ (ls : List FoundLink). All IsBelowMaximum ls) (sym links) (links-below c.args.facts.now c.requires);
     }

@@ -4,7 +4,7 @@ use Rattle.std.specs.List.Sorted.{IsStrictlyIncreasing}
 use Rattle.std.proofs.lemmas.List.Filters.{dedup_is}
 use Rattle.sr_domain.specs.declared.names.PairName.{PairName}
 use Rattle.sr_domain.specs.declared.risks.RiskNote.{RiskNote}
-use Rattle.sr_domain.specs.GroupTables.{AreApart, ascending, groups_said, is_of}
+use Rattle.sr_domain.specs.GroupTables.{NamesAscend, ascending, groups_said, is_of}
 use Rattle.sr_domain.proofs.GroupsLemmas.{groups-ascend, ascending-is}
 use Rattle.sr_domain.proofs.TakenLemmas.{names-apart}
 use Rattle.sr_domain.proofs.groups.groups_of.Goals as goal
@@ -24,4 +24,4 @@ pub returns-clause-ascending : goal.returns-clause-ascending
 returns-clause-ascending c = subst (λ (l : List ℕ). IsStrictlyIncreasing l) (sym (made c)) (groups-ascend c.args.table.now c.args.pair.now)
 
 pub groups_said-requires-clause-apart : goal.groups_said-requires-clause-apart
-groups_said-requires-clause-apart c = subst AreApart (sym (c.names_with-names.ensures ∙ ap (filter (is_of c.args.pair.now)) c.deref.ensures.value)) (names-apart c.args.pair.now c.args.table.now.names.items c.requires.names)
+groups_said-requires-clause-apart c = subst NamesAscend (sym (c.names_with-names.ensures ∙ ap (filter (is_of c.args.pair.now)) c.deref.ensures.value)) (names-apart c.args.pair.now c.args.table.now.names.items c.requires.names)

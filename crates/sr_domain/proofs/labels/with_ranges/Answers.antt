@@ -21,7 +21,7 @@ loop-ranges-preserved c =
     (c.index-nodes-len.is ∙ ap (λ k. get_or c.args.nodes.now k c.index-nodes-len.result) n)
     (c.in-Ok.ensures.value ∙ c.into_vec.ensures)
     c.in-Ok.ensures.good
-    (rw c.labels_of.ensures at c.in-Ok-push.ensures.items)
+    (rw c.announced_labels.ensures at c.in-Ok-push.ensures.items)
 
 pub returns-clause-kept : goal.returns-clause-kept
 returns-clause-kept c =

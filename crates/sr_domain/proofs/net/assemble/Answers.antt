@@ -6,10 +6,10 @@ use Rattle.sr_domain.proofs.net.assemble.Goals as goal
 
 pub new-requires : goal.new-requires
 new-requires c =
-    rw c.in_ok-adj.ensures (accepted c.args.facts.now c.args.links.now c.args.graph c.requires.graph c.requires.same c.requires.kept c.args.labels.items c.in_ok-announced.announced.items c.requires.labels c.requires.ranges
-    (subst (λ (l : List Announcement). AreKeysOf l c.in_ok-announced.announced.items) c.requires.two_way c.in_ok-announced.ensures) c.requires.depth)
+    rw c.in_ok-adj.ensures (accepted c.args.facts.now c.args.links.now c.args.graph c.requires.parts.graph c.requires.parts.same c.requires.parts.kept c.args.labels.items c.in_ok-announced.announced.items c.requires.parts.labels c.requires.parts.ranges
+    (subst (λ (l : List Announcement). AreKeysOf l c.in_ok-announced.announced.items) c.requires.two_way c.in_ok-announced.ensures) c.requires.parts.depth)
 
 pub returns : goal.returns
 returns c =
-    rw (c.new.ensures, c.in_ok-adj.ensures) (net-of c.args.facts.now c.args.links.now c.args.graph c.requires.graph c.requires.same c.requires.kept c.args.labels.items c.in_ok-announced.announced.items c.requires.labels c.requires.ranges
-    (subst (λ (l : List Announcement). AreKeysOf l c.in_ok-announced.announced.items) c.requires.two_way c.in_ok-announced.ensures) c.requires.depth)
+    rw (c.new.ensures, c.in_ok-adj.ensures) (net-of c.args.facts.now c.args.links.now c.args.graph c.requires.parts.graph c.requires.parts.same c.requires.parts.kept c.args.labels.items c.in_ok-announced.announced.items c.requires.parts.labels c.requires.parts.ranges
+    (subst (λ (l : List Announcement). AreKeysOf l c.in_ok-announced.announced.items) c.requires.two_way c.in_ok-announced.ensures) c.requires.parts.depth)

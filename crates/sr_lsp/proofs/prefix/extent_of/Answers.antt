@@ -2,8 +2,8 @@ use Rattle.std.proofs.Common.{◌+◌, refl, arith}
 use Rattle.sr_lsp.proofs.PrefixLaws.{bare_extent, full_extent, no_prefix, no_sub_tlvs}
 use Rattle.sr_lsp.proofs.prefix.extent_of.Goals as goal
 
-pub returns-then-value-at-lt-FIXED-clause-none : goal.returns-then-value-at-lt-FIXED-clause-none
-returns-then-value-at-lt-FIXED-clause-none c = no_prefix c.args.value.now c.args.at _ refl (omega arith)
+pub returns-then-value-at-lt-OCTETS_BEFORE_PREFIX-clause-none : goal.returns-then-value-at-lt-OCTETS_BEFORE_PREFIX-clause-none
+returns-then-value-at-lt-OCTETS_BEFORE_PREFIX-clause-none c = no_prefix c.args.value.now c.args.at _ refl (omega arith)
 
 pub returns-then-value-prefix_end-clause-none : goal.returns-then-value-prefix_end-clause-none
 returns-then-value-prefix_end-clause-none c = no_prefix c.args.value.now c.args.at (c.args.at + 5 + c.octets_of.result) (omega arith) c.if-value-prefix_end.true

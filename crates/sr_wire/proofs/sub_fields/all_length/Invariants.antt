@@ -1,4 +1,4 @@
--- so many octets have the sub-TLVs of the values so far
+-- the sub-TLVs of the values so far have that many octets
 use Rattle.std.proofs.Common.{◌≡◌, ◌≤◌, ◌*◌, length, take}
 use Rattle.std.specs.List.{flat_map}
 use Rattle.sr_wire.specs.Fields.{sub_text}
