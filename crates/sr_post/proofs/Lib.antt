@@ -4,3 +4,4 @@ pub mod WayLemmas
 pub mod OrderLemmas
 pub mod MarkLemmas
 pub mod KeptLemmas
+pub mod KeptHopLemmas

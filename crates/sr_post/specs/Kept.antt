@@ -1,5 +1,6 @@
--- The nodes that keep their distance in a failure, and how they are told.
-use Rattle.std.specs.Prelude.{◌≡◌, ℕ, ◌<◌, ◌⊎◌, Bool, false, List, [], length, All, Contains, slice_index}
+-- The nodes that keep their distance in a failure, the next hops that still lead to them, and how both are told.
+use Rattle.std.specs.Prelude.{◌≡◌, ℕ, ◌<◌, ◌≤◌, ◌⊎◌, Bool, false, List, [], length, Option, Some, None, All, Contains, slice_index, slice_index_or}
+use Rattle.sr_model.specs.declared.link.LinkNo.{LinkNo}
 use Rattle.sr_model.specs.declared.link.NodeNo.{NodeNo}
 use Rattle.sr_model.specs.declared.link.TheConstants.{FAR}
 use Rattle.sr_model.specs.Graph.{Graph, head, has}
@@ -21,3 +22,22 @@ pub record AreKeptBelow (g : Graph) (x : List Bool) (s : ℕ) (row cells : List 
   pub long : length cells ≡ n
   pub each : (v : ℕ) → v < n → (IsKept g x s v × (slice_index cells v ≡ slice_index row v)) ⊎ ((IsKept g x s v → ⊥) × (slice_index cells v ≡ FAR) × Contains lost (record { 0 = v }))
   pub nodes : All (λ (k : NodeNo). k.0 < n) lost
+
+-- link l is the least that leads from s towards v in spite of x
+pub record IsKeptHop (g : Graph) (x : List Bool) (s v l : ℕ) : Type 0 where
+  pub leads : LeadsTo g x s v l
+  pub least : (k : ℕ) → LeadsTo g x s v k → l ≤ k
+
+-- the least link that leads from s towards v in spite of x, or none where no link does
+abbrev pub KeepsHop : Graph → List Bool → ℕ → ℕ → Option LinkNo → Type 0
+KeepsHop g x s v None = (l : ℕ) → LeadsTo g x s v l → ⊥
+KeepsHop g x s v (Some l) = IsKeptHop g x s v l.0
+
+-- the hop kept towards node v, as the list has it
+abbrev pub kept_hop_at : List (Option LinkNo) → ℕ → Option LinkNo
+kept_hop_at hops v = slice_index_or hops v None
+
+-- the list has for each node below n the least link that leads there from s in spite of x, if one does
+pub record AreKeptHops (g : Graph) (x : List Bool) (s : ℕ) (hops : List (Option LinkNo)) (n : ℕ) : Type 0 where
+  pub long : length hops ≡ n
+  pub each : (v : ℕ) → v < n → KeepsHop g x s v (kept_hop_at hops v)

@@ -21,6 +21,7 @@ pub record AreMarks (n : Net) (case : Case) (x : List Bool) (marks : List Bool) 
   pub long : length marks ≡ node_count n.graph
   pub each : (v : ℕ) → v < node_count n.graph → IsTrue (has marks v) ↔ IsOnRepairWay n case x v
 
--- the tests tell the nodes on the shortest walks without the failed links of the case from the source to the affected destinations
+-- the tests tell the nodes on the shortest walks without the failed links of the case from the source to the affected
+-- destinations
 pub record AreWalks (n : Net) (case : Case) (tests : List Bool) : Type 0 where
   pub marks : (x : List Bool) → IsFailedSet n.graph case x → AreMarks n case x tests

@@ -9,19 +9,21 @@ use crate::left::Post;
 use crate::spaces::spaces_of;
 use sr_graph::LinkSet;
 use sr_labels::Net;
-use sr_model::{Case, NodeNo};
+use sr_model::{Case, LinkNo, NodeNo};
+use sr_seq::Seq;
 use sr_spf::{Steps, Trees, row_after};
 use std::alloc::{AllocError, Global};
 use std::marker::Model;
 use std::sync::ledger::Ledger;
 
 /// What is known of a case before its search: the failed links, the distances from the source that stay (`FAR` for the
-/// others), and the nodes whose distance doesn't.
+/// others), the nodes whose distance doesn't, and the hop kept towards each node.
 #[derive(Debug, Drop)]
 struct Begun {
     failed: LinkSet,
     cells: Vec<u64>,
     lost: Vec<NodeNo>,
+    hops: Vec<Option<LinkNo>>,
 }
 
 impl Model for Begun {
@@ -29,7 +31,7 @@ impl Model for Begun {
 
     ghost Value = { Beginning };
 
-    ghost view = { λ a. record { failed = a.failed; cells = a.cells.items; lost = a.lost.items } };
+    ghost view = { λ a. record { failed = a.failed; cells = a.cells.items; lost = a.lost.items; hops = a.hops.items } };
 }
 
 impl Begun {
@@ -52,9 +54,10 @@ impl Begun {
             failed,
             cells,
             lost,
+            hops,
         } = self;
         let row = row_after(alloc, graph, &failed, source, cells, &lost, steps)?;
-        Ok(Post::new(failed, row))
+        Ok(Post::new(failed, row, Seq::new(hops)))
     }
 }
 
@@ -66,7 +69,7 @@ fn begin(alloc: Global, net: &Net, trees: &Trees, case: Case) -> Result<Begun, A
 {
     let graph = net.graph();
     let failed = graph.failed(alloc, case)?;
-    let Known { cells, lost } = known_distances(
+    let Known { cells, lost, hops } = known_distances(
         alloc,
         &spaces_of(graph, trees, &failed, case),
         trees,
@@ -76,6 +79,7 @@ fn begin(alloc: Global, net: &Net, trees: &Trees, case: Case) -> Result<Begun, A
         failed,
         cells,
         lost,
+        hops,
     })
 }
 

@@ -1,10 +1,10 @@
-//! The distances from the source that a failure leaves as they were.
-ghost use Rattle.std.specs.Prelude.{◌≡◌, ℕ, ◌<◌, ◌↔◌, [], IsTrue, IfOk};
-ghost use Rattle.sr_model.specs.Graph.{node_count, link_count};
+//! What a failure leaves as it was: distances from the source, and next hops.
+ghost use Rattle.std.specs.Prelude.{◌≡◌, ℕ, ◌<◌, ◌↔◌, List, Bool, [], IsTrue, IfOk};
+ghost use Rattle.sr_model.specs.Graph.{Graph as Topology, node_count, link_count};
 ghost use Rattle.sr_model.specs.Walk.{IsNextHop};
 ghost use Rattle.sr_spf.specs.Begun.{IsBegun};
 ghost use Rattle.sr_spf.specs.Trees.{AreTrees};
-ghost use Rattle.sr_post.specs.Kept.{LeadsTo, IsKept};
+ghost use Rattle.sr_post.specs.Kept.{LeadsTo, IsKept, KeepsHop, AreKeptHops};
 
 use sr_model::{FAR, LinkNo, NodeNo};
 use sr_spaces::Spaces;
@@ -23,33 +23,48 @@ fn leads_to(spaces: &Spaces, hop: LinkNo, v: NodeNo) -> bool
     spaces.in_p(spaces.graph().edge(hop).to, v)
 }
 
-/// Whether the node is the source, or some next hop leads to it in spite of the failed links: then it keeps its distance
-/// from the source.
-fn is_kept(spaces: &Spaces, trees: &Trees, source: NodeNo, v: NodeNo) -> bool
+/// The least link that leads from the source to the node in spite of the failed links, if one does. Next hops ascend, so
+/// it is the first of them that does.
+fn kept_hop(spaces: &Spaces, trees: &Trees, source: NodeNo, v: NodeNo) -> Option<LinkNo>
     requires trees { AreTrees spaces.now.graph trees.now }
     requires source { source.0 < node_count spaces.now.graph }
     requires v { v.0 < node_count spaces.now.graph }
-    ensures { IsTrue result ↔ IsKept spaces.now.graph spaces.now.failed source.0 v.0 }
+    ensures { KeepsHop spaces.now.graph spaces.now.failed source.0 v.0 result }
+{
+    for hop in trees.next_hops(source, v) {
+        if leads_to(spaces, *hop, v) {
+            return Some(*hop);
+        }
+    }
+    None
+}
+
+/// Whether the node keeps its distance from the source: it is the source, or has a hop that is kept.
+fn is_kept(hop: Option<LinkNo>, source: NodeNo, v: NodeNo) -> bool
+    ensures { (g : Topology) (x : List Bool) → KeepsHop g x source.0 v.0 hop → IsTrue result ↔ IsKept g x source.0 v.0 }
 {
     if v.0 == source.0 {
         return true;
     }
-    for hop in trees.next_hops(source, v) {
-        if leads_to(spaces, *hop, v) {
-            return true;
-        }
+    match hop {
+        Some(_) => true,
+        None => false,
     }
-    false
 }
 
-/// The distances from the source that are known without a search: `FAR` for the nodes that are lost, which are listed.
+/// What is known from the source without a search.
 #[derive(Drop)]
 pub(crate) struct Known {
+    /// The distances that stay: those of the source itself and of the nodes to which some link leads in spite of the
+    /// failed ones. `FAR` for the others, which are lost.
     pub(crate) cells: Vec<u64>,
+    /// The nodes that are lost.
     pub(crate) lost: Vec<NodeNo>,
+    /// For each node the least link that leads there in spite of the failed ones, if one does.
+    pub(crate) hops: Vec<Option<LinkNo>>,
 }
 
-/// The distances from the source that stay.
+/// The distances from the source that stay, and the links that lead to the nodes that keep theirs.
 pub(crate) fn known_distances(
     alloc: Global,
     spaces: &Spaces,
@@ -58,19 +73,25 @@ pub(crate) fn known_distances(
 ) -> Result<Known, AllocError>
     requires trees { AreTrees spaces.now.graph trees.now }
     requires source { source.0 < node_count spaces.now.graph }
-    ensures { IfOk result (λ known. IsBegun spaces.now.graph spaces.now.failed source.0 known.cells.items known.lost.items) }
+    ensures begun { IfOk result (λ known. IsBegun spaces.now.graph spaces.now.failed source.0 known.cells.items
+        known.lost.items) }
+    ensures hops { IfOk result (λ known. AreKeptHops spaces.now.graph spaces.now.failed source.0 known.hops.items
+        (node_count spaces.now.graph)) }
 {
     let count = spaces.graph().node_count();
     let row = spaces.row(source);
     let mut cells = Vec::with_capacity(alloc, count as usize)?;
     let mut lost = Vec::with_capacity(alloc, count as usize)?;
+    let mut hops = Vec::with_capacity(alloc, count as usize)?;
     for v in 0..count as u16 {
-        if !is_kept(spaces, trees, source, NodeNo(v)) {
+        let hop = kept_hop(spaces, trees, source, NodeNo(v));
+        hops.push(hop)?;
+        if !is_kept(hop, source, NodeNo(v)) {
             cells.push(FAR)?;
             lost.push(NodeNo(v))?;
             continue;
         }
         cells.push(row[v as usize])?;
     }
-    Ok(Known { cells, lost })
+    Ok(Known { cells, lost, hops })
 }

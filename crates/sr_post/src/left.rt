@@ -5,19 +5,23 @@ ghost use Rattle.sr_model.specs.Label.{Net as Labelled};
 ghost use Rattle.sr_model.specs.Walk.{Distance};
 ghost use Rattle.sr_model.specs.Case.{IsFailedSet, source_of};
 ghost use Rattle.sr_spf.specs.Trees.{distance_of};
+ghost use Rattle.sr_post.specs.Kept.{KeepsHop, kept_hop_at};
 ghost use Rattle.sr_post.specs.Post.{IsPost};
 
 use sr_graph::LinkSet;
-use sr_model::{FAR, NodeNo};
+use sr_model::{FAR, LinkNo, NodeNo};
 use sr_seq::Seq;
 use std::marker::Model;
 
-/// What is left after the failure of a case: the failed links, and the distances from the source without them.
+/// What is left after the failure of a case: the failed links, the distances from the source without them, and the next
+/// hops that still lead to a node.
 #[derive(Debug, Drop)]
 pub struct Post {
     failed: LinkSet,
     /// The distance from the source to each node, by number; `FAR` where there is no walk.
     row: Seq<u64>,
+    /// For each node, by number, the least link that leads there from the source in spite of the failed ones, if one does.
+    hops: Seq<Option<LinkNo>>,
 }
 
 impl Model for Post {
@@ -25,15 +29,15 @@ impl Model for Post {
 
     ghost Value = { Remains };
 
-    ghost view = { λ a. record { failed = a.failed; cells = a.row } };
+    ghost view = { λ a. record { failed = a.failed; cells = a.row; hops = a.hops } };
 }
 
 impl Post {
     /// What is left, of these parts.
-    pub(crate) fn new(failed: LinkSet, row: Seq<u64>) -> Post
-        ensures { result ≡ record { failed = failed; cells = row } }
+    pub(crate) fn new(failed: LinkSet, row: Seq<u64>, hops: Seq<Option<LinkNo>>) -> Post
+        ensures { result ≡ record { failed = failed; cells = row; hops = hops } }
     {
-        Post { failed, row }
+        Post { failed, row, hops }
     }
 
     /// The failed links.
@@ -58,5 +62,17 @@ impl Post {
     {
         let cell = self.row.as_slice()[v.0 as usize];
         if cell < FAR { Some(cell) } else { None }
+    }
+
+    /// The least link that leads from the source to the node in spite of the failed links: it hasn't failed, it begins a
+    /// shortest walk there in the whole graph, and no shortest walk from its end to the node holds a failed link. None
+    /// exactly where no link does.
+    pub fn hop(&self, v: NodeNo) -> Option<LinkNo>
+        requires { v.0 < length self.now.hops }
+        ensures hop { result ≡ kept_hop_at self.now.hops v.0 }
+        ensures kept { (n : Labelled) (case : Failure) → IsPost n case self.now
+            → (x : List Bool) → IsFailedSet n.graph case x → KeepsHop n.graph x (source_of n.graph case) v.0 result }
+    {
+        self.hops.as_slice()[v.0 as usize]
     }
 }

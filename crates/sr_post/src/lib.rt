@@ -1,5 +1,6 @@
-//! What a failure leaves: which destinations it affects, the distances from the source without the failed links, and,
-//! where they are asked for, the nodes on the shortest walks to the affected destinations.
+//! What a failure leaves: which destinations it affects, the distances from the source without the failed links, the next
+//! hops that still lead to a node, and, where they are asked for, the nodes on the shortest walks to the affected
+//! destinations.
 #![tactic(auto)]
 
 mod destinations;

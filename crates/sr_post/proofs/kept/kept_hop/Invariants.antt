@@ -1,7 +1,7 @@
 use Rattle.std.proofs.Common.{ℕ, ◌<◌}
 use Rattle.sr_graph.specs.Members.{number_at}
 use Rattle.sr_post.specs.Kept.{LeadsTo}
-use Rattle.sr_post.proofs.kept.is_kept.Given as goal
+use Rattle.sr_post.proofs.kept.kept_hop.Given as goal
 
 -- none of the next hops so far leads on
 abbrev pub invariant-loop-hop : goal.invariant-loop-hop
