@@ -1,6 +1,6 @@
--- How the answers of a case are gathered, and what a search by destination finds in them.
+-- How the answers of a case are collected, and what a search by destination finds in them.
 use Rattle.std.proofs.Common.{◌≡◌, ◌≢◌, ℕ, ◌+◌, ◌<◌, ◌≤◌, ⊎_elim, ◌-◌, Bool, true, false, List, [], ◌∷◌, ◌++◌, length, take, drop, slice_range, get_or, refl, arith, ap, sym, ◌∙◌, subst, Option, Some, None, Ok, Err}
-use Rattle.std.specs.Prelude.{is_some}
+use Rattle.std.specs.Prelude.{is_some, All}
 use Rattle.std.specs.List.Sorted.{IsBinarySearchResult, IsNonDecreasingBy}
 use Rattle.std.specs.Ordering.{nat_cmp, ordering_index}
 use Rattle.std.proofs.lemmas.Cmp.{ranked}
@@ -8,7 +8,7 @@ use Rattle.std.proofs.lemmas.List.Sorted.{IsNonDecreasingBy-from_default}
 use Rattle.std.proofs.lemmas.Bool.{cases_eq, cases_lt}
 use Rattle.std.proofs.lemmas.Bool.Decides.{nat_tests}
 use Rattle.std.proofs.lemmas.List.{length-append, length-drop, length-map, get_or-map, get_or_push, get_or_append_left, get_or_past, map-append, drop-append-le, drop_all, take-append-le, take_all}
-use Rattle.std.proofs.lemmas.List.Elements.{All-head, All-tail, All-push, All-weaker}
+use Rattle.std.proofs.lemmas.List.Elements.{All-get_or, All-head, All-tail, All-push, All-weaker}
 use Rattle.sr_model.specs.declared.case.Case.{Case}
 use Rattle.sr_model.specs.declared.link.NodeNo.{NodeNo}
 use Rattle.sr_model.specs.declared.repair.Answer.{Answer}
@@ -19,10 +19,10 @@ use Rattle.sr_model.specs.Label.{Net, Labels, labels_at, nameless}
 use Rattle.sr_model.specs.Case.{IsFailedSet, IsAffected, source_of}
 use Rattle.sr_model.specs.Repair.{IsAnswer, IsCaseAnswer}
 use Rattle.sr_encode.specs.declared.answers.NodeAnswer.{NodeAnswer}
-use Rattle.sr_encode.specs.declared.kept.KeptAnswer.{KeptAnswer}
-use Rattle.sr_encode.specs.declared.kept.KeptAnswer.TheVariants.{Least as KeptLeast, NoPath as KeptNoPath, NoList as KeptNoList, TooDeep as KeptTooDeep}
+use Rattle.sr_encode.specs.declared.kept.Outcome.{Outcome}
+use Rattle.sr_encode.specs.declared.kept.Outcome.TheVariants.{Least as ListOutcome, NoPath as NoPathOutcome, NoList as NoListOutcome, TooDeep as DeepOutcome}
 use Rattle.sr_encode.specs.declared.kept.Kept.{Kept}
-use Rattle.sr_encode.specs.Kept.{answer_from, entry_from, entries, IsWithin, AreWithin, IsKeptAnswer}
+use Rattle.sr_encode.specs.Kept.{outcome_at, answer_from, entry_from, entries, HasSegments, AreKeptWithin}
 use Rattle.sr_encode.specs.Serve.{AreNodes}
 use Rattle.sr_post.specs.Nodes.{listed_at, AreAffected}
 use Rattle.sr_encode.specs.Answered.{entry_at, destination_at, answer_at, AscendByNode, AreAnswers, AreAnswered}
@@ -87,26 +87,26 @@ answers-over n case x wanted list long set r a = record {
 
 -- what stands for an answer past the end of those that are kept
 abbrev pub no_kept : Kept
-no_kept = record { destination = record { 0 = 0 }; answer = KeptNoPath }
+no_kept = record { destination = record { 0 = 0 }; outcome = 0; cost = 0 }
 
 -- the answers that are kept, read by place
-pub kept-at : (segments : List Segment) (kept : List Kept) (i : ℕ) → i < length kept → entry_at (entries segments kept) i ≡ entry_from segments (get_or kept i no_kept)
-kept-at segments kept i lt = get_or-map (entry_from segments) kept i no_kept no_entry lt
+pub kept-at : (segments : List Segment) (outcomes : List Outcome) (kept : List Kept) (i : ℕ) → i < length kept → entry_at (entries segments outcomes kept) i ≡ entry_from segments outcomes (get_or kept i no_kept)
+kept-at segments outcomes kept i lt = get_or-map (entry_from segments outcomes) kept i no_kept no_entry lt
 
 -- what a search by destination finds
-module _ (segments : List Segment) (kept : List Kept) (up : AscendByNode (entries segments kept)) (d : ℕ) where
+module _ (segments : List Segment) (outcomes : List Outcome) (kept : List Kept) (up : AscendByNode (entries segments outcomes kept)) (d : ℕ) where
   abbrev node : ℕ → ℕ
   node i = (get_or kept i no_kept).destination.0
 
-  is-node : (i : ℕ) → i < length kept → destination_at (entries segments kept) i ≡ node i
-  is-node i lt = ap (λ (e : NodeAnswer). e.destination.0) (kept-at segments kept i lt)
+  is-node : (i : ℕ) → i < length kept → destination_at (entries segments outcomes kept) i ≡ node i
+  is-node i lt = ap (λ (e : NodeAnswer). e.destination.0) (kept-at segments outcomes kept i lt)
 
   rises : (i j : ℕ) → i ≤ j → j < length kept → node i ≤ node j
   rises i j le within =
       ⊎_elim
       (λ (same : i ≡ j). let P : ℕ → Type 0 = λ m. node m ≤ node j in subst P (sym same) (omega arith))
       (λ (ne : i ≢ j).
-      let lt : destination_at (entries segments kept) i < destination_at (entries segments kept) j = up i j (omega arith) (omega (arith, within, length-map kept (entry_from segments))) in
+      let lt : destination_at (entries segments outcomes kept) i < destination_at (entries segments outcomes kept) j = up i j (omega arith) (omega (arith, within, length-map kept (entry_from segments outcomes))) in
       omega (arith, lt, is-node i (omega arith), is-node j within))
       (cases_eq i j)
 
@@ -115,12 +115,12 @@ module _ (segments : List Segment) (kept : List Kept) (up : AscendByNode (entrie
       let le' : node i ≤ node j = rises i j le within in
       grind (arith, nat_tests))
 
-  pub found-at : (at : ℕ) → at < length kept → IsBinarySearchResult (λ (x : Kept). nat_cmp x.destination.0 d) kept (Ok at) → destination_at (entries segments kept) at ≡ d
+  pub found-at : (at : ℕ) → at < length kept → IsBinarySearchResult (λ (x : Kept). nat_cmp x.destination.0 d) kept (Ok at) → destination_at (entries segments outcomes kept) at ≡ d
   found-at at within is = is-node at within ∙ ranked _ d _ (sym (is no_kept))
 
-  pub missed-at : (at : ℕ) → IsBinarySearchResult (λ (x : Kept). nat_cmp x.destination.0 d) kept (Err at) → (i : ℕ) → i < length (entries segments kept) → destination_at (entries segments kept) i ≢ d
+  pub missed-at : (at : ℕ) → IsBinarySearchResult (λ (x : Kept). nat_cmp x.destination.0 d) kept (Err at) → (i : ℕ) → i < length (entries segments outcomes kept) → destination_at (entries segments outcomes kept) i ≢ d
   missed-at at is i inside same =
-      let within : i < length kept = omega (arith, inside, length-map kept (entry_from segments)) in
+      let within : i < length kept = omega (arith, inside, length-map kept (entry_from segments outcomes)) in
       let here : node i ≡ d = sym (is-node i within) ∙ same in
       let parted = is comparisons_rise in
       ⊎_elim
@@ -129,7 +129,7 @@ module _ (segments : List Segment) (kept : List Kept) (up : AscendByNode (entrie
       (cases_lt i at)
 
 -- the segments of a list stay where others come behind
-range-kept : (xs ys : List Segment) (a b : ℕ) → a ≤ b → b ≤ length xs → slice_range (xs ++ ys) a b ≡ slice_range xs a b
+pub range-kept : (xs ys : List Segment) (a b : ℕ) → a ≤ b → b ≤ length xs → slice_range (xs ++ ys) a b ≡ slice_range xs a b
 range-kept xs ys a b le within =
     ap (λ l. take (b - a) l) (drop-append-le a xs ys (omega arith))
     ∙ take-append-le (b - a) (drop a xs) ys (omega (arith, length-drop a xs))
@@ -140,31 +140,45 @@ range-behind xs ys a b begin end =
     let rest : drop a (xs ++ ys) ≡ ys = drop-append-le a xs ys (omega (arith, begin)) ∙ ap (λ l. l ++ ys) (drop_all a xs (omega (arith, begin))) in
     ap (λ l. take (b - a) l) rest ∙ take_all (b - a) ys (omega (arith, begin, end, length-append xs ys))
 
-answer-kept : (segments more : List Segment) (kept : KeptAnswer) → IsWithin segments kept → answer_from (segments ++ more) kept ≡ answer_from segments kept
-answer-kept segments more (KeptLeast first cost begin end) within = ap (λ (l : List Segment). Least (record { first = first; segments = l; cost = cost })) (range-kept segments more begin end within.0 within.1)
-answer-kept segments more KeptNoPath within = refl
-answer-kept segments more KeptNoList within = refl
-answer-kept segments more (KeptTooDeep needed) within = refl
+answer-kept : (segments more : List Segment) (outcome : Outcome) (cost : ℕ) → HasSegments segments outcome → answer_from (segments ++ more) outcome cost ≡ answer_from segments outcome cost
+answer-kept segments more NoPathOutcome cost within = refl
+answer-kept segments more NoListOutcome cost within = refl
+answer-kept segments more (DeepOutcome needed) cost within = refl
+answer-kept segments more (ListOutcome first begin end) cost within = ap (λ (l : List Segment). Least (record { first = first; segments = l; cost = cost })) (range-kept segments more begin end within.0 within.1)
 
-within-more : (segments more : List Segment) (kept : KeptAnswer) → IsWithin segments kept → IsWithin (segments ++ more) kept
-within-more segments more (KeptLeast first cost begin end) within = (within.0, omega (arith, within.1, length-append segments more))
-within-more segments more KeptNoPath within = within
-within-more segments more KeptNoList within = within
-within-more segments more (KeptTooDeep needed) within = within
+pub within-more : (segments more : List Segment) (outcome : Outcome) → HasSegments segments outcome → HasSegments (segments ++ more) outcome
+within-more segments more NoPathOutcome within = within
+within-more segments more NoListOutcome within = within
+within-more segments more (DeepOutcome needed) within = within
+within-more segments more (ListOutcome first begin end) within = (within.0, omega (arith, within.1, length-append segments more))
+
+-- an answer stays where segments and outcomes come behind the others
+entry-kept : (segments more : List Segment) (outcomes added : List Outcome) (kept : Kept) → All (HasSegments segments) outcomes → kept.outcome < length outcomes → entry_from (segments ++ more) (outcomes ++ added) kept ≡ entry_from segments outcomes kept
+entry-kept segments more outcomes added kept lists lt =
+    let same : outcome_at (outcomes ++ added) kept.outcome ≡ outcome_at outcomes kept.outcome = get_or_append_left outcomes added NoPathOutcome kept.outcome lt in
+    let answer : answer_from (segments ++ more) (outcome_at (outcomes ++ added) kept.outcome) kept.cost ≡ answer_from segments (outcome_at outcomes kept.outcome) kept.cost =
+    ap (λ (o : Outcome). answer_from (segments ++ more) o kept.cost) same ∙ answer-kept segments more (outcome_at outcomes kept.outcome) kept.cost (All-get_or (HasSegments segments) outcomes kept.outcome NoPathOutcome lt lists) in
+    ap (λ (a : Answer). record { destination = kept.destination; answer = a }) answer
 
 -- and so do all answers
-entries-kept : (segments more : List Segment) (kept : List Kept) → AreWithin segments kept → entries (segments ++ more) kept ≡ entries segments kept
-entries-kept segments more [] within = refl
-entries-kept segments more (k ∷ ks) within =
-    ap (λ (a : Answer). record { destination = k.destination; answer = a } ∷ entries (segments ++ more) ks) (answer-kept segments more k.answer (All-head (λ (o : Kept). IsWithin segments o.answer) k ks within))
-    ∙ ap (λ (l : List NodeAnswer). entry_from segments k ∷ l) (entries-kept segments more ks (All-tail (λ (o : Kept). IsWithin segments o.answer) k ks within))
+entries-kept : (segments more : List Segment) (outcomes added : List Outcome) (kept : List Kept) → All (HasSegments segments) outcomes → All (λ (k : Kept). k.outcome < length outcomes) kept → entries (segments ++ more) (outcomes ++ added) kept ≡ entries segments outcomes kept
+entries-kept segments more outcomes added [] lists each = refl
+entries-kept segments more outcomes added (k ∷ ks) lists each =
+    let first : entry_from (segments ++ more) (outcomes ++ added) k ≡ entry_from segments outcomes k = entry-kept segments more outcomes added k lists (All-head (λ (o : Kept). o.outcome < length outcomes) k ks each) in
+    let rest : entries (segments ++ more) (outcomes ++ added) ks ≡ entries segments outcomes ks = entries-kept segments more outcomes added ks lists (All-tail (λ (o : Kept). o.outcome < length outcomes) k ks each) in
+    ap (λ (e : NodeAnswer). e ∷ entries (segments ++ more) (outcomes ++ added) ks) first ∙ ap (λ (l : List NodeAnswer). entry_from segments outcomes k ∷ l) rest
 
--- one more is kept, with its segments behind those of the others
-pub kept-push : (n : Net) (x : List Bool) (s : ℕ) (wanted : List NodeNo) (m : ℕ) (before after : List Segment) (list : List Kept) (kept : Kept) → AreAnswered n x s wanted m (entries before list) → AreWithin before list → kept.destination.0 ≡ listed_at wanted m → IsKeptAnswer n x s (listed_at wanted m) before after kept.answer → AreAnswered n x s wanted (m + 1) (entries after (list ++ kept ∷ [])) × AreWithin after (list ++ kept ∷ [])
-kept-push n x s wanted m before after list kept answered within node k =
-    let same : entries after list ≡ entries before list = ap (λ l. entries l list) k.added ∙ entries-kept before k.more list within in
-    let joined : entries after (list ++ kept ∷ []) ≡ entries before list ++ entry_from after kept ∷ [] = map-append (entry_from after) list (kept ∷ []) ∙ ap (λ l. l ++ entry_from after kept ∷ []) same in
-    let others : AreWithin after list = subst (λ l. AreWithin l list) (sym k.added) (All-weaker (λ (o : Kept). IsWithin before o.answer) (λ (o : Kept). IsWithin (before ++ k.more) o.answer) (λ (o : Kept) w. within-more before k.more o.answer w) list within) in (
-      subst (λ l. AreAnswered n x s wanted (m + 1) l) (sym joined) (answered-push n x s wanted m (entries before list) (entry_from after kept) answered node k.answer),
-      All-push (λ (o : Kept). IsWithin after o.answer) list kept others k.within,
+-- one more is kept, with what it adds behind what the others have
+pub kept-push : (n : Net) (x : List Bool) (s : ℕ) (wanted : List NodeNo) (m : ℕ) (segments more : List Segment) (outcomes added : List Outcome) (list : List Kept) (kept : Kept) → AreAnswered n x s wanted m (entries segments outcomes list) → AreKeptWithin segments outcomes list → All (HasSegments (segments ++ more)) (outcomes ++ added) → length added ≤ 1 → kept.outcome < length (outcomes ++ added) → kept.destination.0 ≡ listed_at wanted m → IsAnswer n x s (listed_at wanted m) (answer_from (segments ++ more) (outcome_at (outcomes ++ added) kept.outcome) kept.cost) → AreAnswered n x s wanted (m + 1) (entries (segments ++ more) (outcomes ++ added) (list ++ kept ∷ [])) × AreKeptWithin (segments ++ more) (outcomes ++ added) (list ++ kept ∷ [])
+kept-push n x s wanted m segments more outcomes added list kept answered within lists few below node answer =
+    let same : entries (segments ++ more) (outcomes ++ added) list ≡ entries segments outcomes list = entries-kept segments more outcomes added list within.lists within.each in
+    let entry : NodeAnswer = entry_from (segments ++ more) (outcomes ++ added) kept in
+    let joined : entries (segments ++ more) (outcomes ++ added) (list ++ kept ∷ []) ≡ entries segments outcomes list ++ entry ∷ [] = map-append (entry_from (segments ++ more) (outcomes ++ added)) list (kept ∷ []) ∙ ap (λ l. l ++ entry ∷ []) same in
+    let others : All (λ (o : Kept). o.outcome < length (outcomes ++ added)) list = All-weaker (λ (o : Kept). o.outcome < length outcomes) (λ (o : Kept). o.outcome < length (outcomes ++ added)) (λ (o : Kept) lt. omega (arith, length-append outcomes added)) list within.each in (
+      subst (λ l. AreAnswered n x s wanted (m + 1) l) (sym joined) (answered-push n x s wanted m (entries segments outcomes list) entry answered node answer),
+      record {
+        lists = lists;
+        each = All-push (λ (o : Kept). o.outcome < length (outcomes ++ added)) list kept others below;
+        few = omega (arith, within.few, length-append outcomes added, length-append list (kept ∷ []));
+      },
     )

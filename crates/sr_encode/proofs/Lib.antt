@@ -1,7 +1,13 @@
-pub mod NodeLemmas
+pub mod BitLemmas
 pub mod SearchLemmas
 pub mod QueueLemmas
-pub mod UnmetLemmas
+pub mod SceneLemmas
+pub mod LookLemmas
+pub mod MarkLemmas
 pub mod StopLemmas
 pub mod ServeLemmas
 pub mod AnswerLemmas
+pub mod KeptHops
+pub mod CollectLemmas
+pub mod CodeLemmas
+pub mod TakeLemmas

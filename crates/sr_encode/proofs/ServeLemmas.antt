@@ -1,175 +1,144 @@
--- How destinations are served, and what is found when the search stops.
-use Rattle.std.proofs.Common.{◌≡◌, ◌≢◌, ℕ, zero, ◌+◌, ◌<◌, ◌≤◌, ⊎_elim, Bool, true, List, [], ◌∷◌, length, refl, arith, ap, sym, ◌∙◌, subst, Option, Some, None, replicate, set}
-use Rattle.std.specs.Prelude.{All, Contains, filter, is_none, slice_index}
-use Rattle.std.proofs.lemmas.Bool.{cond_both, cases_eq}
-use Rattle.std.proofs.lemmas.List.{length-replicate, length-set, get_or_default, get_or-replicate, get_or-set_same, get_or-set_other}
-use Rattle.std.proofs.lemmas.List.Elements.{All-nil, All-cons, All-weaker, All-contains, All-filter, Contains-get_or, Contains-append_right}
+-- How destinations are served, and that they are found when the search stops.
+use Rattle.std.proofs.Common.{◌≡◌, ◌≢◌, ℕ, ◌+◌, ◌<◌, ◌≤◌, ◌↔◌, ⊎_elim, inl, inr, true, false, not, ◌&&◌, List, length, IsTrue, arith, ap, sym, ◌∙◌, subst, Option, Some, None}
+use Rattle.std.specs.Prelude.{is_some}
+use Rattle.std.proofs.lemmas.Bool.{cases_eq, cases_Bool, and_parts, not-true, not_from_false, and_from, true≢false}
 use Rattle.sr_model.specs.declared.link.NodeNo.{NodeNo}
-use Rattle.sr_model.specs.Graph.{IsGraph, node_count}
-use Rattle.sr_model.specs.Label.{Net}
-use Rattle.sr_model.specs.Walk.{IsRow}
 use Rattle.sr_model.specs.Repair.{Path, IsLeast}
-use Rattle.sr_walks.proofs.Distances.{distance-unique}
+use Rattle.sr_lanes.specs.declared.words.NodeBits.{NodeBits}
+use Rattle.sr_lanes.specs.Bits.{is_in}
 use Rattle.sr_encode.specs.declared.waypoint.Waypoint.{Waypoint}
-use Rattle.sr_encode.specs.Waypoints.{AreParents, Extends, node_at}
+use Rattle.sr_encode.specs.declared.served.Served.{Served}
+use Rattle.sr_encode.specs.Waypoints.{AreParents, Extends, node_at, path_to}
+use Rattle.sr_encode.specs.Aftermath.{Aftermath, IsAftermath}
 use Rattle.sr_encode.specs.Search.{IsSearching}
-use Rattle.sr_encode.specs.Serve.{EndsAt, place_at, AreNodes, IsServed, AreServed, HasUnserved, not_served, AreFound}
+use Rattle.sr_encode.specs.Serve.{EndsAt, NoneEnds, AreLeastFrom, place_at, IsServedBy, AreOffered, ArePending, IsLater, ArePlaced, AreSearched, ArePlacesOf, AreFound}
 use Rattle.sr_post.specs.Nodes.{listed_at}
+use Rattle.sr_encode.proofs.BitLemmas.{none_in}
 use Rattle.sr_encode.proofs.QueueLemmas.{path-kept}
-use Rattle.sr_encode.proofs.SearchLemmas.{row-distance}
 use Rattle.sr_encode.proofs.StopLemmas.{none-sound}
 
--- where lists can end at w towards d, the distances by w add up
-pub ends-sum : (n : Net) (x : List Bool) (post row : List ℕ) (w d : ℕ) → IsRow n.graph [] w row → d < node_count n.graph → EndsAt n x post w d → slice_index post w + slice_index row d ≡ slice_index post d
-ends-sum n x post row w d is within ends =
-    let same : slice_index row d ≡ ends.rest = distance-unique n.graph [] w d _ ends.rest (row-distance n.graph [] w row d ends.goes_on.reached.0 is within ends.goes_on.reached.1) ends.goes_on in
-    omega (arith, ends.fits)
-
--- what was served stays served as the queue grows
-served-kept : (n : Net) (x : List Bool) (s : ℕ) (post : List ℕ) (queue more : List Waypoint) (i d : ℕ) (place : Option ℕ) → AreParents queue → Extends queue more → i ≤ length queue → IsServed n x s post queue i d place → IsServed n x s post more i d place
-served-kept n x s post queue more i d place p e within r = record {
-  none = λ no near k lt ends. r.none no near k lt (subst (λ (t : Waypoint). EndsAt n x post t.node.0 d) (e.same k (omega arith)) ends);
-  some = λ k is. (
-    omega (arith, (r.some k is).0, e.longer),
-    subst (λ (a : Path). IsLeast n x s d a) (sym (path-kept queue more p e k (r.some k is).0)) (r.some k is).1,
-  );
+-- what was offered stays offered as the queue grows
+pub offered-longer : (after : Aftermath) (queue more : List Waypoint) (k : ℕ) (served : Served) → AreParents queue
+    → Extends queue more → k ≤ length queue → AreOffered after queue k served → AreOffered after more k served
+offered-longer after queue more k served p e within r = record {
+  long = r.long;
+  inside = r.inside;
+  none = λ d open_yet j lt ends. r.none d open_yet j lt (subst (λ (t : Waypoint). EndsAt after t.node.0 d) (e.same j (omega arith)) ends);
+  some = λ d j is.
+      let before = r.some d j is in
+      let lt : j < length queue = before.0 in (
+        omega (arith, e.longer),
+        subst (λ (a : Path). IsLeast after.net after.failed after.source d a) (sym (path-kept queue more p e j lt)) before.1,
+      );
 }
 
-pub all-kept : (n : Net) (x : List Bool) (s : ℕ) (post : List ℕ) (queue more : List Waypoint) (i : ℕ) (wanted : List NodeNo) (places : List (Option ℕ)) → AreParents queue → Extends queue more → i ≤ length queue → AreServed n x s post queue i wanted places → AreServed n x s post more i wanted places
-all-kept n x s post queue more i wanted places p e within r = record { long = r.long; each = λ j lt. served-kept n x s post queue more i (listed_at wanted j) (place_at places j) p e within (r.each j lt) }
-
--- nothing is served yet
-pub served-start : (n : Net) (x : List Bool) (s : ℕ) (post : List ℕ) (queue : List Waypoint) (wanted : List NodeNo) → AreServed n x s post queue 0 wanted (replicate (length wanted) None)
-served-start n x s post queue wanted = record {
-  long = length-replicate (length wanted) None;
-  each = λ j lt. record {
-    none = λ no near k below. absurd (omega arith);
-    some = λ k is. (let z : None ≡ Some k = sym (get_or-replicate (length wanted) j None None lt) ∙ is in absurd (cc));
-  };
+-- where nothing is pending, more waypoints need no offer
+pub offered-all : (after : Aftermath) (queue : List Waypoint) (k m : ℕ) (served : Served)
+    → AreOffered after queue k served → ((d : ℕ) → is_in served.pending d ≡ false) → AreOffered after queue m served
+offered-all after queue k m served r none = record {
+  long = r.long;
+  inside = r.inside;
+  none = λ d is. absurd (none_in served.pending d none is);
+  some = r.some;
 }
 
--- no waypoint of fewer serves either
-served-fewer : (n : Net) (x : List Bool) (s : ℕ) (post : List ℕ) (queue : List Waypoint) (i d : ℕ) (place : Option ℕ) → IsServed n x s post queue (i + 1) d place → IsServed n x s post queue i d place
-served-fewer n x s post queue i d place r = record { none = λ no near k lt. r.none no near k (omega arith); some = r.some }
+pub later-same : (served : Served) → IsLater served served
+later-same served = record { pending = λ d is. inl is; places = λ d is. is }
 
--- what the one place has that is set, and the others had
-at_set : (P : ℕ → Option ℕ → Type 0) (places : List (Option ℕ)) (j : ℕ) (place : Option ℕ) (k : ℕ) → j < length places → P j place → (k ≢ j → P k (place_at places k)) → P k (place_at (set places j place) k)
-at_set P places j place k inside here others =
-    ⊎_elim
-    (λ (at : k ≡ j).
-    let is : place_at (set places j place) j ≡ place = get_or-set_same places j place None inside in
-    subst (λ m. P m (place_at (set places j place) m)) (sym at) (subst (P j) (sym is) here))
-    (λ (ne : k ≢ j). subst (P k) (sym (get_or-set_other places j k place None ne)) (others ne))
-    (cases_eq k j)
+pub later-trans : (a b c : Served) → IsLater a b → IsLater b c → IsLater a c
+later-trans a b c p q = record {
+  pending = λ d is. ⊎_elim (λ still. q.pending d still) (λ has. inr (q.places d has)) (p.pending d is);
+  places = λ d has. q.places d (p.places d has);
+}
 
--- the first m destinations of the list were offered the waypoint at place i
-pub record AreOffered (n : Net) (x : List Bool) (s : ℕ) (post : List ℕ) (queue : List Waypoint) (i : ℕ) (wanted : List NodeNo) (places : List (Option ℕ)) (unserved : List ℕ) (m : ℕ) : Type 0 where
-  pub served : AreServed n x s post queue i wanted places
-  pub has : HasUnserved post wanted places unserved
-  pub offered : (p : ℕ) → p < m → IsServed n x s post queue (i + 1) (listed_at wanted (slice_index unserved p)) (place_at places (slice_index unserved p))
+-- those of the pending ones towards which lists can end at place k are served by the waypoint there
+module _ (after : Aftermath) (queue : List Waypoint) (k : ℕ) (before served : Served) (found : NodeBits)
+    (least : AreLeastFrom after queue k) (inside : k < length queue) (r : AreOffered after queue k before)
+    (ends : (d : ℕ) → IsTrue (is_in found d) ↔ ((is_in before.pending d ≡ true) × EndsAt after (node_at queue k) d))
+    (rest : (d : ℕ) → is_in served.pending d ≡ (is_in before.pending d && not (is_in found d)))
+    (marked : ArePlaced before.places.items found k served.places.items) where
+  -- what is pending still
+  still : (d : ℕ) → is_in served.pending d ≡ true → (is_in before.pending d ≡ true) × (is_in found d ≡ false)
+  still d is =
+      let both = and_parts (is_in before.pending d) (not (is_in found d)) (sym (rest d) ∙ is) in
+      (both.0, not-true (is_in found d) both.1)
 
-module _ (n : Net) (x : List Bool) (s : ℕ) (post : List ℕ) (queue : List Waypoint) (i : ℕ) (wanted : List NodeNo) (places : List (Option ℕ)) (unserved : List ℕ) where
-  pub offered-start : AreServed n x s post queue i wanted places → HasUnserved post wanted places unserved → AreOffered n x s post queue i wanted places unserved 0
-  offered-start are has = record { served = are; has = has; offered = λ p lt. absurd (omega arith) }
+  none-at : (d : ℕ) → is_in served.pending d ≡ true → NoneEnds after queue d (k + 1)
+  none-at d is j lt at =
+      let q = still d is in
+      ⊎_elim
+      (λ (here : j ≡ k). true≢false (sym ((ends d).1 (q.0, subst (λ m. EndsAt after (node_at queue m) d) here at)) ∙ q.1))
+      (λ (ne : j ≢ k). r.none d q.0 j (omega arith) at)
+      (cases_eq j k)
 
-  -- one after the other
-  pub offered-set : (m : ℕ) (place : Option ℕ) → m < length unserved → AreOffered n x s post queue i wanted places unserved m
-      → IsServed n x s post queue (i + 1) (listed_at wanted (slice_index unserved m)) place
-      → AreOffered n x s post queue i wanted (set places (slice_index unserved m) place) unserved (m + 1)
-  offered-set m place lt r here =
-      let j = slice_index unserved m in
-      let within : j < length places = omega (arith, r.served.long, r.has.inside m 0 lt) in
-      record {
-        served = record {
-          long = length-set places j place ∙ r.served.long;
-          each = λ k inside. at_set (λ k. IsServed n x s post queue i (listed_at wanted k)) places j place k within
-              (served-fewer n x s post queue i (listed_at wanted j) place here)
-              (λ _. r.served.each k inside);
-        };
-        has = record {
-          inside = r.has.inside;
-          all = λ k inside is. at_set (λ k o. o ≡ None → Contains unserved k) places j place k within
-              (λ _. Contains-get_or unserved m 0 lt)
-              (λ _ no. r.has.all k inside (is.0, no)) is.1;
-        };
-        offered = λ p before. at_set (λ k. IsServed n x s post queue (i + 1) (listed_at wanted k)) places j place (slice_index unserved p) within here
-            (λ apart. r.offered p (let ne : p ≢ m = λ e. apart (ap (λ q. slice_index unserved q) e) in omega arith));
-      }
+  served-at : (d : ℕ) → IsServedBy after.net after.failed after.source queue d (place_at served.places.items d)
+  served-at d j is =
+      ⊎_elim
+      (λ yes.
+      let q = (ends d).0 yes in
+      let here : Some k ≡ Some j = sym (marked.these d yes) ∙ is in
+      let same : k ≡ j = cc in
+      subst (λ m. (m < length queue) × IsLeast after.net after.failed after.source d (path_to queue m)) same
+      (inside, least.each k (omega arith) inside d (r.inside d q.0) (r.none d q.0) q.1))
+      (λ no. r.some d j (sym (marked.others d no) ∙ is))
+      (cases_Bool (is_in found d))
 
-  -- a destination that is served, or towards which no list can end there, needs no offer
-  pub offered-skip : (m : ℕ) → m < length unserved → AreOffered n x s post queue i wanted places unserved m
-      → (place_at places (slice_index unserved m) ≡ None → EndsAt n x post (node_at queue i) (listed_at wanted (slice_index unserved m)) → ⊥)
-      → AreOffered n x s post queue i wanted places unserved (m + 1)
-  offered-skip m lt r apart =
-      let before : IsServed n x s post queue i (listed_at wanted (slice_index unserved m)) (place_at places (slice_index unserved m)) = r.served.each (slice_index unserved m) (r.has.inside m 0 lt) in
-      let here : IsServed n x s post queue (i + 1) (listed_at wanted (slice_index unserved m)) (place_at places (slice_index unserved m)) = record {
-        none = λ no near k below. ⊎_elim
-            (λ (at : k ≡ i). subst (λ q. EndsAt n x post (node_at queue q) (listed_at wanted (slice_index unserved m)) → ⊥) (sym at) (apart no))
-            (λ (ne : k ≢ i). before.none no near k (omega arith))
-            (cases_eq k i);
-        some = before.some;
-      } in
-      record {
-        served = r.served;
-        has = r.has;
-        offered = λ p below. ⊎_elim
-            (λ (at : p ≡ m). subst (λ q. IsServed n x s post queue (i + 1) (listed_at wanted (slice_index unserved q)) (place_at places (slice_index unserved q))) (sym at) here)
-            (λ (ne : p ≢ m). r.offered p (omega arith))
-            (cases_eq p m);
-      }
-
-  -- the others are served, or have no walk, so that all were offered it in the end
-  pub all-offered : (m : ℕ) → length unserved ≤ m → AreOffered n x s post queue i wanted places unserved m → AreServed n x s post queue (i + 1) wanted places
-  all-offered m over r = record {
-    long = r.served.long;
-    each = λ j lt. record {
-      none = λ no near.
-          let found = r.has.all j lt (near, no) in
-          let at : slice_index unserved found.0 ≡ j = get_or_default unserved found.0 0 j found.1 ∙ found.2 in
-          let is : IsServed n x s post queue (i + 1) (listed_at wanted j) (place_at places j) = subst (λ k. IsServed n x s post queue (i + 1) (listed_at wanted k) (place_at places k)) at (r.offered found.0 (let within : found.0 < length unserved = found.1 in omega arith)) in
-          is.none no near;
-      some = (r.served.each j lt).some;
-    };
+  pub offered-next : AreOffered after queue (k + 1) served
+  offered-next = record {
+    long = marked.long ∙ r.long;
+    inside = λ d is. r.inside d (still d is).0;
+    none = none-at;
+    some = served-at;
   }
 
--- what passes stays in the list
-filter-contains : (test : ℕ → Bool) (js : List ℕ) → All (λ j. test j ≡ true → Contains (filter test js) j) js
-filter-contains test [] = All-nil _
-filter-contains test (j ∷ js) =
-    All-cons (λ k. test k ≡ true → Contains (filter test (j ∷ js)) k) j js
-    (λ passes. rw passes (zero, omega arith, refl))
-    (All-weaker (λ k. test k ≡ true → Contains (filter test js) k) (λ k. test k ≡ true → Contains (filter test (j ∷ js)) k)
-    (λ k kept passes.
-    let behind : Contains (filter test js) k = kept passes in
-    cond_both (test j) (j ∷ filter test js) (filter test js) (λ ks. Contains ks k) (λ _. Contains-append_right (j ∷ []) (filter test js) k behind) (λ _. behind))
-    js (filter-contains test js))
+  pub later-next : IsLater before served
+  later-next = record {
+    pending = λ d is. ⊎_elim
+        (λ yes. inr (ap is_some (marked.these d yes)))
+        (λ no. inl (rest d ∙ and_from (is_in before.pending d) (not (is_in found d)) is (not_from_false (is_in found d) no)))
+        (cases_Bool (is_in found d));
+    places = λ d has. ⊎_elim
+        (λ yes. ap is_some (marked.these d yes))
+        (λ no. ap is_some (marked.others d no) ∙ has)
+        (cases_Bool (is_in found d));
+  }
 
--- the places of those served are taken out of the list
-pub unserved-filter : (post : List ℕ) (wanted : List NodeNo) (places : List (Option ℕ)) (unserved : List ℕ) → HasUnserved post wanted places unserved → HasUnserved post wanted places (not_served places unserved)
-unserved-filter post wanted places unserved r = record {
-  inside = All-filter (λ j. is_none (place_at places j)) (λ j. j < length wanted) unserved r.inside;
-  all = λ j lt is. All-contains (λ k. is_none (place_at places k) ≡ true → Contains (not_served places unserved) k) unserved j
-      (filter-contains (λ k. is_none (place_at places k)) unserved) (r.all j lt is) (ap is_none is.1);
-}
-
--- where no destination is left in the list, all is found
-pub found-over : (n : Net) (x : List Bool) (s : ℕ) (post : List ℕ) (queue : List Waypoint) (i : ℕ) (wanted : List NodeNo) (places : List (Option ℕ)) (unserved : List ℕ) → AreParents queue → AreServed n x s post queue i wanted places → HasUnserved post wanted places unserved → length unserved ≡ 0 → AreFound n x s post queue wanted places
-found-over n x s post queue i wanted places unserved p r has over = record {
+-- where no destination is pending, the search is over
+pub searched-none : (after : Aftermath) (queue : List Waypoint) (k : ℕ) (served : Served) → AreParents queue
+    → AreOffered after queue k served → ((d : ℕ) → is_in served.pending d ≡ false) → AreSearched after queue served
+searched-none after queue k served p r none = record {
   parents = p;
   long = r.long;
-  each = λ j lt. record {
-    none = λ no near. absurd (let left = has.all j lt (near, no) in let lt' : left.0 < length unserved = left.1 in omega arith);
-    some = (r.each j lt).some;
-  };
+  none = λ d is. absurd (none_in served.pending d none is);
+  some = r.some;
 }
 
 -- and so it is at the end of the queue
-pub found-end : (n : Net) (x : List Bool) (s : ℕ) (post : List ℕ) (queue : List Waypoint) (met : List Bool) (i : ℕ) (wanted : List NodeNo) (places : List (Option ℕ)) → IsGraph n.graph → IsRow n.graph x s post → IsSearching n x s post queue met i 0 → length queue ≤ i → AreNodes n wanted → AreServed n x s post queue i wanted places → AreFound n x s post queue wanted places
-found-end n x s post queue met i wanted places graph row search over nodes r = record {
+pub searched-end : (after : Aftermath) (queue : List Waypoint) (unmet : NodeBits) (i : ℕ) (served : Served)
+    → IsAftermath after → IsSearching after queue unmet i 0 → length queue ≤ i → i ≤ length queue
+    → AreOffered after queue (length queue) served → AreSearched after queue served
+searched-end after queue unmet i served is search over within r = record {
   parents = search.agrees.parents;
   long = r.long;
+  none = λ d open_yet. none-sound after queue unmet i is search over d (r.inside d open_yet) (λ j lt. r.none d open_yet j (omega arith));
+  some = r.some;
+}
+
+-- the destinations that have walks were pending, and their places are those at their numbers
+pub found-from : (after : Aftermath) (queue : List Waypoint) (wanted : List NodeNo) (before served : Served) (places : List (Option ℕ))
+    → ArePending after wanted before → IsLater before served → AreSearched after queue served
+    → ArePlacesOf served.places.items wanted places
+    → AreFound after.net after.failed after.source after.post queue wanted places
+found-from after queue wanted before served places pending later r these = record {
+  parents = r.parents;
+  long = these.long;
   each = λ j lt. record {
-    none = λ no near. none-sound n x s post queue met i graph row search over (listed_at wanted j) (nodes j lt) ((r.each j lt).none no near);
-    some = (r.each j lt).some;
+    none = λ no near. ⊎_elim
+        (λ still. r.none (listed_at wanted j) still)
+        (λ has.
+        let gone : None ≡ place_at served.places.items (listed_at wanted j) = sym no ∙ these.each j lt in
+        absurd (true≢false (sym has ∙ ap is_some (sym gone))))
+        (later.pending (listed_at wanted j) (pending j lt near));
+    some = λ k is. r.some (listed_at wanted j) k (sym (these.each j lt) ∙ is);
   };
 }

@@ -1,6 +1,9 @@
 pub mod Waypoints
-pub mod Nodes
+pub mod Aftermath
 pub mod Search
 pub mod Serve
 pub mod Answered
 pub mod Kept
+pub mod Collected
+pub mod Repairs
+pub mod Codes

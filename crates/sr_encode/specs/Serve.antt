@@ -1,5 +1,8 @@
 -- Which waypoints serve which destinations.
-use Rattle.std.specs.Prelude.{◌≡◌, ℕ, ◌+◌, ◌<◌, Bool, true, List, [], length, filter, All, Contains, Option, Some, None, is_none, slice_index, slice_index_or}
+use Rattle.std.specs.Prelude.{◌≡◌, ℕ, ◌+◌, ◌<◌, ◌≤◌, ◌⊎◌, Bool, true, false, List, length, [], Option, Some, None, is_some, slice_index, slice_index_or}
+use Rattle.sr_lanes.specs.declared.words.NodeBits.{NodeBits}
+use Rattle.sr_lanes.specs.Bits.{is_in}
+use Rattle.sr_model.specs.declared.link.LinkNo.{LinkNo}
 use Rattle.sr_model.specs.declared.link.NodeNo.{NodeNo}
 use Rattle.sr_model.specs.declared.link.TheConstants.{FAR}
 use Rattle.sr_model.specs.Graph.{node_count, carries}
@@ -8,27 +11,38 @@ use Rattle.sr_model.specs.Space.{InP}
 use Rattle.sr_model.specs.Walk.{IsDistance}
 use Rattle.sr_model.specs.Repair.{Path, IsSound, IsLeast}
 use Rattle.sr_encode.specs.declared.waypoint.Waypoint.{Waypoint}
-use Rattle.sr_encode.specs.Waypoints.{node_at, path_to, AreParents}
+use Rattle.sr_encode.specs.declared.served.Served.{Served}
+use Rattle.sr_encode.specs.Waypoints.{waypoint_at, node_at, path_to, AreParents}
+use Rattle.sr_encode.specs.Aftermath.{Aftermath}
+use Rattle.sr_post.specs.Kept.{AreKeptHops}
 use Rattle.sr_post.specs.Nodes.{listed_at}
 
--- lists to w can end there towards d: w is d or isn't overloaded, has d in its P, and keeps to the distances in post as far as d
-pub record EndsAt (n : Net) (x : List Bool) (post : List ℕ) (w d : ℕ) : Type 0 where
+-- lists to w can end there towards d: w is d or isn't overloaded, has d in its P, and keeps to the distances from the
+-- source as far as d
+pub record EndsAt (after : Aftermath) (w d : ℕ) : Type 0 where
   pub rest : ℕ
-  pub free : carries n.graph d w ≡ true
-  pub ends : InP n.graph x w d
-  pub goes_on : IsDistance n.graph [] w d rest
-  pub fits : slice_index post w + rest ≡ slice_index post d
+  pub free : carries after.net.graph d w ≡ true
+  pub ends : InP after.net.graph after.failed w d
+  pub goes_on : IsDistance after.net.graph [] w d rest
+  pub fits : slice_index after.post w + rest ≡ slice_index after.post d
 
--- at none of the first i waypoints lists can end towards d
-abbrev pub NoneEnds : Net → List Bool → List ℕ → List Waypoint → ℕ → ℕ → Type 0
-NoneEnds n x post queue d i = (k : ℕ) → k < i → EndsAt n x post (node_at queue k) d → ⊥
+-- at none of the first k waypoints lists can end towards d
+abbrev pub NoneEnds : Aftermath → List Waypoint → ℕ → ℕ → Type 0
+NoneEnds after queue d k = (j : ℕ) → j < k → EndsAt after (node_at queue j) d → ⊥
 
--- where lists can end first at place i towards a node, the list to that waypoint is the least sound one
-abbrev pub IsFirstLeast : Net → List Bool → ℕ → List ℕ → List Waypoint → ℕ → Type 0
-IsFirstLeast n x s post queue i =
-    (d : ℕ) → d < node_count n.graph → NoneEnds n x post queue d i → EndsAt n x post (node_at queue i) d → IsLeast n x s d (path_to queue i)
+-- where lists can end first at place k towards a node, the list to that waypoint is the least sound one
+abbrev pub IsLeastThere : Aftermath → List Waypoint → ℕ → Type 0
+IsLeastThere after queue k =
+    (d : ℕ) → d < node_count after.net.graph → NoneEnds after queue d k → EndsAt after (node_at queue k) d
+    → IsLeast after.net after.failed after.source d (path_to queue k)
 
--- the place in the queue of the waypoint that serves the destination at place j, if one does
+-- the queue has no more waypoints than there are nodes, each of them is one, and so it is at each place from k on
+pub record AreLeastFrom (after : Aftermath) (queue : List Waypoint) (k : ℕ) : Type 0 where
+  pub short : length queue ≤ node_count after.net.graph
+  pub nodes : (j : ℕ) → j < length queue → node_at queue j < node_count after.net.graph
+  pub each : (j : ℕ) → k ≤ j → j < length queue → IsLeastThere after queue j
+
+-- the place in the queue that is kept at number j, if one is
 abbrev pub place_at : List (Option ℕ) → ℕ → Option ℕ
 place_at places j = slice_index_or places j None
 
@@ -40,28 +54,53 @@ AreNodes n wanted = (j : ℕ) → j < length wanted → listed_at wanted j < nod
 abbrev pub IsServedBy : Net → List Bool → ℕ → List Waypoint → ℕ → Option ℕ → Type 0
 IsServedBy n x s queue d place = (k : ℕ) → place ≡ Some k → (k < length queue) × IsLeast n x s d (path_to queue k)
 
--- d is served, or no list can end at the first i waypoints towards it, or no walk leads there
-pub record IsServed (n : Net) (x : List Bool) (s : ℕ) (post : List ℕ) (queue : List Waypoint) (i d : ℕ) (place : Option ℕ) : Type 0 where
-  pub none : place ≡ None → slice_index post d < FAR → NoneEnds n x post queue d i
-  pub some : IsServedBy n x s queue d place
+-- the list has the hop that is kept towards each node
+abbrev pub AreHopsOf : Aftermath → List (Option LinkNo) → Type 0
+AreHopsOf after hops = AreKeptHops after.net.graph after.failed after.source hops (node_count after.net.graph)
 
--- so it is with each destination
-pub record AreServed (n : Net) (x : List Bool) (s : ℕ) (post : List ℕ) (queue : List Waypoint) (i : ℕ) (wanted : List NodeNo) (places : List (Option ℕ)) : Type 0 where
+-- the list to the waypoint at place k is link l alone
+abbrev pub IsMetBy : List Waypoint → ℕ → ℕ → Type 0
+IsMetBy queue l k = (k < length queue) × ((waypoint_at queue k).first.0 ≡ l) × ((waypoint_at queue k).depth ≡ 0)
+
+-- the first k waypoints were offered to the destinations: at none of them lists can end towards one that is pending,
+-- and where one has a place, the waypoint there serves it
+pub record AreOffered (after : Aftermath) (queue : List Waypoint) (k : ℕ) (served : Served) : Type 0 where
+  pub long : length served.places.items ≡ node_count after.net.graph
+  pub inside : (d : ℕ) → is_in served.pending d ≡ true → d < node_count after.net.graph
+  pub none : (d : ℕ) → is_in served.pending d ≡ true → NoneEnds after queue d k
+  pub some : (d : ℕ) → IsServedBy after.net after.failed after.source queue d (place_at served.places.items d)
+
+-- the destinations to which a walk leads are pending
+abbrev pub ArePending : Aftermath → List NodeNo → Served → Type 0
+ArePending after wanted served =
+    (j : ℕ) → j < length wanted → slice_index after.post (listed_at wanted j) < FAR
+    → is_in served.pending (listed_at wanted j) ≡ true
+
+-- what was pending still is, or has a place now, and what had a place has one
+pub record IsLater (before served : Served) : Type 0 where
+  pub pending : (d : ℕ) → is_in before.pending d ≡ true
+      → (is_in served.pending d ≡ true) ⊎ (is_some (place_at served.places.items d) ≡ true)
+  pub places : (d : ℕ) → is_some (place_at before.places.items d) ≡ true
+      → is_some (place_at served.places.items d) ≡ true
+
+-- these nodes have place k, and the others what they had
+pub record ArePlaced (before : List (Option ℕ)) (nodes : NodeBits) (k : ℕ) (places : List (Option ℕ)) : Type 0 where
+  pub long : length places ≡ length before
+  pub these : (d : ℕ) → is_in nodes d ≡ true → place_at places d ≡ Some k
+  pub others : (d : ℕ) → is_in nodes d ≡ false → place_at places d ≡ place_at before d
+
+-- the search is over: no list to a node that is pending is sound, and where a node has a place, the waypoint there
+-- serves it
+pub record AreSearched (after : Aftermath) (queue : List Waypoint) (served : Served) : Type 0 where
+  pub parents : AreParents queue
+  pub long : length served.places.items ≡ node_count after.net.graph
+  pub none : (d : ℕ) → is_in served.pending d ≡ true → (a : Path) → IsSound after.net after.failed after.source d a → ⊥
+  pub some : (d : ℕ) → IsServedBy after.net after.failed after.source queue d (place_at served.places.items d)
+
+-- the destinations have the places that stand at their numbers
+pub record ArePlacesOf (by_number : List (Option ℕ)) (wanted : List NodeNo) (places : List (Option ℕ)) : Type 0 where
   pub long : length places ≡ length wanted
-  pub each : (j : ℕ) → j < length wanted → IsServed n x s post queue i (listed_at wanted j) (place_at places j)
-
--- the destination at place j has a walk and isn't served yet
-abbrev pub IsUnserved : List ℕ → List NodeNo → List (Option ℕ) → ℕ → Type 0
-IsUnserved post wanted places j = (slice_index post (listed_at wanted j) < FAR) × (place_at places j ≡ None)
-
--- the list has the place of each such destination, and no place behind the last destination
-pub record HasUnserved (post : List ℕ) (wanted : List NodeNo) (places : List (Option ℕ)) (unserved : List ℕ) : Type 0 where
-  pub inside : All (λ j. j < length wanted) unserved
-  pub all : (j : ℕ) → j < length wanted → IsUnserved post wanted places j → Contains unserved j
-
--- those of the places whose destination no waypoint serves
-abbrev pub not_served : List (Option ℕ) → List ℕ → List ℕ
-not_served places unserved = filter (λ j. is_none (place_at places j)) unserved
+  pub each : (j : ℕ) → j < length wanted → place_at places j ≡ place_at by_number (listed_at wanted j)
 
 -- d is served, or no list to it is sound, or no walk leads there
 pub record IsFound (n : Net) (x : List Bool) (s : ℕ) (post : List ℕ) (queue : List Waypoint) (d : ℕ) (place : Option ℕ) : Type 0 where

@@ -1,10 +1,13 @@
 //! The answers of a case, and how they are found by destination.
-ghost use Rattle.std.specs.Prelude.{◌≡◌, ◌<◌, ◌≤◌, [], List, length, MatchOption};
+ghost use Rattle.std.specs.Prelude.{◌≡◌, ◌<◌, ◌≤◌, [], List, length, All, MatchOption};
 ghost use Rattle.sr_model.specs.declared.repair.Segment.{Segment};
+ghost use Rattle.sr_encode.specs.declared.kept.Kept.{Kept};
 ghost use Rattle.sr_encode.specs.Answered.{AscendByNode, HasAnswer, NoAnswer, counts_in, entry_at};
-ghost use Rattle.sr_encode.specs.Kept.{AreWithin, entries};
+ghost use Rattle.sr_encode.specs.Codes.{AreCodes};
+ghost use Rattle.sr_encode.specs.Kept.{AreKeptWithin, entries};
 
-use crate::kept::{Kept, KeptAnswer, answer_from};
+use crate::codes::Codes;
+use crate::kept::{Kept, Outcome, answer_from};
 use sr_model::{Answer, Counts, NodeNo, Segment};
 use std::alloc::Global;
 use std::marker::Model;
@@ -17,9 +20,10 @@ pub struct NodeAnswer<'a> {
 }
 
 /// How many of the answers are of each sort, whatever their segments.
-fn counted(list: &[Kept]) -> Counts
-    requires { length list.now ≤ 256 }
-    ensures { (segments : List Segment) → result ≡ counts_in (entries segments list.now) }
+fn counted(outcomes: &[Outcome], list: &[Kept]) -> Counts
+    requires few { length list.now ≤ 256 }
+    requires outcomes { All (λ (k : Kept). k.outcome < length outcomes.now) list.now }
+    ensures { (segments : List Segment) → result ≡ counts_in (entries segments outcomes.now list.now) }
 {
     let mut counts = Counts {
         covered: 0,
@@ -28,11 +32,11 @@ fn counted(list: &[Kept]) -> Counts
         toodeep: 0,
     };
     for kept in list {
-        match kept.answer {
-            KeptAnswer::Least { .. } => counts.covered += 1,
-            KeptAnswer::NoPath => counts.nopath += 1,
-            KeptAnswer::NoList => counts.nolist += 1,
-            KeptAnswer::TooDeep { .. } => counts.toodeep += 1,
+        match outcomes[kept.outcome as usize] {
+            Outcome::Least { .. } => counts.covered += 1,
+            Outcome::NoPath => counts.nopath += 1,
+            Outcome::NoList => counts.nolist += 1,
+            Outcome::TooDeep { .. } => counts.toodeep += 1,
         }
     }
     counts
@@ -42,6 +46,8 @@ fn counted(list: &[Kept]) -> Counts
 #[derive(Debug, Drop)]
 pub struct CaseAnswers {
     kept: Vec<Kept>,
+    /// What destinations share of their answers.
+    outcomes: Vec<Outcome>,
     /// The segments of their lists, one list after the other.
     segments: Vec<Segment>,
     /// How many of them are of each sort, so that an audit needn't count them again.
@@ -52,28 +58,33 @@ impl Model for CaseAnswers {
     ghost use Rattle.std.specs.Prelude.{◌≡◌, List};
     ghost use Rattle.sr_encode.specs.declared.answers.NodeAnswer.{NodeAnswer as Entry};
     ghost use Rattle.sr_encode.specs.Answered.{AscendByNode, counts_in};
-    ghost use Rattle.sr_encode.specs.Kept.{AreWithin, entries};
+    ghost use Rattle.sr_encode.specs.Kept.{AreKeptWithin, entries};
 
     ghost Value = { List Entry };
 
-    ghost view = { λ a. entries a.segments.items a.kept.items };
+    ghost view = { λ a. entries a.segments.items a.outcomes.items a.kept.items };
 
-    ghost invariant = { λ a. AreWithin a.segments.items a.kept.items
-        × AscendByNode (entries a.segments.items a.kept.items)
-        × (a.counts ≡ counts_in (entries a.segments.items a.kept.items)) };
+    ghost invariant = { λ a. AreKeptWithin a.segments.items a.outcomes.items a.kept.items
+        × AscendByNode (entries a.segments.items a.outcomes.items a.kept.items)
+        × (a.counts ≡ counts_in (entries a.segments.items a.outcomes.items a.kept.items)) };
 }
 
 impl CaseAnswers {
     /// The answers that are kept so, which are in order of destination. There is at most one for each node.
-    pub(crate) fn new(kept: Vec<Kept>, segments: Vec<Segment>) -> CaseAnswers
-        requires within { AreWithin segments.items kept.items }
-        requires ascending { AscendByNode (entries segments.items kept.items) }
+    pub(crate) fn new(
+        kept: Vec<Kept>,
+        outcomes: Vec<Outcome>,
+        segments: Vec<Segment>,
+    ) -> CaseAnswers
+        requires within { AreKeptWithin segments.items outcomes.items kept.items }
+        requires ascending { AscendByNode (entries segments.items outcomes.items kept.items) }
         requires few { length kept.items ≤ 256 }
-        ensures { result ≡ entries segments.items kept.items }
+        ensures { result ≡ entries segments.items outcomes.items kept.items }
     {
-        let counts = counted(&kept);
+        let counts = counted(&outcomes, &kept);
         CaseAnswers {
             kept,
+            outcomes,
             segments,
             counts,
         }
@@ -83,7 +94,7 @@ impl CaseAnswers {
     pub fn none(alloc: Global) -> CaseAnswers
         ensures { result ≡ [] }
     {
-        CaseAnswers::new(Vec::new(alloc), Vec::new(alloc))
+        CaseAnswers::new(Vec::new(alloc), Vec::new(alloc), Vec::new(alloc))
     }
 
     /// How many answers there are.
@@ -99,10 +110,18 @@ impl CaseAnswers {
         ensures { result ≡ entry_at self.now place }
     {
         let kept = self.kept[place];
+        let outcome = self.outcomes[kept.outcome as usize];
         NodeAnswer {
             destination: kept.destination,
-            answer: answer_from(kept.answer, &self.segments),
+            answer: answer_from(outcome, kept.cost, &self.segments),
         }
+    }
+
+    /// The codes of the answers: those of one code have one list, or are alike else.
+    pub fn codes(&self) -> Codes<'_>
+        ensures { AreCodes self.now result }
+    {
+        Codes::new(&self.kept)
     }
 
     /// How many of the answers are lists, no path, no list and too deep.

@@ -1,50 +1,48 @@
-//! How the answers of a case are kept: each in few octets, and the segments of all lists one after the other.
+//! How the answers of a case are kept: what destinations share of them once, and eight octets for each destination.
 ghost use Rattle.std.specs.Prelude.{◌≡◌};
-ghost use Rattle.sr_encode.specs.Kept.{IsWithin, answer_from};
+ghost use Rattle.sr_encode.specs.Kept.{HasSegments, answer_from};
 
 use sr_model::{Answer, LinkNo, NodeNo, RepairList, Segment, Segments};
 
-/// An answer without the segments of its list, which stand elsewhere from place `begin` on up to place `end`.
+/// The place of the outcome `NoPath` among those of a search (this project's rule).
+pub(crate) const NO_PATH: u16 = 0;
+
+/// The place of the outcome `NoList` among those of a search (this project's rule).
+pub(crate) const NO_LIST: u16 = 1;
+
+/// What an answer says beside its cost: a list, whose segments stand elsewhere from place `begin` on up to place `end`,
+/// or why there is none. The destinations that one waypoint serves share it.
 #[derive(Clone, Copy, Debug)]
-pub(crate) enum KeptAnswer {
-    Least {
-        first: LinkNo,
-        cost: u32,
-        begin: u32,
-        end: u32,
-    },
+pub(crate) enum Outcome {
     NoPath,
     NoList,
-    TooDeep {
-        needed: u32,
-    },
+    TooDeep { needed: u32 },
+    Least { first: LinkNo, begin: u32, end: u32 },
 }
 
-/// The answer for a destination. A version has some hundred thousand of them, so it takes few octets.
+/// The answer for a destination, by the place of its outcome. A version has some hundred thousand of them, so it takes
+/// eight octets.
 #[derive(Clone, Copy, Debug)]
 pub(crate) struct Kept {
     pub(crate) destination: NodeNo,
-    pub(crate) answer: KeptAnswer,
+    pub(crate) outcome: u16,
+    /// The cost of the whole way, where the outcome is a list.
+    pub(crate) cost: u32,
 }
 
-/// The answer that is kept so, where these are the segments of all lists.
-pub(crate) fn answer_from<'a>(kept: KeptAnswer, segments: &'a [Segment]) -> Answer<'a>
-    requires { IsWithin segments.now kept }
-    ensures { result ≡ answer_from segments.now kept }
+/// The answer of an outcome at this cost, where these are the segments of all lists.
+pub(crate) fn answer_from<'a>(outcome: Outcome, cost: u32, segments: &'a [Segment]) -> Answer<'a>
+    requires { HasSegments segments.now outcome }
+    ensures { result ≡ answer_from segments.now outcome cost }
 {
-    match kept {
-        KeptAnswer::Least {
-            first,
-            cost,
-            begin,
-            end,
-        } => Answer::Least(RepairList {
+    match outcome {
+        Outcome::NoPath => Answer::NoPath,
+        Outcome::NoList => Answer::NoList,
+        Outcome::TooDeep { needed } => Answer::TooDeep { needed },
+        Outcome::Least { first, begin, end } => Answer::Least(RepairList {
             first,
             segments: Segments::new(&segments[begin as usize..end as usize]),
             cost,
         }),
-        KeptAnswer::NoPath => Answer::NoPath,
-        KeptAnswer::NoList => Answer::NoList,
-        KeptAnswer::TooDeep { needed } => Answer::TooDeep { needed },
     }
 }

@@ -2,16 +2,18 @@
 //! by its least list, and the answers of the case from it.
 #![tactic(auto)]
 
-mod answer;
 mod answers;
+mod codes;
+mod collected;
 mod kept;
+mod met;
 mod repairs;
+mod scene;
 mod search;
-mod serve;
-mod unmet;
-mod unserved;
+mod served;
 mod waypoint;
 
 pub use answers::{CaseAnswers, NodeAnswer};
+pub use codes::Codes;
 pub use repairs::lists;
 pub use sr_model::{Answer, RepairList, Segment, Segments};

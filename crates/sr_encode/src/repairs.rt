@@ -1,81 +1,47 @@
 //! The answers of a case, from its search.
-ghost use Rattle.std.specs.Prelude.{◌≡◌, ◌<◌, ◌≤◌, length, IfOk};
+ghost use Rattle.std.specs.Prelude.{◌≡◌, ◌<◌, ◌≤◌, ◌^◌, length, IfOk};
+ghost use Rattle.sr_model.specs.declared.link.TheConstants.{FAR as Far};
 ghost use Rattle.sr_model.specs.Graph.{node_count};
 ghost use Rattle.sr_model.specs.Walk.{IsRow};
-ghost use Rattle.sr_model.specs.Case.{IsCase, IsFailedSet, source_of};
+ghost use Rattle.sr_model.specs.Case.{IsCase};
 ghost use Rattle.sr_spf.specs.Trees.{AreTrees};
 ghost use Rattle.sr_post.specs.Post.{IsPost};
 ghost use Rattle.sr_encode.specs.Serve.{AreNodes, AreFound};
 ghost use Rattle.sr_post.specs.Nodes.{AreAffected};
-ghost use Rattle.sr_encode.specs.Answered.{AreAnswered, AreAnswers};
-ghost use Rattle.sr_encode.specs.Kept.{AreWithin, entries};
+ghost use Rattle.sr_encode.specs.Answered.{AreAnswers};
+ghost use Rattle.sr_encode.specs.Repairs.{AreAllKept};
 
-use crate::answer::keep_answer;
 use crate::answers::CaseAnswers;
-use crate::kept::Kept;
-use crate::search::begin_all;
-use crate::serve::explore;
-use crate::unmet::unmet_nodes;
-use crate::unserved::unserved_places;
+use crate::collected::Collected;
+use crate::kept::{Kept, Outcome};
+use crate::scene::Scene;
+use crate::search::{Serving, search};
 use crate::waypoint::Waypoint;
 use sr_graph::LinkSet;
 use sr_labels::Net;
-use sr_model::{Case, NodeNo, Segment};
+use sr_model::{Case, FAR, NodeNo, Segment};
 use sr_post::{Post, spaces_of};
 use sr_spaces::Spaces;
 use sr_spf::Trees;
 use std::alloc::{AllocError, Global};
 
-/// The queue of a search, and the place in it of the waypoint that serves each destination, if one
-/// does.
-#[derive(Drop)]
-struct Found {
-    queue: Vec<Waypoint>,
-    places: Vec<Option<u16>>,
-}
-
-/// The waypoints that serve the destinations.
-fn search(
-    alloc: Global,
-    net: &Net,
-    spaces: &Spaces,
-    cells: &[u64],
-    source: NodeNo,
-    wanted: &[NodeNo],
-) -> Result<Found, AllocError>
-    requires same { spaces.now.graph ≡ net.now.graph }
-    requires cells { IsRow net.now.graph spaces.now.failed source.0 cells.now }
-    requires source { source.0 < node_count net.now.graph }
-    requires wanted { AreNodes net.now wanted.now }
-    ensures { IfOk result (λ found. AreFound net.now spaces.now.failed source.0 cells.now found.queue.items wanted.now found.places.items) }
-{
-    let count = net.graph().node_count() as usize;
-    let mut met = vec![in alloc; false; count]?;
-    let mut places = vec![in alloc; None; wanted.len()]?;
-    let mut queue = Vec::with_capacity(alloc, count)?;
-    begin_all(net, spaces, cells, source, &mut met, &mut queue)?;
-    let mut unmet = unmet_nodes(alloc, &met)?;
-    let mut unserved = unserved_places(alloc, cells, wanted, &places)?;
-    explore(
-        net,
-        spaces,
-        cells,
-        source,
-        wanted,
-        &mut met,
-        &mut unmet,
-        &mut queue,
-        &mut unserved,
-        &mut places,
-    )?;
-    Ok(Found { queue, places })
-}
-
-/// Answers as they are kept, and the segments of their lists.
+/// Answers as they are kept, the outcomes that they share, and the segments of their lists.
 #[derive(Drop)]
 struct KeptAnswers {
     kept: Vec<Kept>,
+    outcomes: Vec<Outcome>,
     segments: Vec<Segment>,
+}
+
+/// The cost of the whole way to a destination at this distance, and 0 where there is none.
+fn whole_cost(cost: u64) -> u32
+    requires { cost < Far → cost < 2 ^ 32 }
+    ensures { cost < Far → result ≡ cost }
+{
+    if cost >= FAR {
+        return 0;
+    }
+    cost as u32
 }
 
 /// The answers for the destinations, in their order.
@@ -85,73 +51,69 @@ fn answers_of(
     cells: &[u64],
     failed: &LinkSet,
     source: NodeNo,
-    queue: &[Waypoint],
     wanted: &[NodeNo],
-    places: &[Option<u16>],
+    found: &Serving,
 ) -> Result<KeptAnswers, AllocError>
     requires cells { IsRow net.now.graph failed.now source.0 cells.now }
     requires source { source.0 < node_count net.now.graph }
-    requires wanted { AreNodes net.now wanted.now }
-    requires few { length wanted.now ≤ 256 }
-    requires found { AreFound net.now failed.now source.0 cells.now queue.now wanted.now places.now }
-    ensures answered { IfOk result (λ all. AreAnswered net.now failed.now source.0 wanted.now (length wanted.now)
-        (entries all.segments.items all.kept.items)) }
-    ensures within { IfOk result (λ all. AreWithin all.segments.items all.kept.items) }
+    requires wanted { AreNodes net.now wanted.now × (length wanted.now ≤ 256) }
+    requires found { AreFound net.now failed.now source.0 cells.now
+        found.now.queue.items wanted.now found.now.places.items }
+    ensures { IfOk result (λ all. AreAllKept net.now failed.now source.0 wanted.now all) }
 {
+    let _graph = net.graph();
     let mut kept = Vec::with_capacity(alloc, wanted.len())?;
-    let mut segments = Vec::with_capacity(alloc, wanted.len())?;
-    let mut list = Vec::new(alloc);
+    let mut collected = Collected::new(alloc, net, source, &found.queue)?;
     for j in 0..wanted.len() {
         let destination = wanted[j];
-        let answer = keep_answer(
-            net,
-            cells,
-            failed,
-            source,
-            queue,
-            destination,
-            places[j],
-            &mut list,
-            &mut segments,
-        )?;
+        let cost = cells[destination.0 as usize];
+        let outcome = collected.outcome_for(cost, found.places[j])?;
         kept.push(Kept {
             destination,
-            answer,
+            outcome,
+            cost: whole_cost(cost),
         })?;
     }
-    Ok(KeptAnswers { kept, segments })
+    Ok(KeptAnswers {
+        kept,
+        outcomes: collected.outcomes,
+        segments: collected.segments,
+    })
 }
 
-/// The answers of the case, whose affected destinations these are. `spaces` has the links that fail in it, and `cells` the
-/// distances from its source without them.
+/// The answers of the case, whose affected destinations these are. `post` is what the case leaves, and `spaces` has the
+/// links that fail in it.
 fn answers_for(
     alloc: Global,
     net: &Net,
     spaces: &Spaces,
-    cells: &[u64],
+    post: &Post,
     case: Case,
     wanted: &[NodeNo],
 ) -> Result<CaseAnswers, AllocError>
-    requires same { spaces.now.graph ≡ net.now.graph }
+    requires spaces { spaces.now ≡ record { graph = net.now.graph; failed = post.now.failed } }
     requires case { IsCase net.now.graph case }
-    requires failed { IsFailedSet net.now.graph case spaces.now.failed }
-    requires cells { IsRow net.now.graph spaces.now.failed (source_of net.now.graph case) cells.now }
+    requires post { IsPost net.now case post.now }
     requires wanted { AreAffected net.now case (node_count net.now.graph) wanted.now }
     ensures { IfOk result (AreAnswers net.now case) }
 {
     let source = net.graph().link(case.link).from;
-    let found = search(alloc, net, spaces, cells, source, wanted)?;
-    let KeptAnswers { kept, segments } = answers_of(
+    let scene = Scene::new(net, spaces, post.cells(), source);
+    let found = search(alloc, &scene, post, wanted)?;
+    let KeptAnswers {
+        kept,
+        outcomes,
+        segments,
+    } = answers_of(
         alloc,
         net,
-        cells,
+        post.cells(),
         spaces.failed(),
         source,
-        &found.queue,
         wanted,
-        &found.places,
+        &found,
     )?;
-    Ok(CaseAnswers::new(kept, segments))
+    Ok(CaseAnswers::new(kept, outcomes, segments))
 }
 
 /// The answer of the case for each affected destination, ascending: the least sound list, or why
@@ -171,5 +133,5 @@ pub fn lists(
     ensures { IfOk result (AreAnswers net.now case) }
 {
     let spaces = spaces_of(net.graph(), trees, post.failed(), case);
-    answers_for(alloc, net, &spaces, post.cells(), case, wanted)
+    answers_for(alloc, net, &spaces, post, case, wanted)
 }

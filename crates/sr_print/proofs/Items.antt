@@ -1,7 +1,7 @@
 -- The lines of answers, as those of items.
 use Rattle.std.proofs.Common.{◌≡◌, ℕ, ◌+◌, ◌<◌, refl, List, [], ◌∷◌, ◌++◌, ap, ◌∙◌, sym, take, length}
 use Rattle.std.specs.Prelude.{codes}
-use Rattle.std.proofs.lemmas.List.{flat_map_more, take_more}
+use Rattle.std.proofs.lemmas.List.{append-nil, flat_map_more, take_more}
 use Rattle.std.proofs.lemmas.Slice.Zip.{all_zipped_more}
 use Rattle.sr_model.specs.declared.case.Case.{Case}
 use Rattle.sr_model.specs.declared.repair.RepairList.{RepairList}
@@ -47,3 +47,7 @@ items-more n case answers i entry old so_far new lt here puts last =
       each = rw more (all_zipped_more (IsItemFor n case) (take i answers) puts.items entry last.item puts.each last.is);
       text = last.text ∙ ap (λ (t : List ℕ). t ++ item_line n last.item) puts.text ∙ flat_map_more (item_line n) old puts.items last.item;
     }
+
+-- no line
+pub items-none : (n : Net) (case : Case) (old : List ℕ) → PutsItems n case [] old old
+items-none n case old = record { items = []; each = tt; text = sym (append-nil old) }

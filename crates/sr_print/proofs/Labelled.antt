@@ -1,6 +1,5 @@
 -- The labels of a list, told from the top down.
 use Rattle.std.proofs.Common.{◌≡◌, ℕ, ◌+◌, ◌<◌, ◌≤◌, List, [], ◌∷◌, ◌++◌, refl, ap, ◌∙◌, drop, drop-cons, add-one, length, append_assoc, reverse}
-use Rattle.std.specs.Prelude.{codes}
 use Rattle.std.specs.List.{flat_map}
 use Rattle.std.proofs.lemmas.List.{drop_all, flat_map_more, reverse-reverse}
 use Rattle.std.proofs.lemmas.List.Elements.{All-from_get_or}
@@ -10,7 +9,7 @@ use Rattle.sr_model.specs.Forward.{IsLabels}
 use Rattle.sr_model.specs.Label.{Net, IsLabel}
 use Rattle.sr_repair.specs.Stack.{CanLabel, HaveLabels, IsSegmentLabel, goes_to, segment_at}
 use Rattle.sr_repair.proofs.StackLemmas.{AreLabelled, last}
-use Rattle.sr_print.specs.Repairs.{AreSegments, IsSegment, label_word, labels_text}
+use Rattle.sr_print.specs.Repairs.{AreSegments, IsSegment, label_word, labels_behind}
 
 segment-within : (n : Net) (s : Segment) → CanLabel n s → IsSegment n.graph s
 segment-within n (Node v) can = can.0
@@ -39,12 +38,12 @@ labelled-all n start ss d k at ts t so_far past label =
     let here : IsLabels n at (drop k ss ++ last d ∷ []) (t ∷ []) = rw none (label, refl) in
     so_far (t ∷ []) here
 
-top-told : (labels : List ℕ) (t : ℕ) (ts : List ℕ) → reverse labels ≡ t ∷ ts → labels_text labels ≡ codes " labels" ++ flat_map label_word (t ∷ ts)
+top-told : (labels : List ℕ) (t : ℕ) (ts : List ℕ) → reverse labels ≡ t ∷ ts → labels_behind labels ≡ flat_map label_word (t ∷ ts)
 top-told [] t ts is = absurd {0} (cc)
-top-told (label ∷ more) t ts is = ap (λ labels. codes " labels" ++ flat_map label_word labels) is
+top-told (label ∷ more) t ts is = ap (λ labels. flat_map label_word labels) is
 
 -- labels in the order of a stack, the top last, are told from the top down
-pub labels-told : (t : ℕ) (ts : List ℕ) → labels_text (reverse (t ∷ ts)) ≡ codes " labels" ++ flat_map label_word (t ∷ ts)
+pub labels-told : (t : ℕ) (ts : List ℕ) → labels_behind (reverse (t ∷ ts)) ≡ flat_map label_word (t ∷ ts)
 labels-told t ts = top-told (reverse (t ∷ ts)) t ts (reverse-reverse (t ∷ ts))
 
 -- one more label behind others, each as one more word

@@ -11,7 +11,7 @@ use Rattle.sr_model.specs.KeyOrder.{same_key}
 use Rattle.sr_model.specs.Label.{Net, keys_between, IsPlace}
 use Rattle.sr_model.specs.Rule.{IsAccepted}
 use Rattle.sr_laws.proofs.Places.{key-told, place-one}
-use Rattle.sr_print.specs.Links.{place_of}
+use Rattle.sr_print.specs.Links.{place_between}
 
 some_inj : {A : Type 0} {a b : A} → Some a ≡ Some b → a ≡ b
 some_inj e = cc
@@ -36,11 +36,11 @@ place-at keys key j is =
     ap (λ b. if b then slice_get (keys_between keys key.from key.to) (j + 1 - 1) else None) above ∙ ap (slice_get (keys_between keys key.from key.to)) before ∙ is
 
 -- the place that is told is the place
-pub place_is : (n : Net) (l k : ℕ) → IsAccepted n → l < link_count n.graph → IsPlace n.announced (key_at n.graph l) k → k ≡ place_of n.announced (key_at n.graph l)
+pub place_is : (n : Net) (l k : ℕ) → IsAccepted n → l < link_count n.graph → IsPlace n.announced (key_at n.graph l) k → k ≡ place_between n.announced (key_at n.graph l)
 place_is n l k accepted within is =
     let key = key_at n.graph l in
     let keys = keys_between n.announced key.from key.to in
     let found : find (λ (x : LinkKey). same_key x key) keys ≡ Some key = find-key keys key (k - 1) (at-place n.announced key k is) in
-    let there : IsPlace n.announced key (place_of n.announced key) = place-at n.announced key (position_or_len (λ (x : LinkKey). same_key x key) keys) (sym (find_at (λ (x : LinkKey). same_key x key) keys) ∙ found) in
+    let there : IsPlace n.announced key (place_between n.announced key) = place-at n.announced key (position_or_len (λ (x : LinkKey). same_key x key) keys) (sym (find_at (λ (x : LinkKey). same_key x key) keys) ∙ found) in
     let one = place-one n.graph n.announced accepted.announced l within in
-    one.2 k is ∙ sym (one.2 (place_of n.announced key) there)
+    one.2 k is ∙ sym (one.2 (place_between n.announced key) there)

@@ -51,7 +51,7 @@ IsEntryWithin g Null = Unit {0}
 IsEntryWithin g (Adj link) = link.0 < link_count g
 IsEntryWithin g (Node node hops) = (node.0 < node_count g) × AreHopLinks g hops
 
--- the node at which a walk starts, and those that it comes to
+-- the node at which a walk starts, and those that it reaches
 abbrev pub nodes_text : Graph → ℕ → List LinkNo → List ℕ
 nodes_text g start links = flat_map (λ v. node_word (system_at g v)) (start ∷ stops g (numbers links))
 

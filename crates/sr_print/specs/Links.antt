@@ -11,8 +11,8 @@ use Rattle.sr_model.specs.SystemText.{system_text}
 use Rattle.sr_print.specs.Printed.{word, numbered}
 
 -- the number of a key among the announced keys between its nodes, counted from 1
-abbrev pub place_of : List LinkKey → LinkKey → ℕ
-place_of keys key = position_or_len (λ (k : LinkKey). same_key k key) (keys_between keys key.from key.to) + 1
+abbrev pub place_between : List LinkKey → LinkKey → ℕ
+place_between keys key = position_or_len (λ (k : LinkKey). same_key k key) (keys_between keys key.from key.to) + 1
 
 -- the system ids of a link's ends
 unfoldable pub ends_text : LinkKey → List ℕ
@@ -20,7 +20,7 @@ ends_text key = system_text key.from ++ codes ">" ++ system_text key.to
 
 -- the ends of link l, and its number among the announced keys between them
 unfoldable pub link_text : Net → ℕ → List ℕ
-link_text n l = ends_text (key_at n.graph l) ++ numbered (codes "#") (place_of n.announced (key_at n.graph l))
+link_text n l = ends_text (key_at n.graph l) ++ numbered (codes "#") (place_between n.announced (key_at n.graph l))
 
 -- a link as one more word
 unfoldable pub link_word : Net → ℕ → List ℕ

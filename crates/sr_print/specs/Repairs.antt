@@ -54,6 +54,15 @@ abbrev pub labels_text : List ℕ → List ℕ
 labels_text [] = codes " labels none"
 labels_text (label ∷ more) = codes " labels" ++ flat_map label_word (reverse (label ∷ more))
 
+-- a repair as far as its labels, which are all that differs among the destinations of one list but for the cost
+abbrev pub way_text : Net → ℕ → List Segment → List ℕ
+way_text n first segments = codes " via" ++ link_word n first ++ segments_text n segments ++ codes " labels"
+
+-- the labels behind that, given with the top last, or that there are none
+abbrev pub labels_behind : List ℕ → List ℕ
+labels_behind [] = codes " none"
+labels_behind (label ∷ more) = flat_map label_word (reverse (label ∷ more))
+
 -- a repair: its first link, its segments, its labels and its cost
 abbrev pub list_text : Net → RepairList → List ℕ → List ℕ
 list_text n list labels =

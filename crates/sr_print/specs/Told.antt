@@ -17,7 +17,8 @@ use Rattle.sr_print.specs.Spaces.{spaces_lines}
 use Rattle.sr_print.specs.Repairs.{repair_line, uncovered_walk_line, item_lines, summary_line}
 use Rattle.sr_print.specs.Refused.{refused_line}
 
--- what is shown of a session: the number of its last version, how many nodes and links that has, the accepted depth, and how many edits are staged
+-- what is shown of a session: the number of its last version, how many nodes and links that has, the accepted depth,
+-- and how many edits are staged
 pub record Shown : Type 0 where
   pub version : ℕ
   pub nodes : ℕ
@@ -25,7 +26,10 @@ pub record Shown : Type 0 where
   pub depth : ℕ
   pub staged : ℕ
 
--- what is told to a line: nothing; how many edits are staged, or were dropped; the version of a commit; a distance; next hops; what a label does; the links of a packet's walk from a node, where there is one; P, extended P and Q; the answer of a case for a destination, with its labels; why there is no repair whose packet could be walked; how many answers of each sort the audit of a version has; that audit; what is shown; or why the line is refused
+-- what is told to a line: nothing; how many edits are staged, or were dropped; the version of a commit; a distance;
+-- next hops; what a label does; the links of a packet's walk from a node, where there is one; P, extended P and Q;
+-- the answer of a case for a destination, with its labels; why there is no repair whose packet could be walked; how
+-- many answers of each sort the audit of a version has; that audit; what is shown; or why the line is refused
 pub data Told : Type 0 where
   Nothing : Told
   Staged : ℕ → Told

@@ -1,4 +1,4 @@
-//! The lines that a session answers, each appended with its line feed. A call fails only for want of memory: then a
+//! The lines that a session answers, each appended with its line feed. A call fails only out of memory: then a
 //! part of its line may stand there, and what stood before stays.
 #![tactic(auto)]
 
@@ -16,6 +16,7 @@ mod spaces;
 #[cfg(test)]
 mod tests;
 mod walk;
+mod way;
 
 pub use answers::put_answers;
 pub use audit::put_summary;

@@ -55,7 +55,12 @@ pub(crate) fn put_node_text(net: &Net, node: NodeNo, out: &mut Vec<u8>) -> Resul
 
 /// Appends `repair KIND LINK to NODE`. After an error a part of it may stand there;
 /// what stood before stays.
-fn put_case(net: &Net, case: Case, destination: NodeNo, out: &mut Vec<u8>) -> Result<(), AllocError>
+fn put_case_text(
+    net: &Net,
+    case: Case,
+    destination: NodeNo,
+    out: &mut Vec<u8>,
+) -> Result<(), AllocError>
     requires case { IsCase net.now.graph case }
     requires destination { destination.0 < node_count net.now.graph }
     ensures line { OnOk result (out.new.items ≡ out.old.items ++ case_text net.now case destination.0) }
@@ -212,7 +217,7 @@ pub fn put_repair(
     ensures line { OnOk result (out.new.items ≡ out.old.items ++ repair_line net.now case destination.0 answer.now labels.now) }
     ensures err { OnErr result (BeginsWith out.old.items out.new.items) }
 {
-    put_case(net, case, destination, out)?;
+    put_case_text(net, case, destination, out)?;
     put_answer(net, answer, labels, out)?;
     end(out)
 }

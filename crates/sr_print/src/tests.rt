@@ -23,54 +23,54 @@ fn lines_are_printed(rt: HostRuntime) -> Result<(), AllocError> {
     Ok(())
 }
 
+/// Two system ids.
+fn two_systems() -> Option<(SystemId, SystemId)> {
+    match (SystemId::new(3), SystemId::new(0xabc)) {
+        (Some(low), Some(high)) => Some((low, high)),
+        _ => None,
+    }
+}
+
 #[test]
 fn refusals_are_printed(rt: HostRuntime) -> Result<(), AllocError> {
     let mut out = Vec::new(rt.alloc());
-    let (Some(low), Some(high)) = (SystemId::new(3), SystemId::new(0xabc)) else {
+    let Some((from, to)) = two_systems() else {
         return Ok(());
     };
+    let malformed = Refusal::Malformed {
+        offset: 45,
+        what: 8,
+    };
     put_refused(1, &Refusal::NoVersion, &mut out)?;
-    put_refused(
-        2,
-        &Refusal::Malformed {
-            offset: 45,
-            what: 8,
-        },
-        &mut out,
-    )?;
-    put_refused(
-        3,
-        &Refusal::Rule(DomainRule::DuplicateIndex {
-            index: 3,
-            low,
-            high,
-        }),
-        &mut out,
-    )?;
-    put_refused(
-        4,
-        &Refusal::Rule(DomainRule::IndexOutside {
-            index: 300,
-            node: low,
-        }),
-        &mut out,
-    )?;
-    put_refused(
-        5,
-        &Refusal::NoLink {
-            from: low,
-            to: high,
-            n: 1,
-        },
-        &mut out,
-    )?;
-    put_refused(
-        6,
-        &Refusal::Rule(DomainRule::TooManyLinks { count: 2_070 }),
-        &mut out,
-    )?;
+    put_refused(2, &malformed, &mut out)?;
+    put_refused(5, &Refusal::NoLink { from, to, n: 1 }, &mut out)?;
     let text =
-        "refused 1 25 NoVersion\nrefused 2 4 Malformed 45 8\nrefused 3 13 DuplicateIndex 3 0000.0000.0003 0000.0000.0abc\nrefused 4 14 IndexOutside 300 0000.0000.0003\nrefused 5 22 NoLink 0000.0000.0003 0000.0000.0abc 1\nrefused 6 19 TooManyLinks 2070\n";
+        "refused 1 25 NoVersion\nrefused 2 4 Malformed 45 8\nrefused 5 22 NoLink 0000.0000.0003 0000.0000.0abc 1\n";
+    assert_eq!(rt; out.as_slice(), text.as_bytes());
+    Ok(())
+}
+
+#[test]
+fn broken_rules_are_printed(rt: HostRuntime) -> Result<(), AllocError> {
+    let mut out = Vec::new(rt.alloc());
+    let Some((low, high)) = two_systems() else {
+        return Ok(());
+    };
+    let shared = DomainRule::DuplicateIndex {
+        index: 3,
+        low,
+        high,
+    };
+    let outside = DomainRule::IndexOutside {
+        index: 300,
+        node: low,
+    };
+    let many = DomainRule::TooManyLinks { count: 2_070 };
+    put_refused(3, &Refusal::Rule(shared), &mut out)?;
+    put_refused(4, &Refusal::Rule(outside), &mut out)?;
+    put_refused(6, &Refusal::Rule(many), &mut out)?;
+    let text =
+        "refused 3 13 DuplicateIndex 3 0000.0000.0003 0000.0000.0abc\nrefused 4 14 IndexOutside 300 0000.0000.0003\nrefused 6 19 TooManyLinks 2070\n";
     assert_eq!(rt; out.as_slice(), text.as_bytes());
     Ok(())
 }

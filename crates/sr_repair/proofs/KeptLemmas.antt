@@ -1,4 +1,4 @@
--- What is kept after the passes over all cases.
+-- The kept answers after the passes over all cases.
 use Rattle.std.proofs.Common.{◌≡◌, ℕ, ◌<◌, ◌≤◌, List, [], ◌∷◌, ◌++◌, map, length, arith, sym, ◌∙◌, subst}
 use Rattle.std.proofs.lemmas.List.{append_assoc, get_or-map, length-map}
 use Rattle.sr_model.specs.declared.case.Case.{Case}
@@ -16,7 +16,7 @@ use Rattle.sr_repair.specs.declared.answers.Found.TheVariants.{Own, AsLink as As
 use Rattle.sr_repair.specs.Answers.{case_count, slot_of, link_case, AreAllPassed, AreAllFound, IsPassed, IsFound, searches_of, searches, kept_of, IsAnswered}
 use Rattle.sr_repair.proofs.KindLemmas.{answers-from}
 
--- what is kept after the pass is found for the case
+-- the kept answers after the pass are those found for the case
 kept-found : (n : Net) (case : Case) (one : Passed) → IsPassed n case one → IsFound n case (kept_of one)
 kept-found n case Nothing none = record {
   ascending = λ i j lt end. absurd (omega arith);
@@ -27,7 +27,7 @@ kept-found n case Nothing none = record {
 kept-found n case AsLink like = like
 kept-found n case (Listed list search) answers = answers
 
--- what is kept after the passes is found for the cases
+-- the kept answers after the passes are those found for the cases
 pub all-kept : (n : Net) (m : ℕ) (passed : List Passed) → AreAllPassed n m passed → AreAllFound n m (map kept_of passed)
 all-kept n m passed r = record {
   long = length-map passed kept_of ∙ r.long;
@@ -54,11 +54,11 @@ rank-small LinkKind = omega arith
 rank-small NodeKind = omega arith
 rank-small RiskKind = omega arith
 
--- what is found for a case
+-- the answers found for a case
 found-for : (n : Net) (found : List Found) → AreAllFound n (case_count n.graph) found → (case : Case) → IsCase n.graph case → (one : Found) × IsFound n case one
 found-for n found all case within = (_, all.each case within (let small : rank_of case.kind < 3 = rank-small case.kind in omega (arith, small, within)))
 
--- a case of kind link has answers of its own
+-- a link case has answers of its own
 own-answers : (n : Net) (case : Case) (one : Found) → IsFound n (link_case case) one → (answers : List NodeAnswer) × AreAnswers n (link_case case) answers
 own-answers n case (Own list) a = (list, a)
 own-answers n case AsLinkFound like = absurd (let bad : LinkKind ≡ RiskKind = like.risk in cc)

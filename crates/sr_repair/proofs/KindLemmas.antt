@@ -1,4 +1,4 @@
--- A case of kind risk that fails with the links of the case of kind link has its answers.
+-- An SRLG case that fails with the links of the link case has its answers.
 use Rattle.std.proofs.Common.{◌≡◌, ℕ, Bool, List, sym, ◌∙◌}
 use Rattle.sr_model.specs.declared.case.Case.{Case}
 use Rattle.sr_model.specs.declared.case.Kind.TheVariants.{Link as LinkKind, Node as NodeKind, Risk as RiskKind}

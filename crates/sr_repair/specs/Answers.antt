@@ -39,11 +39,12 @@ pub record StandInSlots {X : Type 0} (default : X) (g : Graph) (Belongs : Case �
 abbrev pub AffectsSome : Net → Case → Type 0
 AffectsSome n case = (d : ℕ) × IsAffected n case d
 
--- the case of kind link that protects the same link
+-- the link case that protects the same link
 abbrev pub link_case : Case → Case
 link_case case = record { kind = LinkKind; link = case.link }
 
--- what the pass over the case gives: nothing where it affects no destination, that its answers are those of the case of kind link where it fails as that does, or its answers
+-- what the pass over the case gives: nothing where it affects no destination, that its answers are those of the link
+-- case where it fails as that does, or its answers
 abbrev pub IsPassed : Net → Case → Passed → Type 0
 IsPassed n case Nothing = AffectsSome n case → ⊥
 IsPassed n case AsLink = FailsAsLink n.graph case
@@ -68,18 +69,18 @@ abbrev pub searches : List Passed → ℕ
 searches [] = 0
 searches (one ∷ rest) = searches_of one + searches rest
 
--- what is kept after the pass: the answers, or that they are those of the case of kind link
+-- the kept answers after the pass: the case's own, or a note that they are those of the link case
 abbrev pub kept_of : Passed → Found
 kept_of Nothing = Own []
 kept_of AsLink = AsLinkFound
 kept_of (Listed list search) = Own list
 
--- the answers of the case, or that it fails as the case of kind link does
+-- the answers of the case, or that it fails as the link case does
 abbrev pub IsFound : Net → Case → Found → Type 0
 IsFound n case (Own list) = AreAnswers n case list
 IsFound n case AsLinkFound = FailsAsLink n.graph case
 
--- what is found for the cases in the first m slots
+-- the answers found for the cases in the first m slots
 abbrev pub AreAllFound : Net → ℕ → List Found → Type 0
 AreAllFound n = StandInSlots AsLinkFound n.graph (IsFound n)
 

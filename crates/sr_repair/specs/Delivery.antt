@@ -13,7 +13,8 @@ use Rattle.sr_model.specs.Case.{IsCase, IsFailedSet, IsAffected, source_of}
 use Rattle.sr_model.specs.Repair.{IsCaseAnswer}
 use Rattle.sr_model.specs.Forward.{IsStack, Run, Delivers, crossed}
 
--- the labels, from the top down, on the first link of the repair deliver: over every rest, whichever equal-cost links the other nodes take, the packet comes to d along a shortest walk without the failed links, and meets no node twice
+-- the labels, from the top down, on the first link of the repair deliver: over every rest, whichever equal-cost links
+-- the other nodes take, the packet reaches d along a shortest walk without the failed links, which is loop-free
 pub record RepairDelivers (n : Net) (case : Case) (d : ℕ) (list : RepairList) (labels : List ℕ) : Type 0 where
   pub delivers : (x : List Bool) → IsFailedSet n.graph case x → Delivers n x (source_of n.graph case) d list.first.0 labels
   pub distinct : (rest : List ℕ) (ms : List Move) (v : ℕ) (after : List ℕ) → Run n [] rest (head n.graph list.first.0) (labels ++ rest) ms v after

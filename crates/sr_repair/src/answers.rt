@@ -14,16 +14,16 @@ use sr_spf::Steps;
 use std::alloc::{AllocError, Global};
 use std::sync::ledger::Ledger;
 
-/// What is kept of a case.
+/// The kept answers of a case.
 #[derive(Drop)]
 pub(crate) enum Found {
     /// Its answers.
     Own(CaseAnswers),
-    /// That its answers are those of the case of kind link.
+    /// That its answers are those of the link case.
     AsLink,
 }
 
-/// What is kept of a case after the pass over it. The search that was made for it is taken in.
+/// The kept answers of a case after the pass over it. The search that was made for it is taken in.
 fn kept<L: Ledger>(alloc: Global, passed: Passed, steps: &mut Steps<L>) -> Found
     ensures found { result ≡ kept_of passed }
     ensures steps { steps.new ≡ steps.old + searches_of passed }
@@ -38,7 +38,7 @@ fn kept<L: Ledger>(alloc: Global, passed: Passed, steps: &mut Steps<L>) -> Found
     }
 }
 
-/// What is kept of all cases after the passes over them. The searches that were made for them are taken in.
+/// The kept answers of all cases after the passes over them. The searches that were made for them are taken in.
 pub(crate) fn all_kept<L: Ledger>(
     alloc: Global,
     passed: Vec<Passed>,
@@ -56,7 +56,7 @@ pub(crate) fn all_kept<L: Ledger>(
     Ok(found)
 }
 
-/// The answers of a case of kind link, from what is kept.
+/// The answers of a link case, among the kept ones.
 fn answers_of_link<'a>(net: &Net, found: &'a [Found], case: Case) -> &'a CaseAnswers
     requires case { IsCase net.now.graph case }
     requires kind { case.kind ≡ LinkKind }
@@ -69,7 +69,7 @@ fn answers_of_link<'a>(net: &Net, found: &'a [Found], case: Case) -> &'a CaseAns
     }
 }
 
-/// The answers of the case, from what is kept.
+/// The answers of the case, among the kept ones.
 pub(crate) fn answers_of<'a>(net: &Net, found: &'a [Found], case: Case) -> &'a CaseAnswers
     requires case { IsCase net.now.graph case }
     requires found { AreAllFound net.now (case_count net.now.graph) found.now }

@@ -6,7 +6,7 @@ ghost use Rattle.sr_repair.specs.Answers.{place_of, slot_of, case_count, link_ca
 use sr_graph::Graph;
 use sr_model::{Case, Kind, LinkNo};
 
-/// The slot in which what is found for the case is kept. The cases of a link stand together: with all cases of one kind
+/// The slot in which the answers of the case are kept. The cases of a link stand together: with all cases of one kind
 /// after another, some threads would have the easy ones alone.
 pub(crate) fn slot_of(graph: &Graph, case: Case) -> u32
     requires { IsCase graph.now case }
@@ -73,7 +73,7 @@ pub fn case_at(graph: &Graph, place: u32) -> Case
     }
 }
 
-/// The case of kind link that protects the same link.
+/// The link case that protects the same link.
 pub(crate) fn link_case(case: Case) -> Case
     ensures { result ≡ link_case case }
 {

@@ -16,7 +16,7 @@ use std::thread::{Threads, join};
 /// From how many nodes on the label tables are worth a thread of their own: each node has an entry for each other.
 const MANY: u32 = 64;
 
-/// The label tables of a net, and what is kept of all cases, in order of slot.
+/// The label tables of a net, and the kept answers of all cases, in order of slot.
 #[derive(Drop)]
 pub(crate) struct Made {
     pub(crate) fib: Fib,
@@ -52,7 +52,7 @@ fn fib_and_passes(
     Ok((fib?, passed?))
 }
 
-/// The label tables of the net, and what is kept of all cases: in threads where there are any. At most one search is
+/// The label tables of the net, and the kept answers of all cases: in threads where there are any. At most one search is
 /// counted for each case.
 pub(crate) fn made_of<L: Ledger>(
     rt: &(impl Threads + Sync),

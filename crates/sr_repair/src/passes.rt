@@ -29,7 +29,7 @@ const CASES: Share = Share {
 pub(crate) enum Passed {
     /// Nothing, since the case affects no destination.
     Nothing,
-    /// That its answers are those of the case of kind link.
+    /// That its answers are those of the link case.
     AsLink,
     /// Its answers, and that one search for distances was counted for them.
     Listed(CaseAnswers, Searched),
@@ -79,7 +79,7 @@ fn pass(alloc: Global, net: &Net, trees: &Trees, case: Case) -> Result<Passed, A
     requires case { IsCase net.now.graph case }
     ensures { IfOk result (IsPassed net.now case) }
 {
-    // Most cases of kind risk do, since few links share a group.
+    // Most SRLG cases do, since few links share a group.
     if net.graph().fails_as_link(case) {
         return Ok(Passed::AsLink);
     }

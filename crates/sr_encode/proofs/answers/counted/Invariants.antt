@@ -6,4 +6,4 @@ use Rattle.sr_encode.proofs.answers.counted.Given as goal
 
 -- the counts of the answers so far, whatever their segments
 abbrev pub invariant-loop-kept : goal.invariant-loop-kept
-invariant-loop-kept l = (segments : List Segment) → l.counts ≡ counts_in (entries segments (take l.kept-index l.list))
+invariant-loop-kept l = (segments : List Segment) → l.counts ≡ counts_in (entries segments l.outcomes (take l.kept-index l.list))

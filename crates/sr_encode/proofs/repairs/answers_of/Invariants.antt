@@ -1,11 +1,16 @@
-use Rattle.std.proofs.Common.{◌≤◌, ◌*◌, length}
+use Rattle.std.proofs.Common.{◌≡◌}
 use Rattle.sr_encode.specs.Answered.{AreAnswered}
-use Rattle.sr_encode.specs.Kept.{AreWithin, entries}
+use Rattle.sr_encode.specs.Collected.{IsCollected}
+use Rattle.sr_encode.specs.Kept.{AreKeptWithin, entries}
 use Rattle.sr_encode.proofs.repairs.answers_of.Given as goal
 
--- the answers so far; a list has at most 65,535 segments
+-- the answers so far, and what was collected for them
 abbrev pub invariant-loop-j : goal.invariant-loop-j
-invariant-loop-j l =
-    AreAnswered l.net l.failed l.source.0 l.wanted l.j (entries l.segments.items l.kept.items)
-    × AreWithin l.segments.items l.kept.items
-    × (length l.segments.items ≤ 65535 * l.j)
+invariant-loop-j l = record {
+  net : l.collected.net.now ≡ l.net;
+  source : l.collected.source ≡ l.fn.source;
+  queue : l.collected.queue.now ≡ l.found.queue.items;
+  collected : IsCollected l.collected;
+  answered : AreAnswered l.net l.failed l.fn.source.0 l.wanted l.j (entries l.collected.segments.items l.collected.outcomes.items l.kept.items);
+  within : AreKeptWithin l.collected.segments.items l.collected.outcomes.items l.kept.items;
+}

@@ -3,9 +3,13 @@ use Rattle.sr_repair.proofs.StackLemmas.{list-labels}
 use Rattle.sr_print.proofs.Items.{uncovered-put}
 use Rattle.sr_print.proofs.answers.put_answer.Goals as goal
 
-pub put_least-requires-clause-segments : goal.put_least-requires-clause-segments
-put_least-requires-clause-segments c =
-    (list-labels c.args.net.now c.args.case c.args.entry.now.destination.0 c.in-Least.list (rw c.in-Least.is at c.requires.answer)).1
+pub put_least-requires-clause-way : goal.put_least-requires-clause-way
+put_least-requires-clause-way c = rw c.in-Least.is at c.requires.way
+
+pub put_least-requires-clause-list : goal.put_least-requires-clause-list
+put_least-requires-clause-list c =
+    let labels = list-labels c.args.net.now c.args.case c.args.entry.now.destination.0 c.in-Least.list (rw c.in-Least.is at c.requires.entry.answers) in
+    (labels.0, labels.1)
 
 pub returns-in_default : goal.returns-in_default
 returns-in_default c = record {

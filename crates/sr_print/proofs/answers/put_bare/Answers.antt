@@ -16,7 +16,7 @@ returns-in-None-clause-line c =
     let crossing : Crossing n c.args.d.0 (head n.graph c.args.first.0) [] [] = subst (λ (m : ℕ). Crossing n c.args.d.0 m [] []) at c.in-None.ensures in
     on_ok_weaker c.extend_from_slice.result
     (λ is. bare-none n c.args.d.0 c.args.first.0 old new crossing is)
-    (on_ok c.extend_from_slice.result old new (codes " segments none labels none") c.extend_from_slice.ensures.items)
+    (on_ok c.extend_from_slice.result old new (codes " none") c.extend_from_slice.ensures.items)
 
 pub returns-in-Some-clause-line : goal.returns-in-Some-clause-line
 returns-in-Some-clause-line c =
@@ -24,6 +24,6 @@ returns-in-Some-clause-line c =
     let label = c.in-Some.label in
     let at : c.edge.result.to.0 ≡ head n.graph c.args.first.0 = c.edge.ensures.to ∙ ap (λ (g : Graph). head g c.args.first.0) c.graph.ensures.value in
     let crossing : Crossing n c.args.d.0 (head n.graph c.args.first.0) [] (label ∷ []) = subst (λ (m : ℕ). Crossing n c.args.d.0 m [] (label ∷ [])) at c.in-Some.ensures in
-    on_ok_weaker c.put_numbered.result
-    (λ is. bare-some n c.args.d.0 c.args.first.0 label c.from.result c.args.out.now.items c.put_numbered.new.out.items crossing c.from.ensures is)
-    c.put_numbered.ensures.line
+    on_ok_weaker c.put_value.result
+    (λ is. bare-some n c.args.d.0 c.args.first.0 label c.from.result c.args.out.now.items c.put_value.new.out.items crossing c.from.ensures is)
+    c.put_value.ensures.line

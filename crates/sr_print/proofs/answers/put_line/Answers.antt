@@ -16,8 +16,8 @@ returns-clause-line c =
     let one = c.extend_from_slice.new.self.items in
     let two = c.extend_from_slice-2.new.self.items in
     let three = c.put_answer.new.out.items in
-    let d : entry.destination.0 < node_count n.graph = affected-within n c.args.case entry.destination.0 c.graph-graph.ensures.net.nodes c.requires.affected in
-    let first : one ≡ old ++ case_head n c.args.case = c.in_ok-extend_from_slice.ensures.items ∙ ap (λ (t : List ℕ). old ++ t) c.requires.head in
+    let d : entry.destination.0 < node_count n.graph = affected-within n c.args.case entry.destination.0 c.graph-graph.ensures.net.nodes c.requires.entry.affected in
+    let first : one ≡ old ++ case_head n c.args.case = c.in_ok-extend_from_slice.ensures.items ∙ ap (λ (t : List ℕ). old ++ t) c.requires.texts.begins in
     let second : two ≡ one ++ node_text n entry.destination.0 = c.in_ok-extend_from_slice-2.ensures.items ∙ ap (λ (t : List ℕ). one ++ t) (c.node.ensures ∙ c.requires.names.nodes.each entry.destination.0 d) in
     on_ok_weaker c.end.result
     (λ is. line-put n c.args.case entry old one two three c.end.new.out.items first second c.in_ok-put_answer.ensures.line is)
@@ -33,3 +33,6 @@ returns-clause-err c =
     let answer = answer_text c.args.net.now c.args.entry.now.answer puts.labels in
     let so_far : three ≡ old ++ (c.args.head.now ++ c.node.result.now ++ answer) = three_pieces old one two three c.args.head.now c.node.result.now answer c.in_ok-extend_from_slice.ensures.items c.in_ok-extend_from_slice-2.ensures.items puts.text in
     on_err_weaker c.end.result (begins-longer old three c.end.new.out.items (c.args.head.now ++ c.node.result.now ++ answer) so_far) c.end.ensures.err
+
+pub put_answer-requires-clause-way : goal.put_answer-requires-clause-way
+put_answer-requires-clause-way c = c.requires.texts.goes_on

@@ -5,7 +5,7 @@ use Rattle.sr_model.specs.declared.link.Link.{Link}
 use Rattle.sr_model.specs.declared.name.LinkKey.{LinkKey}
 use Rattle.sr_model.specs.Case.{key_at}
 use Rattle.sr_model.specs.Graph.{Graph}
-use Rattle.sr_print.specs.Links.{ends_text, link_text, place_of}
+use Rattle.sr_print.specs.Links.{ends_text, link_text, place_between}
 use Rattle.sr_print.proofs.Appended.{two_pieces}
 use Rattle.sr_print.proofs.Places.{place_is}
 use Rattle.sr_print.proofs.link.put_link_text.Goals as goal
@@ -17,7 +17,7 @@ returns-clause-line c =
     let old = c.args.out.now.items in
     let l = c.args.link.0 in
     let key : c.link-key.result.key ≡ key_at net.graph l = ap (λ (k : Link). k.key) c.link-key.ensures.link ∙ ap (λ (g : Graph). key_at g l) c.graph.ensures.value in
-    let place : c.place.result ≡ place_of net.announced (key_at net.graph l) = place_is net l c.place.result c.graph.ensures.accepted c.requires c.place.ensures in
+    let place : c.place.result ≡ place_between net.announced (key_at net.graph l) = place_is net l c.place.result c.graph.ensures.accepted c.requires c.place.ensures in
     on_ok_weaker c.put_numbered.result
     (λ last. two_pieces old c.put_ends.new.out.items c.put_numbered.new.out.items (ends_text c.link-key.result.key) (35 ∷ decimal c.place.result) c.in_ok-put_ends.ensures.line last
     ∙ ap (λ (k : LinkKey). old ++ (ends_text k ++ 35 ∷ decimal c.place.result)) key

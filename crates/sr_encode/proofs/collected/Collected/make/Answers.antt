@@ -1,0 +1,30 @@
+use Rattle.std.proofs.Common.{◌≡◌, ◌+◌, ◌++◌, length, refl, ap, ◌∙◌, arith}
+use Rattle.std.proofs.lemmas.List.{length-append}
+use Rattle.sr_encode.specs.Waypoints.{waypoint_at, segments_to}
+use Rattle.sr_encode.proofs.QueueLemmas.{segments-long}
+use Rattle.sr_encode.proofs.collected.Collected.make.Goals as goal
+
+-- what is put behind the segments: those of the list, which are as many as the waypoint is deep
+put : (c : goal.After-len) → c.extend_from_slice.new.self.items ≡ c.args.self.now.segments.items ++ segments_to c.args.self.now.queue.now (waypoint_at c.args.self.now.queue.now c.args.place).depth c.args.place
+put c = c.in_ok-extend_from_slice.ensures.items ∙ ap (λ l. c.args.self.now.segments.items ++ l) (c.deref.ensures.value ∙ c.in_ok-read_segments.ensures)
+
+count : (c : goal.After-len) → length c.extend_from_slice.new.self.items ≡ length c.args.self.now.segments.items + (waypoint_at c.args.self.now.queue.now c.args.place).depth
+count c =
+    ap length (put c)
+    ∙ length-append c.args.self.now.segments.items (segments_to c.args.self.now.queue.now (waypoint_at c.args.self.now.queue.now c.args.place).depth c.args.place)
+    ∙ ap (λ k. length c.args.self.now.segments.items + k) (segments-long c.args.self.now.queue.now (waypoint_at c.args.self.now.queue.now c.args.place).depth c.args.place)
+
+pub overflow_cast-result-2 : goal.overflow_cast-result-2
+overflow_cast-result-2 c =
+    let end : c.len.result ≡ length c.extend_from_slice.new.self.items = omega (arith, c.len.ensures, c.extend_from_slice.new.self.ok.0) in
+    omega (arith, end, count c, c.requires.collected.few, c.requires.few, (c.requires.collected.parents c.args.place c.requires.place).1)
+
+pub returns-clause-adds : goal.returns-clause-adds
+returns-clause-adds c = record {
+  same = record { net = refl; source = refl; queue = refl };
+  outcomes = refl;
+  known = refl;
+  more = segments_to c.args.self.now.queue.now (waypoint_at c.args.self.now.queue.now c.args.place).depth c.args.place;
+  segments = put c;
+  few = omega (arith, segments-long c.args.self.now.queue.now (waypoint_at c.args.self.now.queue.now c.args.place).depth c.args.place, (c.requires.collected.parents c.args.place c.requires.place).1);
+}

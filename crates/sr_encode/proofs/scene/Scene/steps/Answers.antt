@@ -1,0 +1,18 @@
+use Rattle.sr_model.specs.declared.repair.Segment.TheVariants.{Node}
+use Rattle.sr_encode.specs.Search.{StepsTo}
+use Rattle.sr_encode.proofs.BitLemmas.{size-less, sifted-start}
+use Rattle.sr_encode.proofs.SceneLemmas.{picked, step-sum}
+use Rattle.sr_encode.proofs.scene.Scene.steps.Goals as goal
+
+pub left-init : goal.left-init
+left-init c = (
+  picked c.args.self.now c.args.w.0 (λ v. StepsTo c.args.self.now c.args.w.0 (Node (record { 0 = v })) v) c.args.among c.fits.result c.and-left.result c.fits.ensures.sums c.and-left.ensures
+      (λ v yes holds. step-sum c.args.self.now c.args.w.0 (record { 0 = v }) c.fits.result c.fits.ensures.sums holds),
+  sifted-start (λ v. StepsTo c.args.self.now c.args.w.0 (Node (record { 0 = v })) v) c.and-left.result c.none-found.result c.none-found.ensures,
+)
+
+pub left-smaller-then-leads_to : goal.left-smaller-then-leads_to
+left-smaller-then-leads_to c = size-less c.left.left c.take_first.new.self c.in-Some.node c.in-Some.ensures.first c.in-Some.ensures.left
+
+pub left-smaller : goal.left-smaller
+left-smaller c = size-less c.left.left c.take_first.new.self c.in-Some.node c.in-Some.ensures.first c.in-Some.ensures.left

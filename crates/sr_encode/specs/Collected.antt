@@ -1,0 +1,77 @@
+-- How the outcomes of a search are collected, each once.
+use Rattle.std.specs.Prelude.{◌≡◌, ℕ, ◌*◌, ◌^◌, ◌<◌, ◌≤◌, List, ◌++◌, length, Option, Some, None, slice_index_or, slice_range, All}
+use Rattle.sr_model.specs.declared.link.NodeNo.{NodeNo}
+use Rattle.sr_model.specs.declared.link.TheConstants.{FAR}
+use Rattle.sr_model.specs.declared.repair.Segment.{Segment}
+use Rattle.sr_model.specs.Graph.{node_count}
+use Rattle.sr_model.specs.Label.{Net}
+use Rattle.sr_model.specs.Repair.{Fits}
+use Rattle.sr_encode.specs.declared.collected.Collected.{Collected}
+use Rattle.sr_encode.specs.declared.kept.Outcome.{Outcome}
+use Rattle.sr_encode.specs.declared.kept.Outcome.TheVariants.{Least, NoPath, NoList, TooDeep}
+use Rattle.sr_encode.specs.declared.kept.TheConstants.{NO_PATH, NO_LIST}
+use Rattle.sr_encode.specs.declared.waypoint.Waypoint.{Waypoint}
+use Rattle.sr_encode.specs.Kept.{outcome_at, HasSegments}
+use Rattle.sr_encode.specs.Waypoints.{waypoint_at, path_to, AreParents}
+
+-- the outcome is the list to the waypoint at place k where it fits at the source, and else how many segments it has
+abbrev pub IsOutcomeOf : Collected → ℕ → Outcome → Type 0
+IsOutcomeOf g k NoPath = ⊥
+IsOutcomeOf g k NoList = ⊥
+IsOutcomeOf g k (TooDeep needed) = ((waypoint_at g.queue.now k).depth ≡ needed) × (Fits g.net.now g.source.0 needed → ⊥)
+IsOutcomeOf g k (Least first begin end) =
+    (path_to g.queue.now k ≡ record { first = first.0; segments = slice_range g.segments.items begin end })
+    × Fits g.net.now g.source.0 (waypoint_at g.queue.now k).depth
+
+-- the outcome at place r is that of the waypoint at this place, and else no path where the cost is FAR, or no list
+abbrev pub IsOutcomeFor : Collected → ℕ → Option ℕ → ℕ → Type 0
+IsOutcomeFor g cost None r =
+    (FAR ≤ cost → outcome_at g.outcomes.items r ≡ NoPath) × (cost < FAR → outcome_at g.outcomes.items r ≡ NoList)
+IsOutcomeFor g cost (Some k) r = IsOutcomeOf g k (outcome_at g.outcomes.items r)
+
+-- first stand no path and no list, and where a waypoint has an outcome, it stands at the place that is known
+pub record IsCollected (g : Collected) : Type 0 where
+  pub source : g.source.0 < node_count g.net.now.graph
+  pub parents : AreParents g.queue.now
+  pub lists : All (HasSegments g.segments.items) g.outcomes.items
+  pub two : 2 ≤ length g.outcomes.items
+  pub nopath : outcome_at g.outcomes.items NO_PATH ≡ NoPath
+  pub nolist : outcome_at g.outcomes.items NO_LIST ≡ NoList
+  pub few : length g.segments.items ≤ 2 ^ 16 * length g.outcomes.items
+  pub long : length g.known.items ≡ length g.queue.now
+  pub each : (k r : ℕ) → slice_index_or g.known.items k None ≡ Some r
+      → (r < length g.outcomes.items) × IsOutcomeOf g k (outcome_at g.outcomes.items r)
+
+-- both are of the same search
+pub record IsOfSame (before after : Collected) : Type 0 where
+  pub net : after.net.now ≡ before.net.now
+  pub source : after.source ≡ before.source
+  pub queue : after.queue.now ≡ before.queue.now
+
+-- the segments of at most one list were put behind the others
+pub record HasMoreSegments (before after : Collected) : Type 0 where
+  pub same : IsOfSame before after
+  pub outcomes : after.outcomes.items ≡ before.outcomes.items
+  pub known : after.known.items ≡ before.known.items
+  pub more : List Segment
+  pub segments : after.segments.items ≡ before.segments.items ++ more
+  pub few : length more ≤ 2 ^ 16
+
+-- an outcome stands at place r afterwards, and at most one came behind the others
+pub record Gains (before after : Collected) (r : ℕ) : Type 0 where
+  pub collected : IsCollected after
+  pub same : IsOfSame before after
+  pub more : List Segment
+  pub segments : after.segments.items ≡ before.segments.items ++ more
+  pub added : List Outcome
+  pub outcomes : after.outcomes.items ≡ before.outcomes.items ++ added
+  pub few : length added ≤ 1
+  pub within : r < length after.outcomes.items
+
+-- no waypoint of the search has an outcome yet
+pub record IsStarted (n : Net) (s : NodeNo) (waypoints : List Waypoint) (g : Collected) : Type 0 where
+  pub collected : IsCollected g
+  pub net : g.net.now ≡ n
+  pub source : g.source ≡ s
+  pub queue : g.queue.now ≡ waypoints
+  pub few : length g.outcomes.items ≡ 2

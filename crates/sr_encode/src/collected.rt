@@ -1,0 +1,128 @@
+//! The outcomes of a search as they are collected, each once.
+ghost use Rattle.std.specs.Prelude.{◌≡◌, ◌<◌, ◌≤◌, ◌↔◌, length, IsTrue, IfOk, OnOk, Some};
+ghost use Rattle.sr_model.specs.Graph.{node_count};
+ghost use Rattle.sr_model.specs.Repair.{Fits};
+ghost use Rattle.sr_encode.specs.Collected.{IsOutcomeOf, IsOutcomeFor, IsCollected, IsStarted, HasMoreSegments, Gains};
+ghost use Rattle.sr_encode.specs.Kept.{HasSegments, outcome_at};
+ghost use Rattle.sr_encode.specs.Waypoints.{AreParents};
+
+use crate::kept::{NO_LIST, NO_PATH, Outcome};
+use crate::waypoint::{Waypoint, read_segments};
+use sr_labels::Net;
+use sr_model::{FAR, NodeNo, Segment};
+use std::alloc::{AllocError, Global};
+
+/// Whether a list of that many segments is let through at the node (RFC 8491, 5; this project's
+/// rule).
+fn fits(net: &Net, node: NodeNo, depth: u16) -> bool
+    requires { node.0 < node_count net.now.graph }
+    ensures { IsTrue result ↔ Fits net.now node.0 depth }
+{
+    match net.labels(node).imposes() {
+        Some(most) => depth < most as u16,
+        None => depth <= net.depth() as u16,
+    }
+}
+
+/// The outcomes of a search from `source`, whose waypoints stand in `queue`, and the segments of their lists. A waypoint
+/// gets its outcome when it first serves a destination, so that no list stands there twice.
+#[derive(Drop)]
+pub(crate) struct Collected<'a> {
+    net: &'a Net,
+    source: NodeNo,
+    queue: &'a [Waypoint],
+    pub(crate) outcomes: Vec<Outcome>,
+    /// The segments of the lists, one list after the other.
+    pub(crate) segments: Vec<Segment>,
+    /// The place of the outcome of each waypoint, once it has one.
+    known: Vec<Option<u16>>,
+    /// Room for the segments of a list.
+    list: Vec<Segment>,
+}
+
+impl<'a> Collected<'a> {
+    /// Of a search whose waypoints haven't served any destination yet.
+    pub(crate) fn new(
+        alloc: Global,
+        net: &'a Net,
+        source: NodeNo,
+        queue: &'a [Waypoint],
+    ) -> Result<Collected<'a>, AllocError>
+        requires source { source.0 < node_count net.now.graph }
+        requires parents { AreParents queue.now }
+        ensures { IfOk result (IsStarted net.now source queue.now) }
+    {
+        let mut outcomes = Vec::with_capacity(alloc, 8)?;
+        outcomes.push(Outcome::NoPath)?;
+        outcomes.push(Outcome::NoList)?;
+        Ok(Collected {
+            net,
+            source,
+            queue,
+            outcomes,
+            segments: Vec::new(alloc),
+            known: vec![in alloc; None; queue.len()]?,
+            list: Vec::new(alloc),
+        })
+    }
+
+    /// The outcome of the waypoint at this place of the queue. The segments of its list are put behind those of the
+    /// others.
+    fn make(&mut self, place: u16) -> Result<Outcome, AllocError>
+        requires collected { IsCollected self.old }
+        requires few { length self.old.outcomes.items ≤ 300 }
+        requires place { place < length self.old.queue.now }
+        ensures adds { OnOk result (HasMoreSegments self.old self.new) }
+        ensures outcome { IfOk result (λ made.
+            IsOutcomeOf self.new place made × HasSegments self.new.segments.items made) }
+    {
+        let waypoint = self.queue[place as usize];
+        if !fits(self.net, self.source, waypoint.depth) {
+            return Ok(Outcome::TooDeep {
+                needed: waypoint.depth as u32,
+            });
+        }
+        read_segments(self.queue, place as usize, &mut self.list)?;
+        let begin = self.segments.len() as u32;
+        self.segments.extend_from_slice(&self.list)?;
+        Ok(Outcome::Least {
+            first: waypoint.first,
+            begin,
+            end: self.segments.len() as u32,
+        })
+    }
+
+    /// The place of the outcome of the waypoint at this place of the queue.
+    fn outcome_of(&mut self, place: u16) -> Result<u16, AllocError>
+        requires collected { IsCollected self.old }
+        requires few { length self.old.outcomes.items ≤ 300 }
+        requires place { place < length self.old.queue.now }
+        ensures gains { IfOk result (Gains self.old self.new) }
+        ensures outcome { IfOk result (λ r. IsOutcomeOf self.new place (outcome_at self.new.outcomes.items r)) }
+    {
+        if let Some(known) = self.known[place as usize] {
+            return Ok(known);
+        }
+        let outcome = self.make(place)?;
+        let last = self.outcomes.len() as u16;
+        self.outcomes.push(outcome)?;
+        self.known[place as usize] = Some(last);
+        Ok(last)
+    }
+
+    /// The place of the outcome for a destination at this distance, which the waypoint at this place of the queue serves,
+    /// if one does.
+    pub(crate) fn outcome_for(&mut self, cost: u64, place: Option<u16>) -> Result<u16, AllocError>
+        requires collected { IsCollected self.old }
+        requires few { length self.old.outcomes.items ≤ 300 }
+        requires place { (k : _) → place ≡ Some k → k < length self.old.queue.now }
+        ensures gains { IfOk result (Gains self.old self.new) }
+        ensures outcome { IfOk result (IsOutcomeFor self.new cost place) }
+    {
+        match place {
+            Some(place) => self.outcome_of(place),
+            None if cost >= FAR => Ok(NO_PATH),
+            None => Ok(NO_LIST),
+        }
+    }
+}

@@ -1,0 +1,201 @@
+//! The scene of a search: what a failure leaves of a net.
+ghost use Rattle.std.specs.Prelude.{◌≡◌, ◌<◌, ◌↔◌, ℕ, false, true, slice_index, IsTrue, MatchOption};
+ghost use Rattle.sr_model.specs.declared.link.TheConstants.{FAR as Far};
+ghost use Rattle.sr_lanes.specs.Bits.{is_in};
+ghost use Rattle.sr_model.specs.declared.link.NodeNo.{NodeNo as Number};
+ghost use Rattle.sr_model.specs.declared.repair.Segment.TheVariants.{Node, Adj};
+ghost use Rattle.sr_model.specs.Graph.{node_count, link_count, tail, is_overloaded, IsGraph};
+ghost use Rattle.sr_model.specs.Walk.{IsRow};
+ghost use Rattle.sr_encode.specs.Aftermath.{IsAftermath, AddUpFrom, AddsUp, AreInside};
+ghost use Rattle.sr_encode.specs.Search.{StepsTo, StepsNowhere, BeginsAt, BeginsNowhere};
+ghost use Rattle.sr_encode.specs.Serve.{EndsAt};
+
+use sr_graph::Graph;
+use sr_labels::Net;
+use sr_lanes::{NodeBits, tight};
+use sr_model::{FAR, LinkNo, NodeNo};
+use sr_spaces::Spaces;
+use std::marker::Model;
+
+/// A net, the spaces of it where links fail, a source, and the distances from the source without those links.
+#[derive(Drop)]
+pub(crate) struct Scene<'a> {
+    net: &'a Net,
+    spaces: &'a Spaces<'a>,
+    cells: &'a [u64],
+    source: NodeNo,
+}
+
+impl<'a> Model for Scene<'a> {
+    ghost use Rattle.std.specs.Prelude.{◌≡◌};
+    ghost use Rattle.sr_encode.specs.Aftermath.{Aftermath, IsAftermath};
+
+    ghost Value = { Aftermath };
+
+    ghost view = { λ a. record { net = a.net.now; failed = a.spaces.now.failed; source = a.source.0; post = a.cells.now } };
+
+    ghost invariant = { λ a. (a.spaces.now.graph ≡ a.net.now.graph) × IsAftermath (record { net = a.net.now; failed = a.spaces.now.failed; source = a.source.0; post = a.cells.now }) };
+}
+
+impl<'a> Scene<'a> {
+    /// The scene of these: `cells` has the distances from the source where the links of `spaces` fail.
+    pub(crate) fn new(
+        net: &'a Net,
+        spaces: &'a Spaces<'a>,
+        cells: &'a [u64],
+        source: NodeNo,
+    ) -> Scene<'a>
+        requires graph { IsGraph net.now.graph }
+        requires same { spaces.now.graph ≡ net.now.graph }
+        requires source { source.0 < node_count net.now.graph }
+        requires cells { IsRow net.now.graph spaces.now.failed source.0 cells.now }
+        ensures { result ≡ record { net = net.now; failed = spaces.now.failed; source = source.0; post = cells.now } }
+    {
+        Scene {
+            net,
+            spaces,
+            cells,
+            source,
+        }
+    }
+
+    /// The graph.
+    pub(crate) fn graph(&self) -> &Graph
+        ensures value { result.now ≡ self.now.net.graph }
+        ensures after { IsAftermath self.now }
+    {
+        self.net.graph()
+    }
+
+    /// The source.
+    pub(crate) fn source(&self) -> NodeNo
+        ensures value { result.0 ≡ self.now.source }
+        ensures after { IsAftermath self.now }
+    {
+        self.source
+    }
+
+    /// Whether a walk without the failed links leads from the source to the node.
+    pub(crate) fn is_reached(&self, node: NodeNo) -> bool
+        requires { node.0 < node_count self.now.net.graph }
+        ensures value { IsTrue result ↔ (slice_index self.now.post node.0 < Far) }
+    {
+        self.cells[node.0 as usize] < FAR
+    }
+
+    /// The nodes at whose distances from the source the distances by w add up.
+    fn fits(&self, w: NodeNo) -> NodeBits
+        requires { w.0 < node_count self.now.net.graph }
+        ensures after { IsAftermath self.now }
+        ensures sums { AddUpFrom self.now w.0 result }
+    {
+        tight(self.cells, self.cells[w.0 as usize], self.spaces.row(w))
+    }
+
+    /// Whether lists to waypoint w can end there towards d.
+    fn ends_at(&self, w: NodeNo, d: NodeNo) -> bool
+        requires w { w.0 < node_count self.now.net.graph }
+        requires d { d.0 < node_count self.now.net.graph }
+        requires sum { AddsUp self.now w.0 d.0 }
+        ensures { IsTrue result ↔ EndsAt self.now w.0 d.0 }
+    {
+        // P is asked last, since failed links may have to be gone through.
+        self.net.graph().carries(d, w) && self.spaces.in_p(w, d)
+    }
+
+    /// Those of the nodes towards which lists to waypoint w can end there.
+    pub(crate) fn ends(&self, w: NodeNo, among: NodeBits) -> NodeBits
+        requires w { w.0 < node_count self.now.net.graph }
+        requires among { AreInside self.now among }
+        ensures after { IsAftermath self.now }
+        ensures these { (d : ℕ) → IsTrue (is_in result d) ↔ ((is_in among d ≡ true) × EndsAt self.now w.0 d) }
+    {
+        let mut left = self.fits(w).and(among);
+        let mut found = NodeBits::none();
+        'left: while let Some(node) = left.take_first() {
+            if self.ends_at(w, NodeNo(node as u16)) {
+                found = found.with(node);
+            }
+        }
+        found
+    }
+
+    /// Whether the node segment of v leads on from waypoint w, which isn't overloaded, and keeps to the distances from the
+    /// source.
+    fn leads_to(&self, w: NodeNo, v: NodeNo) -> bool
+        requires w { w.0 < node_count self.now.net.graph }
+        requires clear { is_overloaded self.now.net.graph w.0 ≡ false }
+        requires v { v.0 < node_count self.now.net.graph }
+        requires sum { AddsUp self.now w.0 v.0 }
+        ensures { IsTrue result ↔ StepsTo self.now w.0 (Node v) v.0 }
+    {
+        if v.0 == w.0 {
+            return false;
+        }
+        if self.net.labels(v).index().is_none() {
+            return false;
+        }
+        // Asked last, since failed links may have to be gone through.
+        self.spaces.in_p(w, v)
+    }
+
+    /// Those of the nodes to which a node segment leads on from waypoint w, which isn't overloaded, and keeps to the
+    /// distances from the source.
+    pub(crate) fn steps(&self, w: NodeNo, among: NodeBits) -> NodeBits
+        requires w { w.0 < node_count self.now.net.graph }
+        requires clear { is_overloaded self.now.net.graph w.0 ≡ false }
+        requires among { AreInside self.now among }
+        ensures after { IsAftermath self.now }
+        ensures these { (v : ℕ) → IsTrue (is_in result v)
+            ↔ ((is_in among v ≡ true) × StepsTo self.now w.0 (Node (record { 0 = v })) v) }
+    {
+        let mut left = self.fits(w).and(among);
+        let mut found = NodeBits::none();
+        'left: while let Some(node) = left.take_first() {
+            if self.leads_to(w, NodeNo(node as u16)) {
+                found = found.with(node);
+            }
+        }
+        found
+    }
+
+    /// The end of the link, where its adjacency segment leads on from its beginning, which isn't overloaded, and keeps to the
+    /// distances from the source.
+    pub(crate) fn step_over(&self, link: LinkNo) -> Option<NodeNo>
+        requires link { link.0 < link_count self.now.net.graph }
+        requires clear { is_overloaded self.now.net.graph (tail self.now.net.graph link.0) ≡ false }
+        ensures after { IsAftermath self.now }
+        ensures step { MatchOption result (StepsNowhere self.now link.0)
+            (λ (v : Number). StepsTo self.now (tail self.now.net.graph link.0) (Adj link) v.0) }
+    {
+        let edge = self.net.graph().edge(link);
+        if self.cells[edge.from.0 as usize] + edge.metric as u64 != self.cells[edge.to.0 as usize] {
+            return None;
+        }
+        if self.spaces.failed().has(link) {
+            return None;
+        }
+        if self.net.adj(link).is_none() {
+            return None;
+        }
+        Some(edge.to)
+    }
+
+    /// The end of a first link, where the link alone is a list that keeps to the distances from the source.
+    pub(crate) fn begin_over(&self, first: LinkNo) -> Option<NodeNo>
+        requires first { first.0 < link_count self.now.net.graph }
+        requires begins { tail self.now.net.graph first.0 ≡ self.now.source }
+        ensures after { IsAftermath self.now }
+        ensures begin { MatchOption result (BeginsNowhere self.now first.0)
+            (λ (v : Number). BeginsAt self.now first.0 v.0) }
+    {
+        let edge = self.net.graph().edge(first);
+        if self.spaces.failed().has(first) {
+            return None;
+        }
+        if edge.metric as u64 != self.cells[edge.to.0 as usize] {
+            return None;
+        }
+        Some(edge.to)
+    }
+}
