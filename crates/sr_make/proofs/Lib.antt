@@ -1,0 +1,4 @@
+pub mod PairLemmas
+pub mod SizeLemmas
+pub mod ScriptLemmas
+pub mod MakingLemmas

@@ -1,0 +1,7 @@
+pub mod Draws
+pub mod Pairs
+pub mod Nodes
+pub mod Script
+pub mod Making
+pub mod Sizes
+pub mod Joined
