@@ -29,7 +29,7 @@ use Rattle.sr_print.specs.Spaces.{node_words, set_line, spaces_lines}
 use Rattle.sr_print.specs.Told.{Told, spelled, is_refusal}
 use Rattle.sr_print.specs.Told.Told.{Spaces, Repair, Walk, Uncovered, Summary, Audit}
 use Rattle.sr_repair.specs.Version.{Numbered}
-use Rattle.sr_run.specs.Failures.{AreSpaces, IsRepaired, IsRepairWalked, TellsSpaces, TellsRepair, TellsRepairWalk, TellsSummary, TellsAudit}
+use Rattle.sr_run.specs.Failures.{AreCaseSpaces, IsRepaired, IsRepairWalked, TellsSpaces, TellsRepair, TellsRepairWalk, TellsSummary, TellsAudit}
 use Rattle.sr_run.specs.Questions.{IsRefused}
 use Rattle.sr_run.proofs.DeterminedTold.{AreAlike, alike, alike-refused}
 use Rattle.sr_run.proofs.DeterminedNames.{of-failure, of-affected}
@@ -55,7 +55,7 @@ line-one name g a b agree =
 tests-agree : (g : Graph) (a b : List Bool) (In : ℕ → Type 0) → ((v : ℕ) → v < node_count g → IsTrue (has a v) ↔ In v) → ((v : ℕ) → v < node_count g → IsTrue (has b v) ↔ In v) → (v : ℕ) → v < node_count g → has a v ≡ has b v
 tests-agree g a b In x y v within = test-same (has a v) (has b v) (λ t. (y v within).1 ((x v within).0 t)) (λ t. (x v within).1 ((y v within).0 t))
 
-spaces-one : (g : Graph) (case : Case) (d : ℕ) (p extended q p' extended' q' : List Bool) → AreSpaces g case d p extended q → AreSpaces g case d p' extended' q' → spaces_lines g p extended q ≡ spaces_lines g p' extended' q'
+spaces-one : (g : Graph) (case : Case) (d : ℕ) (p extended q p' extended' q' : List Bool) → AreCaseSpaces g case d p extended q → AreCaseSpaces g case d p' extended' q' → spaces_lines g p extended q ≡ spaces_lines g p' extended' q'
 spaces-one g case d p extended q p' extended' q' x y =
     let set : y.x ≡ x.x = failed-one g case y.x x.x y.failed x.failed in
     let first : set_line (codes "p") g p ≡ set_line (codes "p") g p' =
@@ -104,7 +104,7 @@ repair-walked-one n net case d choice links more p q =
 
 -- P, extended P and Q are told
 abbrev SpacesAre : Net → Told → Case → ℕ → Type 0
-SpacesAre n told case d = (p : List Bool) × (extended : List Bool) × (q : List Bool) × AreSpaces n.graph case d p extended q × (told ≡ Spaces n.graph p extended q)
+SpacesAre n told case d = (p : List Bool) × (extended : List Bool) × (q : List Bool) × AreCaseSpaces n.graph case d p extended q × (told ≡ Spaces n.graph p extended q)
 
 -- the answer and its labels are told
 abbrev RepairIs : Net → Told → Case → ℕ → Type 0

@@ -32,7 +32,7 @@ use Rattle.sr_run.proofs.DeterminedEdits.{staged-one, announces-one, link-edited
 use Rattle.sr_run.proofs.DeterminedQuestions.{distance-alike, hops-alike, lookup-alike, walk-alike}
 use Rattle.sr_run.proofs.DeterminedFailures.{spaces-alike, repair-alike, repair-walk-alike, summary-alike, audit-alike}
 
--- no line is refused for want of memory
+-- no line is refused because memory ran out
 memory-not_told : (fault : LineFault) (reason : Refusal) → IsMemory fault → IsRefusedAs fault reason → ⊥
 memory-not_told fault.TooLong reason m r = m
 memory-not_told fault.UnknownWord reason m r = m

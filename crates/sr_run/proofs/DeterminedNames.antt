@@ -13,7 +13,7 @@ use Rattle.sr_script.specs.declared.name.LinkName.{LinkName}
 use Rattle.sr_script.specs.declared.name.RepairName.{RepairName}
 use Rattle.sr_print.specs.declared.refusal.Refusal.{Refusal}
 use Rattle.sr_print.specs.declared.refusal.Refusal.TheVariants.{NoNode, NoDestination, NotAffected}
-use Rattle.sr_run.specs.Names.{IsLinkOf, OfNode, OfEnds, OfAnnounced, OfLink, OfFailure, OfAffected, ends_of, key_of, no_link}
+use Rattle.sr_run.specs.Names.{IsLinkOf, OfNode, OfEnds, OfAnnounced, OfLink, OfFailure, OfAffected, ends_of, key_meant, missing_link}
 
 -- a link is its number
 pub link-is : (a b : LinkNo) → a.0 ≡ b.0 → a ≡ b
@@ -33,7 +33,7 @@ none-not_some None none some = absurd (cc)
 none-not_some (Some i) none some = absurd (cc)
 
 -- nor is a key both
-not_both : (net : Net) (name : LinkName) (key : LinkKey) → key_of net name ≡ None → key_of net name ≡ Some key → ⊥
+not_both : (net : Net) (name : LinkName) (key : LinkKey) → key_meant net name ≡ None → key_meant net name ≡ Some key → ⊥
 not_both net name key none some = let e : Some key ≡ None = sym some ∙ none in absurd (cc)
 
 module _ (R : Type 0) (P Q : Refusal → Type 0) (refused : (reason : Refusal) → P reason → Q reason → R) where
@@ -54,7 +54,7 @@ module _ (R : Type 0) (P Q : Refusal → Type 0) (refused : (reason : Refusal) �
 
   -- of a link of the net
   pub of-link : (net : Net) → IsNamed net.graph → (name : LinkName) (A B : LinkNo → Type 0) → ((l : LinkNo) → A l → B l → R) → OfLink P net name A → OfLink Q net name B → R
-  of-link net named name A B held (inl none) (inl also) = refused (no_link name) none.1 also.1
+  of-link net named name A B held (inl none) (inl also) = refused (missing_link name) none.1 also.1
   of-link net named name A B held (inl none) (inr there) = absurd (none.0 there.0 there.1)
   of-link net named name A B held (inr there) (inl none) = absurd (none.0 there.0 there.1)
   of-link net named name A B held (inr a) (inr b) =
@@ -85,10 +85,10 @@ module _ (R : Type 0) (P Q : Refusal → Type 0) (refused : (reason : Refusal) �
   of-affected net named repair A B held = of-failure net named repair _ _ (λ c d. affected net repair.dest c d (A c d) (B c d) (held c d))
 
   announced : (net : Net) (name : LinkName) (A B : LinkKey → Type 0) → ((key : LinkKey) → A key → B key → R)
-      → ((key_of net name ≡ None) × P (no_link name)) ⊎ ((key : LinkKey) × (key_of net name ≡ Some key) × A key)
-      → ((key_of net name ≡ None) × Q (no_link name)) ⊎ ((key : LinkKey) × (key_of net name ≡ Some key) × B key)
+      → ((key_meant net name ≡ None) × P (missing_link name)) ⊎ ((key : LinkKey) × (key_meant net name ≡ Some key) × A key)
+      → ((key_meant net name ≡ None) × Q (missing_link name)) ⊎ ((key : LinkKey) × (key_meant net name ≡ Some key) × B key)
       → R
-  announced net name A B held (inl none) (inl also) = refused (no_link name) none.1 also.1
+  announced net name A B held (inl none) (inl also) = refused (missing_link name) none.1 also.1
   announced net name A B held (inl none) (inr there) = absurd (not_both net name there.0 none.0 there.1)
   announced net name A B held (inr there) (inl none) = absurd (not_both net name there.0 none.0 there.1)
   announced net name A B held (inr a) (inr b) =

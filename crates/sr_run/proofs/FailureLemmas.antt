@@ -4,12 +4,12 @@ use Rattle.sr_model.specs.declared.case.Case.{Case}
 use Rattle.sr_model.specs.Graph.{Graph}
 use Rattle.sr_model.specs.Case.{IsFailedSet, source_of}
 use Rattle.sr_spaces.specs.Sets.{IsP, IsExtendedP, IsQ}
-use Rattle.sr_run.specs.Failures.{AreSpaces}
+use Rattle.sr_run.specs.Failures.{AreCaseSpaces}
 
 -- the spaces of a case
 pub spaces-told : (g h : Graph) (case : Case) (d s : ℕ) (x p extended q : List Bool)
-    → h ≡ g → s ≡ source_of h case → IsFailedSet h case x → IsP h x s p → IsExtendedP h x s extended → IsQ h x d q → AreSpaces g case d p extended q
-spaces-told g h case d s x p extended q same source failed ps es qs = subst (λ (k : Graph). AreSpaces k case d p extended q) same (record {
+    → h ≡ g → s ≡ source_of h case → IsFailedSet h case x → IsP h x s p → IsExtendedP h x s extended → IsQ h x d q → AreCaseSpaces g case d p extended q
+spaces-told g h case d s x p extended q same source failed ps es qs = subst (λ (k : Graph). AreCaseSpaces k case d p extended q) same (record {
   x = x;
   failed = failed;
   p_is = subst (λ (u : ℕ). IsP h x u p) source ps;

@@ -39,9 +39,9 @@ use Rattle.sr_run.specs.declared.session.Reply.{Reply}
 use Rattle.sr_run.specs.Failures.{TellsAudit}
 use Rattle.sr_run.specs.Domain.{Domain, last_version, number_of, with_staged, with_dropped, with_net}
 use Rattle.sr_run.specs.Edits.{Refuses, StagesEdit, Announces, EditsNamed, EditsLink, DropsStaged, Commits}
-use Rattle.sr_run.specs.State.{State, IsNext, shown}
-use Rattle.sr_run.specs.Session.{Asks, Tells, TellsOf, Shows, shown_of, nodes_of, links_of}
-use Rattle.sr_run.specs.Handlers.{PutsTold, Carries, Moves, RepliesTo, IsReply, IsAccepted, GivesCommand, WritesAudit, WritesRefusal, audit_text, TellsStaged, IsAnnounced, LacksAnnounced}
+use Rattle.sr_run.specs.State.{IsKeptState, IsNext, State, shown}
+use Rattle.sr_run.specs.Session.{Asks, Tells, TellsOf, Shows, shown_of, version_nodes, version_links}
+use Rattle.sr_run.specs.Handlers.{PutsTold, Carries, Moves, RepliesTo, IsReply, IsNoRefusal, GivesCommand, WritesAudit, WritesRefusal, audit_text, TellsStaged, IsAnnounced, LacksAnnounced}
 use Rattle.sr_run.proofs.NameLemmas.{has-announced, lacks-announced, announced-weaker}
 
 -- what is told so is told so
@@ -157,6 +157,11 @@ state-parts : (s : State) (editing : Editing) (current : Option Numbered) → s.
 state-parts s editing current e c =
     ap (λ (x : Editing). (let y : State = record { editing = x; current = current } in y)) (sym e) ∙ ap (λ (x : Option Numbered). (let y : State = record { editing = s.editing; current = x } in y)) (sym c)
 
+-- a state with the version after the last one is kept
+pub next-kept : (old : State) (editing : Editing) (version : Numbered) → editing ≡ old.editing → number_of old.current < MOST_VERSIONS → IsNext old version → IsKeptState (record { editing = with_accepted editing; current = Some version })
+next-kept old editing version same room next =
+    record { few = omega (arith, room, next.counted); counted = omega (arith, next.counted); fresh = subst (λ (e : Editing). IsNetOf e.tentative version.net) (sym same) next.net }
+
 -- the state whose net is accepted
 pub accepts-told : (now new : State) (version : Numbered) → number_of now.current < MOST_VERSIONS → IsNext now version → new.editing ≡ with_accepted now.editing → new.current ≡ Some version → Moves Commits now new (Version version)
 accepts-told now new version room next editing current domain same =
@@ -190,12 +195,12 @@ full-told old now is full domain same =
     (domain, same, inl (omega (arith, full, number), (refl, refl)))
 
 -- what is shown
-pub shows-told : (old now : State) (version nodes links depth staged : ℕ) → old ≡ now → version ≡ number_of old.current → nodes ≡ nodes_of old.current → links ≡ links_of old.current → depth ≡ old.editing.accepted.depth → staged ≡ old.editing.staged
+pub shows-told : (old now : State) (version nodes links depth staged : ℕ) → old ≡ now → version ≡ number_of old.current → nodes ≡ version_nodes old.current → links ≡ version_links old.current → depth ≡ old.editing.accepted.depth → staged ≡ old.editing.staged
     → Moves Shows now now (Show (record { version = version; nodes = nodes; links = links; depth = depth; staged = staged }))
 shows-told old now version nodes links depth staged is v n l d s domain same =
     let here : old ≡ shown domain = is ∙ sym same in
     let parts : (let x : Shown = record { version = version; nodes = nodes; links = links; depth = depth; staged = staged } in x) ≡ shown_of domain =
-    cc (v, n, l, d, s, ap (λ (x : State). number_of x.current) here, ap (λ (x : State). nodes_of x.current) here, ap (λ (x : State). links_of x.current) here, ap (λ (x : State). x.editing.accepted.depth) here, ap (λ (x : State). x.editing.staged) here) in
+    cc (v, n, l, d, s, ap (λ (x : State). number_of x.current) here, ap (λ (x : State). version_nodes x.current) here, ap (λ (x : State). version_links x.current) here, ap (λ (x : State). x.editing.accepted.depth) here, ap (λ (x : State). x.editing.staged) here) in
     (domain, same, (ap Show parts, refl))
 
 -- ---- how a command is answered
@@ -230,7 +235,7 @@ edits-told command edit other link old new before after (Err (Memory error)) res
 
 -- a text that tells is written, or a beginning of it
 pub gives-told : (command : Command) (number : ℕ) (old new : State) (before after : Written) (text : List ℕ) (put : Result (Unit {0}) SinkFault) (result : Result Bool SinkFault)
-    → PutsTold (Moves (λ domain t next. Tells domain command t next) old new) [] text → Puts before after text put → IsAccepted put result → Gives (GivesCommand command number old) before after result new
+    → PutsTold (Moves (λ domain t next. Tells domain command t next) old new) [] text → Puts before after text put → IsNoRefusal put result → Gives (GivesCommand command number old) before after result new
 gives-told command number old new before after text (Ok done) result t p r =
     subst (λ (x : Result Bool SinkFault). Gives (GivesCommand command number old) before after x new) (sym r)
     (record { said = text; says = p; is = (t.told, t.is, t.appended number, sym t.accepted) })
@@ -244,7 +249,7 @@ audit-moved state version items some audit domain same =
     (domain, same, (subst (λ (o : Option Numbered). TellsOf TellsAudit o (AuditTold version items)) (sym (ap (λ (s : State). s.current) same ∙ some)) (items, audit, refl), refl))
 
 gives-whole : (number : ℕ) (state : State) (current : Option Numbered) (before after : Written) (put : Result (Unit {0}) SinkFault) (result : Result Bool SinkFault)
-    → state.current ≡ current → WritesAudit current before after put → IsAccepted put result → Gives (GivesCommand AuditFull number state) before after result state
+    → state.current ≡ current → WritesAudit current before after put → IsNoRefusal put result → Gives (GivesCommand AuditFull number state) before after result state
 gives-whole number state None before after put result is w r = absurd w
 gives-whole number state (Some version) before after (Ok done) result is w r =
     subst (λ (x : Result Bool SinkFault). Gives (GivesCommand AuditFull number state) before after x state) (sym r)
@@ -254,7 +259,7 @@ gives-whole number state (Some version) before after (Err fault) result is w r =
     (record { text = audit_text version w.0; breaks = w.2; begins = inr (record { refused = false; new = state; is = (AuditTold version w.0, audit-moved state version w.0 is w.1, refl, refl) }) })
 
 pub gives-audit : (command : Command) (number : ℕ) (old new : State) (before after : Written) (put : Result (Unit {0}) SinkFault) (result : Result Bool SinkFault)
-    → command ≡ AuditFull → new ≡ old → WritesAudit new.current before after put → IsAccepted put result → Gives (GivesCommand command number old) before after result new
+    → command ≡ AuditFull → new ≡ old → WritesAudit new.current before after put → IsNoRefusal put result → Gives (GivesCommand command number old) before after result new
 gives-audit command number old new before after put result is same w r =
     subst (λ (k : Command). Gives (GivesCommand k number old) before after result new) (sym is)
     (subst (λ (s : State). Gives (GivesCommand AuditFull number s) before after result new) same (gives-whole number new new.current before after put result refl w r))

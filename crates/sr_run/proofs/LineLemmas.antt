@@ -12,7 +12,7 @@ use Rattle.sr_script.specs.declared.line.Line.TheVariants.{Nothing as NoWord, Wo
 use Rattle.sr_script.specs.declared.line.LineFault.{LineFault}
 use Rattle.sr_script.specs.declared.line.LineFault.TheVariants.{TooLong, UnknownWord, BadForm, BadHex, Memory}
 use Rattle.sr_script.specs.LineSays.{LineSays, IsLineFault}
-use Rattle.sr_script.specs.Number.{number_in, number_of, within}
+use Rattle.sr_script.specs.Number.{number_in, number_read, within}
 use Rattle.sr_script.specs.Words.{word_at, words_of}
 use Rattle.sr_script.specs.declared.command.TheConstants.{MOST_METRIC, MOST_DEPTH}
 use Rattle.sr_engine.specs.Lines.{head_of}
@@ -72,7 +72,7 @@ within-bounds low high (Some m) n e = grind (arith, nat_tests)
 
 number-bounds : (low high : ℕ) (word : List ℕ) (n : ℕ) → number_in low high word ≡ Some n → (low ≤ n) × (n ≤ high)
 unfolding number_in
-number-bounds low high word n e = within-bounds low high (number_of word) n e
+number-bounds low high word n e = within-bounds low high (number_read word) n e
 
 -- the arguments of a command that a line says are in range; the last clause serves all commands that no other names
 pub said-well : (line : List ℕ) (command : Command) → LineSays line (Word command) → IsAsked command

@@ -12,7 +12,7 @@ use Rattle.sr_script.specs.declared.name.LinkName.{LinkName}
 use Rattle.sr_script.specs.declared.name.RepairName.{RepairName}
 use Rattle.sr_print.specs.declared.refusal.Refusal.{Refusal}
 use Rattle.sr_print.specs.declared.refusal.Refusal.TheVariants.{NoNode, NoDestination, NotAffected}
-use Rattle.sr_run.specs.Names.{HasNode, IsNodeOf, NoLinkOf, OfNode, OfEnds, OfAnnounced, OfLink, OfFailure, OfAffected, ends_of, key_of, no_link}
+use Rattle.sr_run.specs.Names.{NamesNode, IsNamedNode, NoLinkOf, OfNode, OfEnds, OfAnnounced, OfLink, OfFailure, OfAffected, ends_of, key_meant, missing_link}
 use Rattle.sr_run.specs.Handlers.{AreEnds, IsAnnounced, IsFailureOf, IsAffectedOf, LacksEnd, LacksAnnounced, LacksFailure, LacksAffected}
 
 -- what is said of a refusal and of what is there may be said more weakly
@@ -26,8 +26,8 @@ ends-weaker P Q g ends A B refuses holds =
     (λ u. node-weaker P Q g ends.to (λ v. A u v) (λ v. B u v) refuses (holds u))
 
 key-weaker : (P Q : Refusal → Type 0) (net : Net) (name : LinkName) (A B : LinkKey → Type 0) → ((r : Refusal) → P r → Q r) → ((k : LinkKey) → A k → B k)
-    → ((key_of net name ≡ None) × P (no_link name)) ⊎ ((key : LinkKey) × (key_of net name ≡ Some key) × A key)
-    → ((key_of net name ≡ None) × Q (no_link name)) ⊎ ((key : LinkKey) × (key_of net name ≡ Some key) × B key)
+    → ((key_meant net name ≡ None) × P (missing_link name)) ⊎ ((key : LinkKey) × (key_meant net name ≡ Some key) × A key)
+    → ((key_meant net name ≡ None) × Q (missing_link name)) ⊎ ((key : LinkKey) × (key_meant net name ≡ Some key) × B key)
 key-weaker P Q net name A B refuses holds (inl none) = inl (none.0, refuses _ none.1)
 key-weaker P Q net name A B refuses holds (inr there) = inr (there.0, there.1, holds there.0 there.2)
 
@@ -103,7 +103,7 @@ node-then R P g system A refused held (inl none) = refused _ none.1
 node-then R P g system A refused held (inr there) = held there.0 there.2
 
 key-then : (R : Type 0) (P : Refusal → Type 0) (net : Net) (name : LinkName) (A : LinkKey → Type 0) → ((r : Refusal) → P r → R) → ((k : LinkKey) → A k → R)
-    → ((key_of net name ≡ None) × P (no_link name)) ⊎ ((key : LinkKey) × (key_of net name ≡ Some key) × A key) → R
+    → ((key_meant net name ≡ None) × P (missing_link name)) ⊎ ((key : LinkKey) × (key_meant net name ≡ Some key) × A key) → R
 key-then R P net name A refused held (inl none) = refused _ none.1
 key-then R P net name A refused held (inr there) = held there.0 there.2
 
@@ -112,10 +112,10 @@ announced-then R P net name A refused held =
     node-then R P net.graph name.from _ refused (λ u. node-then R P net.graph name.to _ refused (λ v. key-then R P net name A refused held))
 
 -- a destination that is no node, and a link that the net lacks, are missing
-pub lacks-dest : (net : Net) (repair : RepairName) (from to : ℕ) (reason : Refusal) → AreEnds net (ends_of repair.link) from to → (HasNode net.graph repair.dest → ⊥) → reason ≡ NoNode repair.dest → LacksFailure net repair reason
+pub lacks-dest : (net : Net) (repair : RepairName) (from to : ℕ) (reason : Refusal) → AreEnds net (ends_of repair.link) from to → (NamesNode net.graph repair.dest → ⊥) → reason ≡ NoNode repair.dest → LacksFailure net repair reason
 lacks-dest net repair from to reason are none is = inr (from, are.0, inr (to, are.1, inl (none, is)))
 
-pub lacks-link : (net : Net) (repair : RepairName) (from to d : ℕ) (reason : Refusal) → AreEnds net (ends_of repair.link) from to → IsNodeOf net.graph repair.dest d → NoLinkOf net repair.link → reason ≡ no_link repair.link → LacksFailure net repair reason
+pub lacks-link : (net : Net) (repair : RepairName) (from to d : ℕ) (reason : Refusal) → AreEnds net (ends_of repair.link) from to → IsNamedNode net.graph repair.dest d → NoLinkOf net repair.link → reason ≡ missing_link repair.link → LacksFailure net repair reason
 lacks-link net repair from to d reason are dest none is = inr (from, are.0, inr (to, are.1, inr (d, dest, inl (none, is))))
 
 -- what is missing of a failure is missing of one that affects the destination; and so is an index, and that it affects it

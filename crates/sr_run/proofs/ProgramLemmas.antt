@@ -1,5 +1,5 @@
 -- The status tells how a run ended.
-use Rattle.std.proofs.Common.{◌≡◌, ℕ, ◌≤◌, ◌⊎◌, true, false, List, [], length, refl, ap, subst, arith, length-append, inl, inr, ⊎_elim, None, Some}
+use Rattle.std.proofs.Common.{◌≡◌, ℕ, ◌≤◌, ◌⊎◌, true, false, List, [], length, refl, ap, sym, subst, arith, length-append, inl, inr, ⊎_elim, None, Some}
 use Rattle.std.specs.Prelude.{String}
 use Rattle.std.specs.declared.option.Option.{Option}
 use Rattle.std.specs.declared.alloc.Global.{Global}
@@ -14,8 +14,13 @@ use Rattle.sr_run.specs.Domain.{opening}
 use Rattle.sr_run.specs.State.{State, shown}
 use Rattle.sr_run.specs.Session.{conduct}
 use Rattle.sr_run.specs.Handlers.{session_conduct}
-use Rattle.sr_run.specs.Program.{Run, EndShows, RunsTo, RunsThrough}
-use Rattle.sr_run.specs.Words.{AskRun}
+use Rattle.sr_make.specs.Making.{MakingShows, Makes}
+use Rattle.sr_make.specs.Script.{made_script}
+use Rattle.sr_words.specs.declared.task.Task.{Task}
+use Rattle.sr_words.specs.declared.task.Task.TheVariants as task
+use Rattle.sr_words.specs.Tasks.{Asked, BeginWithMake, IsTaskOf}
+use Rattle.sr_words.proofs.TaskLemmas.{one-task}
+use Rattle.sr_run.specs.Program.{Run, EndShows, TaskShows, MakesScript, StatusShows, RunsTo, RunsThrough}
 use Rattle.sr_run.proofs.Likeness.{answered-like, script-like, begins-like}
 use Rattle.sr_run.proofs.Simulation.{IsShown, session-follows, script-delivers}
 
@@ -39,7 +44,7 @@ end-shows run Memory final output counts = (begins-like session_conduct conduct 
 end-shows run TooMuch final output counts = (output.0, answered-like session_conduct conduct IsShown session-follows (shown opening) opening _ run.out output.1 refl, counts.0, counts.1)
 
 -- a run over a script
-pub runs-to : (words : List (String Global)) (old new : Devices) (end : End) (final : State) (status : ℕ) → AskRun words
+pub runs-to : (words : List (String Global)) (old new : Devices) (end : End) (final : State) (status : ℕ) → Asked words task.Run
     → Ran session_conduct (shown opening) old new end final → CountsShow old new end → status ≡ status_of end → RunsTo words old new status
 runs-to words old new end final status ask ran counts is =
     let run : Run = record { old = old; new = new; taken = ran.taken; out = ran.out } in
@@ -49,19 +54,42 @@ runs-to words old new end final status ask ran counts is =
       few = ran.few;
       out = ran.out;
       appended = ran.appended;
-      shows = inl (ask, end, is, end-shows run end final ran.output counts);
+      shows = inl (record { asked = task.Run; asks = ask; end = end; is = is; shows = end-shows run end final ran.output counts });
     }
 
--- words that are no command
-pub runs-nothing : (words : List (String Global)) (devices : Devices) → ¬ AskRun words → RunsTo words devices devices 2
-runs-nothing words devices none = record {
+-- the making of a script
+pub makes-to : (words : List (String Global)) (nodes start : ℕ) (old new : Devices) (end : End) (status : ℕ) → Asked words (task.Make nodes start)
+    → new.left ≡ old.left → new.read_faults ≡ old.read_faults → Makes (made_script nodes start) old.held new.held old.write_faults new.write_faults end → status ≡ status_of end → RunsTo words old new status
+makes-to words nodes start old new end status ask left reads makes is =
+    let run : Run = record { old = old; new = new; taken = []; out = makes.out } in
+    record {
+      taken = [];
+      took = subst (λ (o : Option (List ℕ)). Consumes old.left o []) (sym left) (Consumes-nil old.left);
+      few = omega arith;
+      out = makes.out;
+      appended = makes.appended;
+      shows = inl (record { asked = task.Make nodes start; asks = ask; end = end; is = is; shows = record { taken = refl; reads = reads; shows = makes.shows } });
+    }
+
+-- nothing was done
+runs-nowhere : (words : List (String Global)) (devices : Devices) (status : ℕ)
+    → StatusShows words (record { old = devices; new = devices; taken = []; out = [] }) status → RunsTo words devices devices status
+runs-nowhere words devices status shows = record {
   taken = [];
   took = Consumes-nil devices.left;
   few = omega arith;
   out = [];
   appended = Appends-nil devices.held;
-  shows = inr (none, refl, record { taken = refl; out = refl; reads = refl; writes = refl });
+  shows = shows;
 }
+
+-- words that are no command
+pub runs-nothing : (words : List (String Global)) (devices : Devices) → IsTaskOf words None → RunsTo words devices devices 2
+runs-nothing words devices none = runs-nowhere words devices 2 (inr (inl (none, refl, record { taken = refl; out = refl; reads = refl; writes = refl })))
+
+-- words that couldn't be read
+pub runs-unread : (words : List (String Global)) (devices : Devices) (status : ℕ) → BeginWithMake words → status ≡ status_of Memory → RunsTo words devices devices status
+runs-unread words devices status begin is = runs-nowhere words devices status (inr (inr (begin, is, record { taken = refl; out = refl; reads = refl; writes = refl })))
 
 took-few : (bytes taken : List ℕ) (left : Option (List ℕ)) → Consumes (Some bytes) left taken → length taken ≤ length bytes
 took-few bytes taken None t = absurd t
@@ -77,8 +105,38 @@ end-known run WriteFailed status few reads writes is shows = absurd (writes show
 end-known run Memory status few reads writes is shows = inr (inr is)
 end-known run TooMuch status few reads writes is shows = absurd (omega (arith, few, shows.0))
 
+-- the making of a script that meets no fault ends with 0 or 5
+made-known : (script out : List ℕ) (before now : ℕ) (end : End) (status : ℕ) → ¬ Rose before now → status ≡ status_of end → MakingShows script out before now end → (status ≡ 0) ⊎ (status ≡ 5)
+made-known script out before now (Done false) status writes is shows = inl is
+made-known script out before now (Done true) status writes is shows = absurd shows
+made-known script out before now ReadFailed status writes is shows = absurd shows
+made-known script out before now WriteFailed status writes is shows = absurd (writes shows.1)
+made-known script out before now Memory status writes is shows = inr is
+made-known script out before now TooMuch status writes is shows = absurd shows
+
+module _ (words : List (String Global)) (run : Run) (status : ℕ) where
+  -- a script that is answered
+  answered-through : Asked words task.Run → length run.taken ≤ most_bytes → ¬ Rose run.old.read_faults run.new.read_faults → ¬ Rose run.old.write_faults run.new.write_faults
+      → StatusShows words run status → (status ≡ 0) ⊎ (status ≡ 1) ⊎ (status ≡ 5)
+  answered-through ask few reads writes (inl did) =
+      end-known run did.end status few reads writes did.is (subst (λ (t : Task). TaskShows t run did.end) (one-task words did.asked task.Run did.asks ask) did.shows)
+  answered-through ask few reads writes (inr (inl none)) = absurd (none.0 task.Run ask)
+  answered-through ask few reads writes (inr (inr unread)) = inr (inr unread.1)
+
+  -- a script that is made
+  made-through : (nodes start : ℕ) → Asked words (task.Make nodes start) → ¬ Rose run.old.write_faults run.new.write_faults → StatusShows words run status → (status ≡ 0) ⊎ (status ≡ 5)
+  made-through nodes start ask writes (inl did) =
+      let shows = subst (λ (t : Task). TaskShows t run did.end) (one-task words did.asked (task.Make nodes start) did.asks ask) did.shows in
+      made-known (made_script nodes start) run.out run.old.write_faults run.new.write_faults did.end status writes did.is shows.shows
+  made-through nodes start ask writes (inr (inl none)) = absurd (none.0 (task.Make nodes start) ask)
+  made-through nodes start ask writes (inr (inr unread)) = inr unread.1
+
 pub completes : (words : List (String Global)) (old new : Devices) (status : ℕ) → RunsTo words old new status → RunsThrough words old new status
-completes words old new status r = λ bytes is ask few reads writes.
+completes words old new status r =
     let run : Run = record { old = old; new = new; taken = r.taken; out = r.out } in
-    let took : length r.taken ≤ length bytes = took-few bytes r.taken new.left (subst (λ (o : Option (List ℕ)). Consumes o new.left r.taken) is r.took) in
-    ⊎_elim (λ ended. end-known run ended.1 status (omega (arith, took, few)) reads writes ended.2 ended.3) (λ none. absurd (none.0 ask)) r.shows
+    record {
+      answers = λ bytes is ask few reads writes.
+          let took : length r.taken ≤ length bytes = took-few bytes r.taken new.left (subst (λ (o : Option (List ℕ)). Consumes o new.left r.taken) is r.took) in
+          answered-through words run status ask (omega (arith, took, few)) reads writes r.shows;
+      makes = λ nodes start ask writes. made-through words run status nodes start ask writes r.shows;
+    }

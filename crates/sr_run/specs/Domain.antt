@@ -5,7 +5,8 @@ use Rattle.sr_lsdb.specs.Editing.{Editing, opening as no_edits, with_edit, with_
 use Rattle.sr_lsdb.specs.Edit.{Edit}
 use Rattle.sr_repair.specs.Version.{Numbered, version_of}
 
--- the accepted and the tentative facts with how many edits are staged, and the nets of the accepted commits, the last one first
+-- the accepted and the tentative facts with how many edits are staged, and the nets of the accepted commits, the last
+-- one first
 pub record Domain : Type 0 where
   pub editing : Editing
   pub nets : List Net

@@ -10,7 +10,7 @@ use Rattle.sr_lsp.specs.Lsp.{Reads, IsBroken}
 use Rattle.sr_lsdb.specs.Edit.{Edit}
 use Rattle.sr_lsdb.specs.Edit.Edit.{Announce}
 use Rattle.sr_lsdb.specs.Facts.{IsTaken, stored_under}
-use Rattle.sr_lsdb.specs.Editing.{most_staged}
+use Rattle.sr_lsdb.specs.declared.limits.TheConstants.{MOST_STAGED}
 use Rattle.sr_lsdb.specs.Staging.{IsStale}
 use Rattle.sr_domain.specs.Net.{IsNetOf}
 use Rattle.sr_domain.specs.Rules.{IsFirstBroken}
@@ -28,11 +28,11 @@ use Rattle.sr_run.specs.Names.{OfAnnounced}
 abbrev pub Refuses : Domain → Told → Domain → Refusal → Type 0
 Refuses old told new reason = (told ≡ Refused reason) × (new ≡ old)
 
--- an edit is staged, where fewer than 4,096 are
+-- an edit is staged where fewer than 4,096 are, and refused where 4,096 are
 abbrev pub StagesEdit : Edit → Domain → Told → Domain → Type 0
 StagesEdit edit old told new =
-    ((old.editing.staged ≡ most_staged) × Refuses old told new StagedFull)
-    ⊎ ((old.editing.staged < most_staged) × (told ≡ Staged (old.editing.staged + 1)) × (new ≡ with_staged old edit))
+    ((old.editing.staged ≡ MOST_STAGED) × Refuses old told new StagedFull)
+    ⊎ ((old.editing.staged < MOST_STAGED) × (told ≡ Staged (old.editing.staged + 1)) × (new ≡ with_staged old edit))
 
 -- a PDU is stale, or it is staged
 abbrev pub StagesPdu : Lsp → Domain → Told → Domain → Type 0

@@ -1,5 +1,5 @@
 -- What is told to questions about a failure in a version: spaces, repairs, the walks of repaired packets, and audits.
-use Rattle.std.specs.Prelude.{◌≡◌, ℕ, ◌⊎◌, Bool, false, List, [], ◌∷◌, Some, reverse}
+use Rattle.std.specs.Prelude.{◌≡◌, ℕ, ◌<◌, ◌⊎◌, Bool, false, List, [], ◌∷◌, Some, reverse}
 use Rattle.sr_model.specs.declared.link.LinkNo.{LinkNo}
 use Rattle.sr_model.specs.declared.entry.Move.{Move}
 use Rattle.sr_model.specs.declared.case.Case.{Case}
@@ -7,8 +7,8 @@ use Rattle.sr_model.specs.declared.repair.Answer.{Answer}
 use Rattle.sr_model.specs.declared.repair.Answer.TheVariants.{Least}
 use Rattle.sr_model.specs.declared.repair.RepairList.{RepairList}
 use Rattle.sr_model.specs.declared.audit.Item.{Item}
-use Rattle.sr_model.specs.Graph.{Graph, head}
-use Rattle.sr_model.specs.Case.{IsFailedSet, source_of}
+use Rattle.sr_model.specs.Graph.{Graph, node_count, head}
+use Rattle.sr_model.specs.Case.{IsAffected, IsCase, IsFailedSet, source_of}
 use Rattle.sr_model.specs.Label.{Net}
 use Rattle.sr_model.specs.Walk.{cost}
 use Rattle.sr_model.specs.Forward.{RunBy, IsStack, crossed}
@@ -25,7 +25,7 @@ use Rattle.sr_run.specs.Names.{OfFailure, OfAffected}
 use Rattle.sr_run.specs.Questions.{IsRefused}
 
 -- the tests tell P and extended P of the source of the case, and Q of the destination
-pub record AreSpaces (graph : Graph) (case : Case) (d : ℕ) (p extended q : List Bool) : Type 0 where
+pub record AreCaseSpaces (graph : Graph) (case : Case) (d : ℕ) (p extended q : List Bool) : Type 0 where
   pub x : List Bool
   pub failed : IsFailedSet graph case x
   pub p_is : IsP graph x (source_of graph case) p
@@ -35,13 +35,22 @@ pub record AreSpaces (graph : Graph) (case : Case) (d : ℕ) (p extended q : Lis
 -- P, extended P and Q of a case and a destination
 abbrev pub TellsSpacesOf : Net → Case → ℕ → Told → Type 0
 TellsSpacesOf net case d told =
-    (p : List Bool) × (extended : List Bool) × (q : List Bool) × AreSpaces net.graph case d p extended q × (told ≡ Spaces net.graph p extended q)
+    (p : List Bool) × (extended : List Bool) × (q : List Bool)
+    × AreCaseSpaces net.graph case d p extended q × (told ≡ Spaces net.graph p extended q)
 
 -- `spaces`: those of the case and the destination that are named
 abbrev pub TellsSpaces : RepairName → Numbered → Told → Type 0
 TellsSpaces repair version told = OfFailure (IsRefused told) version.net repair (λ case d. TellsSpacesOf version.net case d told)
 
--- the answer of the case for the destination, and the labels on the first link, the top last; where the answer is a list, they deliver
+-- the answer of a case of the net for a node that it affects
+pub record IsAnswerOf (net : Net) (case : Case) (d : ℕ) (answer : Answer) : Type 0 where
+  pub case_is : IsCase net.graph case
+  pub node : d < node_count net.graph
+  pub affected : IsAffected net case d
+  pub answer_is : IsCaseAnswer net case d answer
+
+-- the answer of the case for the destination, and the labels on the first link, the top last; where the answer is a
+-- list, they deliver
 pub record IsRepaired (net : Net) (case : Case) (d : ℕ) (answer : Answer) (labels : List ℕ) : Type 0 where
   pub answer_is : IsCaseAnswer net case d answer
   pub labels_are : AreLabelsOf net d answer labels
@@ -55,7 +64,8 @@ TellsRepairOf net case d told = (answer : Answer) × (labels : List ℕ) × IsRe
 abbrev pub TellsRepair : RepairName → Numbered → Told → Type 0
 TellsRepair repair version told = OfAffected (IsRefused told) version.net repair (λ case d. TellsRepairOf version.net case d told)
 
--- the packet of the repair crosses its first link, and goes on under its stack by the choice number, the failed links being closed; it reaches the destination with an empty stack, at the cost of the repair
+-- the packet of the repair crosses its first link, and goes on under its stack by the choice number, the failed links
+-- being closed; it reaches the destination with an empty stack, at the cost of the repair
 pub record IsRepairWalked (net : Net) (case : Case) (d choice : ℕ) (links : List LinkNo) : Type 0 where
   pub list : RepairList
   pub answer : IsCaseAnswer net case d (Least list)

@@ -37,7 +37,7 @@ use Rattle.sr_run.specs.declared.edits.LinkEdit.TheVariants.{Cost as CostEdit, D
 use Rattle.sr_run.specs.declared.session.Reply.{Reply}
 use Rattle.sr_run.specs.declared.session.Reply.TheVariants.{Text, Audit}
 use Rattle.sr_run.specs.Domain.{Domain}
-use Rattle.sr_run.specs.Names.{IsNodeOf, HasNode, OfEnds, OfAnnounced, OfFailure, OfAffected, IsLinkOf, key_of}
+use Rattle.sr_run.specs.Names.{IsNamedNode, NamesNode, OfEnds, OfAnnounced, OfFailure, OfAffected, IsLinkOf, key_meant}
 use Rattle.sr_run.specs.Session.{Tells, Answers, IsRefusedAs}
 use Rattle.sr_run.specs.State.{State, shown}
 
@@ -83,7 +83,7 @@ IsAsked _ = Unit {0}
 
 -- the two systems are these nodes
 abbrev pub AreEnds : Net → EndNames → ℕ → ℕ → Type 0
-AreEnds net ends from to = IsNodeOf net.graph ends.from from × IsNodeOf net.graph ends.to to
+AreEnds net ends from to = IsNamedNode net.graph ends.from from × IsNamedNode net.graph ends.to to
 
 -- the refusal names the first of the two systems that isn't a node
 abbrev pub LacksEnd : Net → EndNames → Refusal → Type 0
@@ -91,9 +91,9 @@ LacksEnd net ends reason = OfEnds (λ missing. reason ≡ missing) net.graph end
 
 -- the key of the announced link of this name
 pub record IsAnnounced (net : Net) (name : LinkName) (key : LinkKey) : Type 0 where
-  pub from : HasNode net.graph name.from
-  pub to : HasNode net.graph name.to
-  pub key_is : key_of net name ≡ Some key
+  pub from : NamesNode net.graph name.from
+  pub to : NamesNode net.graph name.to
+  pub key_is : key_meant net name ≡ Some key
 
 -- the refusal names what is missing of it: an end, or the link
 abbrev pub LacksAnnounced : Net → LinkName → Refusal → Type 0
@@ -101,11 +101,11 @@ LacksAnnounced net name reason = OfAnnounced (λ missing. reason ≡ missing) ne
 
 -- the case and the destination's node that a line asks of
 pub record IsFailureOf (net : Net) (repair : RepairName) (case : Case) (d : ℕ) : Type 0 where
-  pub from : HasNode net.graph repair.link.from
-  pub to : HasNode net.graph repair.link.to
+  pub from : NamesNode net.graph repair.link.from
+  pub to : NamesNode net.graph repair.link.to
   pub kind : case.kind ≡ repair.kind
   pub link : IsLinkOf net repair.link case.link
-  pub dest : IsNodeOf net.graph repair.dest d
+  pub dest : IsNamedNode net.graph repair.dest d
 
 -- the refusal names what is missing of them: a node, or the link
 abbrev pub LacksFailure : Net → RepairName → Refusal → Type 0
@@ -139,7 +139,8 @@ IsLinkEdit (CostEdit metric) = (0 < metric) × (metric ≤ MOST_METRIC)
 IsLinkEdit DownEdit = Unit {0}
 IsLinkEdit UpEdit = Unit {0}
 
--- a command is carried out: what is told was appended, or nothing was, and it is the audit of the last version, which is yet to be written; or the line is refused, and that is told; memory may run out at any time
+-- a command is carried out: what is told was appended, or nothing was, and it is the audit of the last version, which
+-- is yet to be written; or the line is refused, and that is told; memory may run out at any time
 abbrev pub RepliesTo : Command → State → State → List ℕ → List ℕ → Result Reply Stop → Type 0
 RepliesTo command old new before after (Ok Text) = CarriesOut command old new before after (Ok tt)
 RepliesTo command old new before after (Ok Audit) = (command ≡ AuditFull) × (is_some old.current ≡ true) × (new ≡ old) × (after ≡ before)
@@ -187,5 +188,5 @@ abbrev pub IsReply : Result (Unit {0}) Stop → Result Reply Stop → Type 0
 IsReply told result = MatchResult told (λ _. result ≡ Ok Text) (λ stop. result ≡ Err stop)
 
 -- an answer that was written is no refusal, or there was the fault
-abbrev pub IsAccepted : Result (Unit {0}) SinkFault → Result Bool SinkFault → Type 0
-IsAccepted written result = MatchResult written (λ _. result ≡ Ok false) (λ fault. result ≡ Err fault)
+abbrev pub IsNoRefusal : Result (Unit {0}) SinkFault → Result Bool SinkFault → Type 0
+IsNoRefusal written result = MatchResult written (λ _. result ≡ Ok false) (λ fault. result ≡ Err fault)

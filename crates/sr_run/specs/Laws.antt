@@ -1,6 +1,9 @@
 -- Laws of sessions, over every line and every script.
-use Rattle.std.specs.Prelude.{◌≡◌, ℕ, Bool, List, All}
+use Rattle.std.specs.Prelude.{◌≡◌, ℕ, ◌+◌, ◌^◌, Bool, List, All}
 use Rattle.sr_model.specs.Rule.{IsNet}
+use Rattle.sr_wire.specs.declared.registry.TheConstants.{ADJ_SID_BACKUP, ADJ_SID_IPV6, ADJ_SID_SET, LSP_OVERLOAD, MAXIMUM_METRIC, PREFIX_SID_EXPLICIT_NULL, PREFIX_SID_NODE, PREFIX_SID_NO_POP, PREFIX_SID_READVERTISED}
+use Rattle.sr_lsdb.specs.declared.limits.TheConstants.{MOST_STAGED}
+use Rattle.sr_make.specs.declared.making.TheConstants.{FEWEST_NODES, MOST_NODES}
 use Rattle.sr_engine.specs.Replies.{Answered, Script}
 use Rattle.sr_run.specs.Domain.{Domain, opening}
 use Rattle.sr_run.specs.Session.{Answers, conduct}
@@ -10,7 +13,8 @@ use Rattle.sr_run.specs.Program.{EachDelivers}
 abbrev pub AreNets : Domain → Type 0
 AreNets domain = All IsNet domain.nets
 
--- from a state with such nets, a line has at most one answer, with which it is refused or not, and at most one next state
+-- from a state with such nets, a line has at most one answer, with which it is refused or not, and at most one next
+-- state
 abbrev pub LinesHaveOneAnswer : Type 0
 LinesHaveOneAnswer = (old : Domain) (number : ℕ) (line out other : List ℕ) (refused again : Bool) (new next : Domain)
     → AreNets old → Answers old number line out refused new → Answers old number line other again next
@@ -22,6 +26,31 @@ ScriptsHaveOneOutput = (bytes out other : List ℕ) (refused again : Bool) (fina
     → Script conduct opening bytes out refused final → Script conduct opening bytes other again last
     → (out ≡ other) × (refused ≡ again) × (final ≡ last)
 
--- whatever lines were answered, in the net of each accepted commit every repair of every case has a stack, and delivers under it
+-- whatever lines were answered, in the net of each accepted commit every repair of every case has a stack, and
+-- delivers under it
 abbrev pub AcceptedNetsDeliver : Type 0
 AcceptedNetsDeliver = (bytes out : List ℕ) (answered : Answered Answers opening bytes out) → EachDelivers answered.last
+
+-- the flags of a Prefix-SID have their bits (RFC 8667, 2.1.1)
+pub record PrefixSidFlags : Type 0 where
+  pub readvertised : PREFIX_SID_READVERTISED ≡ 0x80
+  pub node : PREFIX_SID_NODE ≡ 0x40
+  pub no_pop : PREFIX_SID_NO_POP ≡ 0x20
+  pub explicit_null : PREFIX_SID_EXPLICIT_NULL ≡ 0x10
+
+-- the flags of an Adj-SID have their bits (RFC 8667, 2.2.1)
+pub record AdjSidFlags : Type 0 where
+  pub ipv6 : ADJ_SID_IPV6 ≡ 0x80
+  pub backup : ADJ_SID_BACKUP ≡ 0x40
+  pub set : ADJ_SID_SET ≡ 0x08
+
+-- an overloaded router sets its bit (ISO 10589, 9.9), and the maximum metric has all of its 24 bits (RFC 5305, 3)
+pub record LinkStateNumbers : Type 0 where
+  pub overload : LSP_OVERLOAD ≡ 0x04
+  pub metric : MAXIMUM_METRIC + 1 ≡ 2 ^ 24
+
+-- at most 4,096 edits are staged, and a made net has 3 to 256 nodes (this project's rules)
+pub record ProjectLimits : Type 0 where
+  pub staged : MOST_STAGED ≡ 4096
+  pub fewest : FEWEST_NODES ≡ 3
+  pub most : MOST_NODES ≡ 256

@@ -4,7 +4,6 @@ pub mod Edits
 pub mod Questions
 pub mod Failures
 pub mod Session
-pub mod Words
 pub mod Program
 pub mod State
 pub mod Handlers

@@ -14,18 +14,18 @@ use Rattle.sr_print.specs.declared.refusal.Refusal.{Refusal}
 use Rattle.sr_print.specs.declared.refusal.Refusal.TheVariants.{NoNode, NoLink, NoDestination, NotAffected}
 
 -- node v has this system id
-abbrev pub IsNodeOf : Graph → ℕ → ℕ → Type 0
-IsNodeOf graph system v = (v < node_count graph) × (system_at graph v ≡ system)
+abbrev pub IsNamedNode : Graph → ℕ → ℕ → Type 0
+IsNamedNode graph system v = (v < node_count graph) × (system_at graph v ≡ system)
 
 -- some node has this system id
-abbrev pub HasNode : Graph → ℕ → Type 0
-HasNode graph system = (v : ℕ) × IsNodeOf graph system v
+abbrev pub NamesNode : Graph → ℕ → Type 0
+NamesNode graph system = (v : ℕ) × IsNamedNode graph system v
 
 -- the system isn't a node, which is refused; or it is, and this holds of the node
 abbrev pub OfNode : (Refusal → Type 0) → Graph → ℕ → (ℕ → Type 0) → Type 0
 OfNode refuses graph system holds =
-    (¬ HasNode graph system × refuses (NoNode system))
-    ⊎ ((v : ℕ) × IsNodeOf graph system v × holds v)
+    (¬ NamesNode graph system × refuses (NoNode system))
+    ⊎ ((v : ℕ) × IsNamedNode graph system v × holds v)
 
 -- the first of two systems that isn't a node is refused; or both are, and this holds of the nodes
 abbrev pub OfEnds : (Refusal → Type 0) → Graph → EndNames → (ℕ → ℕ → Type 0) → Type 0
@@ -36,23 +36,24 @@ abbrev pub ends_of : LinkName → EndNames
 ends_of name = record { from = name.from; to = name.to }
 
 -- the refusal of a link that isn't there
-abbrev pub no_link : LinkName → Refusal
-no_link name = NoLink name.from name.to name.n
+abbrev pub missing_link : LinkName → Refusal
+missing_link name = NoLink name.from name.to name.n
 
 -- the key that a link's name means among the announced ones
-abbrev pub key_of : Net → LinkName → Option LinkKey
-key_of net name = key_named net.announced name.from name.to name.n
+abbrev pub key_meant : Net → LinkName → Option LinkKey
+key_meant net name = key_named net.announced name.from name.to name.n
 
--- an end isn't a node, or the link isn't announced, and the first of these is refused; or it is announced, and this holds of its key
+-- an end isn't a node, or the link isn't announced, and the first of these is refused; or it is announced, and this
+-- holds of its key
 abbrev pub OfAnnounced : (Refusal → Type 0) → Net → LinkName → (LinkKey → Type 0) → Type 0
 OfAnnounced refuses net name holds = OfEnds refuses net.graph (ends_of name) (λ from to.
-    ((key_of net name ≡ None) × refuses (no_link name))
-    ⊎ ((key : LinkKey) × (key_of net name ≡ Some key) × holds key))
+    ((key_meant net name ≡ None) × refuses (missing_link name))
+    ⊎ ((key : LinkKey) × (key_meant net name ≡ Some key) × holds key))
 
 -- the link of the net whose key the name means
 pub record IsLinkOf (net : Net) (name : LinkName) (link : LinkNo) : Type 0 where
   pub within : link.0 < link_count net.graph
-  pub named : key_of net name ≡ Some (key_at net.graph link.0)
+  pub named : key_meant net name ≡ Some (key_at net.graph link.0)
 
 -- no link of the net has this name
 abbrev pub NoLinkOf : Net → LinkName → Type 0
@@ -61,10 +62,11 @@ NoLinkOf net name = (link : LinkNo) → IsLinkOf net name link → ⊥
 -- the net has no link of this name, which is refused; or it has, and this holds of the link
 abbrev pub OfLink : (Refusal → Type 0) → Net → LinkName → (LinkNo → Type 0) → Type 0
 OfLink refuses net name holds =
-    (NoLinkOf net name × refuses (no_link name))
+    (NoLinkOf net name × refuses (missing_link name))
     ⊎ ((link : LinkNo) × IsLinkOf net name link × holds link)
 
--- the first of the three systems that isn't a node is refused, or else the link that the net lacks; or all are there, and this holds of the case and the destination's node
+-- the first of the three systems that isn't a node is refused, or else the link that the net lacks; or all are there,
+-- and this holds of the case and the destination's node
 abbrev pub OfFailure : (Refusal → Type 0) → Net → RepairName → (Case → ℕ → Type 0) → Type 0
 OfFailure refuses net repair holds = OfEnds refuses net.graph (ends_of repair.link) (λ from to.
     OfNode refuses net.graph repair.dest (λ d.

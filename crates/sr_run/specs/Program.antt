@@ -1,5 +1,5 @@
 -- What the program does to its source and its sink, and the status that it ends with.
-use Rattle.std.specs.Prelude.{◌≡◌, ℕ, ◌+◌, ◌<◌, ◌≤◌, ◌⊎◌, Bool, List, [], All, length, String, Some}
+use Rattle.std.specs.Prelude.{◌≡◌, ℕ, ◌+◌, ◌<◌, ◌≤◌, ◌⊎◌, Bool, List, [], All, length, String, Some, None}
 use Rattle.std.specs.declared.alloc.Global.{Global}
 use Rattle.std.specs.Io.KnownBytes.{Consumes, Appends, IsAtEnd}
 use Rattle.sr_base.specs.Faults.{Rose}
@@ -9,9 +9,13 @@ use Rattle.sr_engine.specs.Replies.{Answered, Script}
 use Rattle.sr_engine.specs.Endings.{Devices, BeginsOutput, status_of}
 use Rattle.sr_engine.specs.declared.end.End.{End}
 use Rattle.sr_engine.specs.declared.end.End.TheVariants.{Done, ReadFailed, WriteFailed, Memory, TooMuch}
+use Rattle.sr_make.specs.Making.{MakingShows}
+use Rattle.sr_make.specs.Script.{made_script}
+use Rattle.sr_words.specs.declared.task.Task.{Task}
+use Rattle.sr_words.specs.declared.task.Task.TheVariants as task
+use Rattle.sr_words.specs.Tasks.{Asked, IsTaskOf, BeginWithMake}
 use Rattle.sr_run.specs.Domain.{Domain, opening}
 use Rattle.sr_run.specs.Session.{Answers, conduct}
-use Rattle.sr_run.specs.Words.{AskRun}
 
 -- a run of the program: the devices before and after it, the bytes that it took, and those that it wrote
 pub record Run : Type 0 where
@@ -40,7 +44,8 @@ FailsWriting run = Rose run.old.write_faults run.new.write_faults
 abbrev pub EachDelivers : Domain → Type 0
 EachDelivers domain = All EachRepairDelivers domain.nets
 
--- the script was read to its end, both counts of faults stayed, all of it was answered, and every repair of each accepted net has a stack and delivers under it
+-- the script was read to its end, both counts of faults stayed, all of it was answered, and every repair of each
+-- accepted net has a stack and delivers under it
 pub record AnswersScript (run : Run) (refused : Bool) : Type 0 where
   pub at_end : IsAtEnd run.new.left
   pub few : length run.taken ≤ most_bytes
@@ -58,13 +63,26 @@ AnswersLines run bytes = Answered Answers opening bytes run.out
 abbrev pub BeginsToAnswer : Run → Type 0
 BeginsToAnswer run = BeginsOutput conduct opening run.new.left run.taken run.out
 
--- how a run over a script ended says of it: the script was read to its end; the count of failed reads rose, or stands at its last value, and all lines before were answered; the count of failed writes did so, or memory ran out, and a beginning was written; or there are too many bytes, and the lines within the first of them were answered
+-- how a run over a script ended says of it: the script was read to its end; the count of failed reads rose, or stands
+-- at its last value, and all lines before were answered; the count of failed writes did so, or memory ran out, and a
+-- beginning was written; or there are too many bytes, and the lines within the first of them were answered
 abbrev pub EndShows : Run → End → Type 0
 EndShows run (Done refused) = AnswersScript run refused
 EndShows run ReadFailed = AnswersLines run run.taken × FailsReading run × WritesWell run
 EndShows run WriteFailed = BeginsToAnswer run × FailsWriting run × ReadsWell run
 EndShows run Memory = BeginsToAnswer run × ReadsWell run × WritesWell run
 EndShows run TooMuch = (most_bytes < length run.taken) × AnswersLines run (script_of run.taken) × ReadsWell run × WritesWell run
+
+-- nothing was taken and the count of failed reads stayed, and the ending says how much of the script was written
+pub record MakesScript (nodes start : ℕ) (run : Run) (end : End) : Type 0 where
+  pub taken : run.taken ≡ []
+  pub reads : ReadsWell run
+  pub shows : MakingShows (made_script nodes start) run.out run.old.write_faults run.new.write_faults end
+
+-- what the ending of a task says of the run, which answers a script or makes one
+abbrev pub TaskShows : Task → Run → End → Type 0
+TaskShows task.Run run end = EndShows run end
+TaskShows (task.Make nodes start) run end = MakesScript nodes start run end
 
 -- nothing was taken and nothing written, and both counts of faults stayed
 pub record DoesNothing (run : Run) : Type 0 where
@@ -73,13 +91,27 @@ pub record DoesNothing (run : Run) : Type 0 where
   pub reads : ReadsWell run
   pub writes : WritesWell run
 
--- the words are `run`, and the status tells how the run over the script ended: 0 or 1 where it was read to its end, by whether a line was refused, 3 where a read failed, 4 where a write failed, 5 where memory ran out, 6 where there are too many bytes; or they are no command, the status is 2, and nothing was done
+-- the words ask for this task, and the status tells how it ended: 0 or 1 where it was done, by whether a line was
+-- refused, 3 where a read failed, 4 where a write failed, 5 where memory ran out, 6 where there are too many
+-- bytes
+pub record DoesTask (words : List (String Global)) (run : Run) (status : ℕ) : Type 0 where
+  pub asked : Task
+  pub asks : Asked words asked
+  pub end : End
+  pub is : status ≡ status_of end
+  pub shows : TaskShows asked run end
+
+-- the task that the words ask for was done as far as the status tells; or they ask for none, the status is 2, and
+-- nothing was done; or they begin with `make`, memory ran out before it was known what they ask for, the status is
+-- 5, and nothing was done
 abbrev pub StatusShows : List (String Global) → Run → ℕ → Type 0
 StatusShows words run status =
-    (AskRun words × (end : End) × (status ≡ status_of end) × EndShows run end)
-    ⊎ (¬ AskRun words × (status ≡ 2) × DoesNothing run)
+    DoesTask words run status
+    ⊎ (IsTaskOf words None × (status ≡ 2) × DoesNothing run)
+    ⊎ (BeginWithMake words × (status ≡ status_of Memory) × DoesNothing run)
 
--- these bytes were taken from the source, none past the first one too many, those were appended to the sink, and the status says what they are
+-- these bytes were taken from the source, none past the first one too many, those were appended to the sink, and
+-- the status says what they are
 pub record RunsTo (words : List (String Global)) (old new : Devices) (status : ℕ) : Type 0 where
   pub taken : List ℕ
   pub took : Consumes old.left new.left taken
@@ -88,8 +120,22 @@ pub record RunsTo (words : List (String Global)) (old new : Devices) (status : �
   pub appended : Appends old.held new.held out
   pub shows : StatusShows words (record { old = old; new = new; taken = taken; out = out }) status
 
--- where the source tells what it has left: a script that isn't too long is answered to its end, or memory runs out, unless a count of faults rose or stands at its last value
-abbrev pub RunsThrough : List (String Global) → Devices → Devices → ℕ → Type 0
-RunsThrough words old new status = (bytes : List ℕ) → old.left ≡ Some bytes → AskRun words → length bytes ≤ most_bytes
+-- where the words ask for `run`, and the source tells what it has left: a script that isn't too long is answered
+-- to its end, or memory runs out, unless a count of faults rose or stands at its last value
+abbrev pub AnswersThrough : List (String Global) → Devices → Devices → ℕ → Type 0
+AnswersThrough words old new status = (bytes : List ℕ) → old.left ≡ Some bytes
+    → Asked words task.Run → length bytes ≤ most_bytes
     → ¬ Rose old.read_faults new.read_faults → ¬ Rose old.write_faults new.write_faults
     → (status ≡ 0) ⊎ (status ≡ 1) ⊎ (status ≡ 5)
+
+-- where the words ask for `make`, the script is written whole, or memory runs out, unless the count of failed
+-- writes rose or stands at its last value
+abbrev pub MakesThrough : List (String Global) → Devices → Devices → ℕ → Type 0
+MakesThrough words old new status = (nodes start : ℕ) → Asked words (task.Make nodes start)
+    → ¬ Rose old.write_faults new.write_faults → (status ≡ 0) ⊎ (status ≡ 5)
+
+-- the task that the words ask for is done, or memory runs out, unless a count of faults rose or stands at its
+-- last value
+pub record RunsThrough (words : List (String Global)) (old new : Devices) (status : ℕ) : Type 0 where
+  pub answers : AnswersThrough words old new status
+  pub makes : MakesThrough words old new status

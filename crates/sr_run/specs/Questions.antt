@@ -36,7 +36,8 @@ abbrev pub TellsLookup : ℕ → ℕ → Numbered → Told → Type 0
 TellsLookup system label version told = OfNode (IsRefused told) version.net.graph system (λ node.
     (found : Option Entry) × IsLookup version.net node label found × (told ≡ Lookup version.net found))
 
--- a packet that starts at the first node under the second's label crosses these links by the choice number, no link being closed, and reaches the second with an empty stack, at the cost of the distance
+-- a packet that starts at the first node under the second's label crosses these links by the choice number, no link
+-- being closed, and reaches the second with an empty stack, at the cost of the distance
 pub record IsForwarded (net : Net) (first second choice : ℕ) (links : List LinkNo) : Type 0 where
   pub label : ℕ
   pub is_label : IsLabel net first second label

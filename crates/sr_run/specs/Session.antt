@@ -30,21 +30,21 @@ abbrev pub Asks : (Numbered → Told → Type 0) → Domain → Told → Domain 
 Asks tells old told new = TellsOf tells (last_version old.nets) told × (new ≡ old)
 
 -- how many nodes the last version has, and 0 before the first
-abbrev pub nodes_of : Option Numbered → ℕ
-nodes_of None = 0
-nodes_of (Some version) = node_count version.net.graph
+abbrev pub version_nodes : Option Numbered → ℕ
+version_nodes None = 0
+version_nodes (Some version) = node_count version.net.graph
 
 -- how many links the last version has, and 0 before the first
-abbrev pub links_of : Option Numbered → ℕ
-links_of None = 0
-links_of (Some version) = link_count version.net.graph
+abbrev pub version_links : Option Numbered → ℕ
+version_links None = 0
+version_links (Some version) = link_count version.net.graph
 
 -- what is shown: the last version, the accepted depth, and how many edits are staged
 abbrev pub shown_of : Domain → Shown
 shown_of domain = record {
   version = number_of (last_version domain.nets);
-  nodes = nodes_of (last_version domain.nets);
-  links = links_of (last_version domain.nets);
+  nodes = version_nodes (last_version domain.nets);
+  links = version_links (last_version domain.nets);
   depth = domain.editing.accepted.depth;
   staged = domain.editing.staged;
 }
@@ -76,7 +76,7 @@ Tells old (Watch watchers rounds) told new = Refuses old told new refusal.NotBui
 Tells old Join told new = Refuses old told new refusal.NotBuilt
 Tells old Show told new = Shows old told new
 
--- a line with this fault is refused for this reason; want of memory ends the run
+-- a line with this fault is refused for this reason; running out of memory ends the run
 abbrev pub IsRefusedAs : LineFault → Refusal → Type 0
 IsRefusedAs fault.TooLong reason = reason ≡ refusal.LineTooLong
 IsRefusedAs fault.UnknownWord reason = reason ≡ refusal.UnknownWord
@@ -91,15 +91,16 @@ TellsLine old line told new =
     ⊎ ((LineSays line NoWord × (told ≡ Nothing) × (new ≡ old))
     ⊎ ((command : Command) × LineSays line (Word command) × Tells old command told new))
 
--- from a state, to the line of this number, this is answered, the line is refused or not, and that is the state after it
+-- from a state, to the line of this number, this is answered, the line is refused or not, and that is the state after
+-- it
 abbrev pub Answers : Domain → ℕ → List ℕ → List ℕ → Bool → Domain → Type 0
 Answers old number line out refused new =
     (told : Told) × TellsLine old line told new × (out ≡ spelled number told) × (refused ≡ is_refusal told)
 
 -- the end of the script says nothing, and changes nothing
-abbrev pub Ends : Domain → List ℕ → Domain → Type 0
-Ends old out new = (out ≡ []) × (new ≡ old)
+abbrev pub EndsScript : Domain → List ℕ → Domain → Type 0
+EndsScript old out new = (out ≡ []) × (new ≡ old)
 
 -- what a session may answer to lines, and at the end of the script
 abbrev pub conduct : Conduct Domain
-conduct = record { answers = Answers; ends = Ends }
+conduct = record { answers = Answers; ends = EndsScript }

@@ -1,6 +1,6 @@
 -- What a session shows of a domain, and what it keeps.
-use Rattle.std.specs.Prelude.{◌≡◌, ◌+◌, ◌<◌, ◌≤◌, Option, IfSome}
-use Rattle.sr_lsdb.specs.Editing.{Editing}
+use Rattle.std.specs.Prelude.{◌≡◌, ◌+◌, ◌<◌, ◌≤◌, Option, Some, IfSome}
+use Rattle.sr_lsdb.specs.Editing.{Editing, with_accepted}
 use Rattle.sr_domain.specs.Net.{IsNetOf}
 use Rattle.sr_repair.specs.Version.{Numbered}
 use Rattle.sr_run.specs.declared.commit.TheConstants.{MOST_VERSIONS}
@@ -15,11 +15,16 @@ pub record State : Type 0 where
 abbrev pub shown : Domain → State
 shown domain = record { editing = domain.editing; current = last_version domain.nets }
 
--- what a session keeps: no more versions than there may be, counted from 1, and the last net is that of the accepted facts
-pub record IsKept (state : State) : Type 0 where
+-- what a session keeps: no more versions than there may be, counted from 1, and the last net is that of the accepted
+-- facts
+pub record IsKeptState (state : State) : Type 0 where
   pub few : number_of state.current ≤ MOST_VERSIONS
   pub counted : IfSome state.current (λ version. 0 < version.number)
   pub fresh : IfSome state.current (λ version. IsNetOf state.editing.accepted version.net)
+
+-- the state after the tentative facts are accepted with this version
+abbrev pub with_version : State → Numbered → State
+with_version state version = record { editing = with_accepted state.editing; current = Some version }
 
 -- the version after the last one, of the net of the tentative facts
 pub record IsNext (state : State) (version : Numbered) : Type 0 where

@@ -34,7 +34,7 @@ fn put_counts(number: u32, counts: Counts, out: &mut Vec<u8>) -> Result<(), Allo
 }
 
 /// `audit`: appends how many answers of each sort the audit of the last version has.
-pub(crate) fn audit(current: &Option<Version>, out: &mut Vec<u8>) -> Result<(), Stop>
+pub(crate) fn audit_counts(current: &Option<Version>, out: &mut Vec<u8>) -> Result<(), Stop>
     ensures { Carries (TellsOf TellsSummary current.now) out.old.items out.new.items result }
 {
     let version = found!(last_version(current));

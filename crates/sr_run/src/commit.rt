@@ -2,13 +2,12 @@
 ghost use Rattle.std.specs.Prelude.{◌≡◌, ◌+◌, ◌<◌, ◌≤◌, ◌++◌, Some, None, IfErr, IfNone, IfOk, IfSome, MatchResult, OnOk};
 ghost use Rattle.sr_model.specs.Graph.{node_count, link_count};
 ghost use Rattle.sr_lsdb.specs.Editing.{with_accepted};
-ghost use Rattle.sr_domain.specs.Net.{IsNetOf};
 ghost use Rattle.sr_domain.specs.Rules.{IsFirstBroken};
 ghost use Rattle.sr_script.specs.declared.command.Command.TheVariants.{Commit};
 ghost use Rattle.sr_print.specs.Printed.{version_line};
 ghost use Rattle.sr_repair.specs.Version.{version_of};
 ghost use Rattle.sr_run.specs.Domain.{number_of};
-ghost use Rattle.sr_run.specs.State.{IsNext};
+ghost use Rattle.sr_run.specs.State.{IsKeptState, IsNext, with_version};
 ghost use Rattle.sr_run.specs.Handlers.{CarriesOut};
 
 use crate::session::DomainSession;
@@ -124,9 +123,7 @@ impl DomainSession {
 
     /// Appends the number, nodes and links of a version, and accepts the tentative facts with it.
     fn publish(&mut self, version: Version, out: &mut Vec<u8>) -> Result<(), AllocError>
-        requires counted { 0 < version.number }
-        requires room { version.number ≤ MOST_VERSIONS }
-        requires net { IsNetOf self.old.editing.tentative version.net }
+        requires { IsKeptState (with_version self.old version) }
         ensures said { OnOk result (out.new.items ≡ out.old.items ++
             version_line version.number (node_count version.net.graph) (link_count version.net.graph)) }
         ensures editing { OnOk result (self.new.editing ≡ with_accepted self.old.editing) }

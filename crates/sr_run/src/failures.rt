@@ -3,7 +3,7 @@ ghost use Rattle.std.specs.Prelude.{◌<◌, IfOk};
 ghost use Rattle.sr_model.specs.Graph.{node_count};
 ghost use Rattle.sr_model.specs.Case.{IsCase};
 ghost use Rattle.sr_run.specs.Session.{TellsOf};
-ghost use Rattle.sr_run.specs.Failures.{AreSpaces, TellsRepair, TellsSpaces};
+ghost use Rattle.sr_run.specs.Failures.{AreCaseSpaces, TellsRepair, TellsSpaces};
 ghost use Rattle.sr_run.specs.Handlers.{Carries};
 
 use crate::names::{Failure, answer_of, find_affected, find_failure, last_version};
@@ -23,11 +23,11 @@ struct SpaceSets {
 }
 
 /// The spaces of the case and the destination.
-fn spaces_of(alloc: Global, version: &Version, failure: Failure) -> Result<SpaceSets, AllocError>
+fn space_sets(alloc: Global, version: &Version, failure: Failure) -> Result<SpaceSets, AllocError>
     requires case { IsCase version.now.net.graph failure.case }
     requires destination { failure.destination.0 < node_count version.now.net.graph }
     ensures { IfOk result (λ sets.
-        AreSpaces version.now.net.graph failure.case failure.destination.0 sets.p sets.extended sets.q) }
+        AreCaseSpaces version.now.net.graph failure.case failure.destination.0 sets.p sets.extended sets.q) }
 {
     let graph = version.net().graph();
     let trees = version.trees();
@@ -51,7 +51,7 @@ pub(crate) fn spaces(
 {
     let version = found!(last_version(current));
     let failure = found!(find_failure(version, repair));
-    let sets = spaces_of(alloc, version, failure)?;
+    let sets = space_sets(alloc, version, failure)?;
     put_spaces(version.net(), &sets.p, &sets.extended, &sets.q, out)?;
     Ok(())
 }

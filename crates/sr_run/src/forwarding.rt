@@ -50,7 +50,7 @@ fn put_walk_of(
 }
 
 /// `walk A D K`: appends the walk of a packet from A under D's label, by choice number K.
-pub(crate) fn walk(
+pub(crate) fn walk_packet(
     alloc: Global,
     current: &Option<Version>,
     ends: &EndNames,

@@ -1,6 +1,6 @@
-//! Laws of sessions, proved over the definitions alone. Each is what a function with an empty body ensures; its statement
+//! Laws of sessions and of numbers, proved over the definitions alone. Each is what a function with an empty body ensures; its statement
 //! stands in `specs/`.
-ghost use Rattle.sr_run.specs.Laws.{AcceptedNetsDeliver, LinesHaveOneAnswer, ScriptsHaveOneOutput};
+ghost use Rattle.sr_run.specs.Laws.{AcceptedNetsDeliver, AdjSidFlags, LinesHaveOneAnswer, LinkStateNumbers, PrefixSidFlags, ProjectLimits, ScriptsHaveOneOutput};
 
 /// From a state whose nets give what accepted ones do, a line has at most one answer and at most one next state. A script
 /// has at most one output, and at most one last state.
@@ -13,4 +13,13 @@ pub fn answers_are_determined()
 /// under it.
 pub fn accepted_nets_deliver()
     ensures { AcceptedNetsDeliver }
+{}
+
+/// The constants that definitions cite are the numbers of the RFCs and of this project's rules. They are written out here,
+/// so that a wrong one is refused, though code and definitions follow it.
+pub fn cited_numbers_are_right()
+    ensures prefix_sid { PrefixSidFlags }
+    ensures adj_sid { AdjSidFlags }
+    ensures link_state { LinkStateNumbers }
+    ensures limits { ProjectLimits }
 {}

@@ -2,7 +2,7 @@
 ghost use Rattle.std.specs.Prelude.{◌≡◌, None, Some, MatchOption, MatchResult};
 ghost use Rattle.sr_model.specs.Case.{IsAffected, IsCase};
 ghost use Rattle.sr_model.specs.Repair.{IsCaseAnswer};
-ghost use Rattle.sr_run.specs.Names.{HasNode, IsLinkOf, IsNodeOf, NoLinkOf, ends_of, no_link};
+ghost use Rattle.sr_run.specs.Names.{NamesNode, IsLinkOf, IsNamedNode, NoLinkOf, ends_of, missing_link};
 ghost use Rattle.sr_run.specs.Handlers.{AreEnds, IsAffectedOf, IsAnnounced, IsFailureOf, LacksAffected, LacksAnnounced, LacksEnd, LacksFailure};
 
 use sr_model::{Answer, Case, LinkKey, LinkNo, NodeNo, SystemId};
@@ -25,8 +25,8 @@ pub(crate) fn last_version(current: &Option<Version>) -> Result<&Version, Refusa
 /// The node of this system id, or the refusal that names it.
 pub(crate) fn find_node(version: &Version, system: SystemId) -> Result<NodeNo, Refusal>
     ensures { MatchResult result
-        (λ node. IsNodeOf version.now.net.graph system node.0)
-        (λ reason. (HasNode version.now.net.graph system → ⊥) × (reason ≡ Refusal.NoNode system)) }
+        (λ node. IsNamedNode version.now.net.graph system node.0)
+        (λ reason. (NamesNode version.now.net.graph system → ⊥) × (reason ≡ Refusal.NoNode system)) }
 {
     match version.net().graph().node(system) {
         Some(node) => Ok(node),
@@ -68,8 +68,8 @@ fn ends_of(link: &LinkName) -> EndNames
 }
 
 /// The refusal of a link that isn't there.
-fn no_link(link: &LinkName) -> Refusal
-    ensures { result ≡ no_link link.now }
+fn missing_link(link: &LinkName) -> Refusal
+    ensures { result ≡ missing_link link.now }
 {
     Refusal::NoLink {
         from: link.from,
@@ -90,7 +90,7 @@ pub(crate) fn find_announced(version: &Version, link: &LinkName) -> Result<LinkK
     }
     match version.net().named(link.from, link.to, u64::from(link.n)) {
         Some(key) => Ok(key),
-        None => Err(no_link(link)),
+        None => Err(missing_link(link)),
     }
 }
 
@@ -136,7 +136,7 @@ pub(crate) fn find_failure(version: &Version, repair: &RepairName) -> Result<Fai
             },
             destination,
         }),
-        None => Err(no_link(&repair.link)),
+        None => Err(missing_link(&repair.link)),
     }
 }
 

@@ -1,14 +1,11 @@
 //! The walk of a repaired packet in the last version: `walk KIND A B n D K`.
-ghost use Rattle.std.specs.Prelude.{◌≡◌, ◌<◌, false, reverse, IfOk, IfSome, MatchOption};
+ghost use Rattle.std.specs.Prelude.{◌≡◌, false, reverse, IfOk, IfSome, MatchOption};
 ghost use Rattle.sr_model.specs.declared.repair.Answer.TheVariants.{Least};
 ghost use Rattle.sr_model.specs.Audit.{is_least};
-ghost use Rattle.sr_model.specs.Case.{IsAffected, IsCase};
 ghost use Rattle.sr_model.specs.Forward.{IsStack};
-ghost use Rattle.sr_model.specs.Graph.{node_count};
-ghost use Rattle.sr_model.specs.Repair.{IsCaseAnswer};
 ghost use Rattle.sr_print.specs.Links.{AreLinks};
 ghost use Rattle.sr_run.specs.Session.{TellsOf};
-ghost use Rattle.sr_run.specs.Failures.{IsRepairWalked, TellsRepairWalk};
+ghost use Rattle.sr_run.specs.Failures.{IsAnswerOf, IsRepairWalked, TellsRepairWalk};
 ghost use Rattle.sr_run.specs.Handlers.{Carries};
 
 use crate::names::{Failure, answer_of, find_affected, last_version};
@@ -31,10 +28,7 @@ fn walk_list(
     labels: Vec<u32>,
     choice: u32,
 ) -> Result<Vec<LinkNo>, AllocError>
-    requires case { IsCase version.now.net.graph failure.case }
-    requires destination { failure.destination.0 < node_count version.now.net.graph }
-    requires affected { IsAffected version.now.net failure.case failure.destination.0 }
-    requires answer { IsCaseAnswer version.now.net failure.case failure.destination.0 (Least list.now) }
+    requires answer { IsAnswerOf version.now.net failure.case failure.destination.0 (Least list.now) }
     requires stack { IsStack version.now.net failure.destination.0
         list.now.first.0 list.now.segments (reverse labels.items) }
     ensures walked { IfOk result (λ links.
@@ -59,10 +53,7 @@ fn walk_answer(
     answer: &Answer,
     choice: u32,
 ) -> Result<Option<Vec<LinkNo>>, AllocError>
-    requires case { IsCase version.now.net.graph failure.case }
-    requires destination { failure.destination.0 < node_count version.now.net.graph }
-    requires affected { IsAffected version.now.net failure.case failure.destination.0 }
-    requires answer { IsCaseAnswer version.now.net failure.case failure.destination.0 answer.now }
+    requires { IsAnswerOf version.now.net failure.case failure.destination.0 answer.now }
     ensures walked { IfOk result (λ found. MatchOption found
         (is_least answer.now ≡ false)
         (λ links. IsRepairWalked version.now.net failure.case failure.destination.0 choice links.items)) }

@@ -3,15 +3,15 @@ ghost use Rattle.std.specs.Prelude.{◌≡◌, MatchOption};
 ghost use Rattle.sr_script.specs.LineSays.{IsMemory};
 ghost use Rattle.sr_engine.specs.Replies.{Gives, ToHead};
 ghost use Rattle.sr_engine.specs.Written.{written};
-ghost use Rattle.sr_run.specs.Session.{IsRefusedAs, links_of, nodes_of};
-ghost use Rattle.sr_run.specs.Handlers.{IsAccepted, IsReply, WritesRefusal};
+ghost use Rattle.sr_run.specs.Session.{IsRefusedAs, version_links, version_nodes};
+ghost use Rattle.sr_run.specs.Handlers.{IsNoRefusal, IsReply, WritesRefusal};
 
-use crate::audits::{audit, begin_audit, put_audit};
+use crate::audits::{audit_counts, begin_audit, put_audit};
 use crate::commit::last_number;
 use crate::distances::{dist, next};
 use crate::edits::LinkEdit;
 use crate::failures::{repair, spaces};
-use crate::forwarding::{label, walk};
+use crate::forwarding::{label, walk_packet};
 use crate::repaired::walk_repair;
 use crate::stop::Stop;
 use sr_base::{Runtime, Sink, SinkFault};
@@ -44,7 +44,7 @@ pub(crate) enum Reply {
 }
 
 impl Model for DomainSession {
-    ghost use Rattle.sr_run.specs.State.{State, IsKept};
+    ghost use Rattle.sr_run.specs.State.{State, IsKeptState};
 
     ghost Value = { State };
 
@@ -52,7 +52,7 @@ impl Model for DomainSession {
         record { editing = s.editor; current = s.current } };
 
     ghost invariant = { λ s.
-        IsKept (record { editing = s.editor; current = s.current }) };
+        IsKeptState (record { editing = s.editor; current = s.current }) };
 }
 
 /// Writes the refusal of the line of this number.
@@ -92,7 +92,7 @@ fn refusal_of_fault(fault: &LineFault) -> Option<Refusal>
 
 /// That a line whose answer was written was not refused, or the fault.
 fn accepted(written: Result<(), SinkFault>) -> Result<bool, SinkFault>
-    ensures { IsAccepted written result }
+    ensures { IsNoRefusal written result }
 {
     match written {
         Ok(()) => Ok(false),
@@ -119,8 +119,8 @@ struct NetSize {
 
 /// How many nodes and links the net of the last version has: none before the first.
 fn size_of(current: &Option<Version>) -> NetSize
-    ensures nodes { result.nodes ≡ nodes_of current.now }
-    ensures links { result.links ≡ links_of current.now }
+    ensures nodes { result.nodes ≡ version_nodes current.now }
+    ensures links { result.links ≡ version_links current.now }
 {
     match current {
         Some(version) => NetSize {
@@ -199,12 +199,14 @@ impl DomainSession {
             } => replied(label(current, node, number, out)),
             Command::Spaces { repair: name } => replied(spaces(alloc, current, &name, out)),
             Command::Repair { repair: name } => replied(repair(alloc, current, &name, out)),
-            Command::Walk { ends, choice } => replied(walk(alloc, current, &ends, choice, out)),
+            Command::Walk { ends, choice } => replied(walk_packet(
+                alloc, current, &ends, choice, out,
+            )),
             Command::WalkRepair {
                 repair: name,
                 choice,
             } => replied(walk_repair(alloc, current, &name, choice, out)),
-            Command::Audit => replied(audit(current, out)),
+            Command::Audit => replied(audit_counts(current, out)),
             Command::AuditFull => begin_audit(current),
             Command::Hold | Command::Watch { .. } | Command::Join => {
                 Err(Stop::Refused(Refusal::NotBuilt))

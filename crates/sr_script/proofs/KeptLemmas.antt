@@ -4,7 +4,7 @@ use Rattle.std.proofs.Math.ListN.{get_or-eq_default}
 use Rattle.std.proofs.lemmas.List.{take_more_set, map-append, append-nil, get_or-map, get_or-take, get_or_append_left, length-map, length-take}
 use Rattle.sr_script.specs.Words.{word_at}
 
--- what the first so many places show
+-- what the first m places show
 abbrev pub kept : List (Bor (List ℕ)) → ℕ → List (List ℕ)
 kept texts count = map (λ (text : Bor (List ℕ)). text.now) (take count texts)
 

@@ -3,6 +3,6 @@ mod KeptLemmas
 mod BlankLemmas
 mod DigitLemmas
 mod OctetLemmas
-mod Samples
+mod FirstWords
 mod SaidLemmas
 pub mod LineLemmas

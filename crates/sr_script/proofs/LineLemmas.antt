@@ -10,25 +10,25 @@ use Rattle.sr_script.specs.declared.line.Line.TheVariants.{Nothing, Word}
 use Rattle.sr_script.specs.declared.line.LineFault.{LineFault}
 use Rattle.sr_script.specs.declared.line.LineFault.TheVariants.{TooLong, UnknownWord, BadForm, BadHex, Memory}
 use Rattle.sr_script.specs.Words.{pieces, word_at, words, words_of}
-use Rattle.sr_script.specs.Says.{Says}
-use Rattle.sr_script.specs.LineSays.{BeginsCommand, IsRemark, SaysNothing, IsUnknown, IsKnown, IsLspOf, WordsSay, IsBadForm, IsBadHex, IsWordsFault, IsShort, LineSays, IsLineFault, IsMemory}
+use Rattle.sr_script.specs.Says.{SaysCommand}
+use Rattle.sr_script.specs.LineSays.{BeginsCommand, IsRemark, SayNothing, IsUnknown, IsKnown, IsLspOf, WordsSay, IsBadForm, IsBadHex, IsWordsFault, IsShortLine, LineSays, IsLineFault, IsMemory}
 use Rattle.sr_script.specs.Answers.{IsHexFault, IsReading}
 use Rattle.sr_script.proofs.SaidLemmas.{said-once, first-not_remark, lsp-length, lsp-decoded}
 
 -- ---- first words
 
-nothing-cases : (ws : List (List ℕ)) → 0 < length ws → (IsRemark (word_at ws 0) → SaysNothing ws) × (SaysNothing ws → IsRemark (word_at ws 0))
+nothing-cases : (ws : List (List ℕ)) → 0 < length ws → (IsRemark (word_at ws 0) → SayNothing ws) × (SayNothing ws → IsRemark (word_at ws 0))
 unfolding word_at
 nothing-cases [] some = absurd (omega arith)
 nothing-cases (first ∷ rest) some = (λ r. r, λ r. r)
 
 -- the first word is a remark, or the words say something
-pub nothing-is : (ws : List (List ℕ)) (answer : Bool) → 0 < length ws → IsTrue answer ↔ IsRemark (word_at ws 0) → IsTrue answer ↔ SaysNothing ws
+pub nothing-is : (ws : List (List ℕ)) (answer : Bool) → 0 < length ws → IsTrue answer ↔ IsRemark (word_at ws 0) → IsTrue answer ↔ SayNothing ws
 nothing-is ws answer some is =
     let p = nothing-cases ws some in
     (λ yes. p.0 (is.0 yes), λ said. is.1 (p.1 said))
 
-unknown-is : (ws : List (List ℕ)) → ¬ SaysNothing ws → ¬ BeginsCommand (word_at ws 0) → IsUnknown ws
+unknown-is : (ws : List (List ℕ)) → ¬ SayNothing ws → ¬ BeginsCommand (word_at ws 0) → IsUnknown ws
 unfolding word_at
 unknown-is [] some none = some tt
 unknown-is (first ∷ rest) some none = (some, none)
@@ -38,11 +38,11 @@ unfolding word_at
 known-is [] some k = absurd (omega arith)
 known-is (first ∷ rest) some k = k
 
-something : (ws : List (List ℕ)) → ¬ SaysNothing ws → 0 < length ws
+something : (ws : List (List ℕ)) → ¬ SayNothing ws → 0 < length ws
 something [] some = absurd (some tt)
 something (first ∷ rest) some = omega arith
 
-known-of : (ws : List (List ℕ)) (command : Command) → Says ws command → IsKnown ws
+known-of : (ws : List (List ℕ)) (command : Command) → SaysCommand ws command → IsKnown ws
 known-of ws command p = known-is ws (omega (arith, p.count)) (command, p.first)
 
 first-lsp : (ws : List (List ℕ)) (text : List ℕ) → IsLspOf ws text → word_at ws 0 ≡ codes "lsp"
@@ -56,7 +56,7 @@ second-lsp ws text e = ap (λ (w : List (List ℕ)). slice_index_or w 1 []) e
 -- ---- refusals
 
 -- words that no reader answers have a bad form
-form-refused : (ws : List (List ℕ)) → ¬ SaysNothing ws → word_at ws 0 ≢ codes "lsp" → BeginsCommand (word_at ws 0) → ((command : Command) → ¬ Says ws command) → IsBadForm ws
+form-refused : (ws : List (List ℕ)) → ¬ SayNothing ws → word_at ws 0 ≢ codes "lsp" → BeginsCommand (word_at ws 0) → ((command : Command) → ¬ SaysCommand ws command) → IsBadForm ws
 form-refused ws some first begins none = record {
   known = known-is ws (something ws some) begins;
   other = λ text e. first (first-lsp ws text e);
@@ -64,7 +64,7 @@ form-refused ws some first begins none = record {
 }
 
 -- and what the readers refuse is refused so
-pub reading-refused : (ws : List (List ℕ)) (fault : LineFault) → ¬ SaysNothing ws → word_at ws 0 ≢ codes "lsp" → IsReading ws (Err fault) → IsWordsFault ws fault
+pub reading-refused : (ws : List (List ℕ)) (fault : LineFault) → ¬ SayNothing ws → word_at ws 0 ≢ codes "lsp" → IsReading ws (Err fault) → IsWordsFault ws fault
 reading-refused ws UnknownWord some first r = unknown-is ws some r
 reading-refused ws BadForm some first r = form-refused ws some first r.0 r.1
 reading-refused ws TooLong some first r = absurd r
@@ -103,11 +103,11 @@ hex-refused ws BadForm first two e = absurd e
 known-not_remark : (word : List ℕ) → BeginsCommand word → ¬ IsRemark word
 known-not_remark word k remark = first-not_remark k.0 (subst IsRemark k.1 remark)
 
-not-both : (ws : List (List ℕ)) → SaysNothing ws → ¬ IsKnown ws
+not-both : (ws : List (List ℕ)) → SayNothing ws → ¬ IsKnown ws
 not-both [] s k = k
 not-both (first ∷ rest) s k = known-not_remark first k s
 
-nothing-known : (ws : List (List ℕ)) → SaysNothing ws → ¬ IsUnknown ws
+nothing-known : (ws : List (List ℕ)) → SayNothing ws → ¬ IsUnknown ws
 nothing-known [] s u = u
 nothing-known (first ∷ rest) s u = u.0 s
 
@@ -118,7 +118,7 @@ not-unknown (first ∷ rest) k u = u.1 k
 hex-known : (ws : List (List ℕ)) → IsBadHex ws → IsKnown ws
 hex-known ws f = subst IsKnown (sym f.lsp) (Lsp [], refl)
 
-hex-unsaid : (ws : List (List ℕ)) (command : Command) → IsBadHex ws → ¬ Says ws command
+hex-unsaid : (ws : List (List ℕ)) (command : Command) → IsBadHex ws → ¬ SaysCommand ws command
 hex-unsaid ws command f p = lsp-decoded ws command p (first-lsp ws f.text f.lsp) (subst (λ (word : List ℕ). IsErr (decode_of word)) (sym (second-lsp ws f.text f.lsp)) f.refused)
 
 words-agree : (ws : List (List ℕ)) (said : Line) (fault : LineFault) → WordsSay ws said → IsWordsFault ws fault → IsMemory fault
@@ -171,7 +171,7 @@ faults-agree line BadHex BadHex f g = inl refl
 
 -- ---- lines
 
-pub line-refused : (line : List ℕ) (fault : LineFault) → IsShort line → IsWordsFault (words_of line) fault → IsLineFault line fault
+pub line-refused : (line : List ℕ) (fault : LineFault) → IsShortLine line → IsWordsFault (words_of line) fault → IsLineFault line fault
 line-refused line TooLong short f = absurd f
 line-refused line UnknownWord short f = (short, f)
 line-refused line BadForm short f = (short, f)

@@ -5,11 +5,11 @@ use Rattle.hex.specs.Hex.{decode_of}
 use Rattle.sr_script.specs.declared.command.Command.{Command}
 use Rattle.sr_script.specs.declared.command.Command.TheVariants.{Lsp}
 use Rattle.sr_script.specs.Words.{word_at}
-use Rattle.sr_script.specs.Says.{Says, first_word}
+use Rattle.sr_script.specs.Says.{SaysCommand, first_word}
 use Rattle.sr_script.specs.LineSays.{IsRemark}
 
 -- words say at most one command
-pub said-once : (ws : List (List ℕ)) (a b : Command) → Says ws a → Says ws b → a ≡ b
+pub said-once : (ws : List (List ℕ)) (a b : Command) → SaysCommand ws a → SaysCommand ws b → a ≡ b
 said-once ws (Lsp octets) b p q = grind arith
 said-once ws a b p q = grind arith
 
@@ -19,11 +19,11 @@ first-not_remark (Lsp octets) remark = absurd (omega (arith, remark))
 first-not_remark command remark = absurd (omega (arith, remark))
 
 -- a command that begins with `lsp` has two words
-pub lsp-length : (ws : List (List ℕ)) (command : Command) → Says ws command → word_at ws 0 ≡ codes "lsp" → length ws ≡ 2
+pub lsp-length : (ws : List (List ℕ)) (command : Command) → SaysCommand ws command → word_at ws 0 ≡ codes "lsp" → length ws ≡ 2
 lsp-length ws (Lsp octets) p first = p.count
 lsp-length ws command p first = grind arith
 
 -- and the second is pairs of hexadecimal digits
-pub lsp-decoded : (ws : List (List ℕ)) (command : Command) → Says ws command → word_at ws 0 ≡ codes "lsp" → ¬ IsErr (decode_of (word_at ws 1))
+pub lsp-decoded : (ws : List (List ℕ)) (command : Command) → SaysCommand ws command → word_at ws 0 ≡ codes "lsp" → ¬ IsErr (decode_of (word_at ws 1))
 lsp-decoded ws (Lsp octets) p first = grind arith
 lsp-decoded ws command p first = grind arith

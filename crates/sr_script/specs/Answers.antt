@@ -4,7 +4,7 @@ use Rattle.std.specs.declared.result.Result.{Result}
 use Rattle.std.specs.declared.result.Result.TheVariants.{Ok, Err}
 use Rattle.hex.specs.Hex.{decode_of}
 use Rattle.sr_script.specs.Words.{word_at}
-use Rattle.sr_script.specs.Says.{Says, first_word, kind_text}
+use Rattle.sr_script.specs.Says.{SaysCommand, first_word, kind_word}
 use Rattle.sr_script.specs.Number.{number_in}
 use Rattle.sr_script.specs.declared.name.TheConstants.{MOST_LINKS}
 use Rattle.sr_model.specs.declared.case.Kind.{Kind}
@@ -16,7 +16,7 @@ use Rattle.sr_script.specs.declared.line.LineFault.TheVariants.{UnknownWord, Bad
 
 -- the word is for no kind of failure
 abbrev pub NamesNoKind : List ℕ → Type 0
-NamesNoKind word = (kind : Kind) → word ≢ kind_text kind
+NamesNoKind word = (kind : Kind) → word ≢ kind_word kind
 
 -- one of the two words from place i on is no system id
 abbrev pub NamesNoEnds : List (List ℕ) → ℕ → Type 0
@@ -31,14 +31,14 @@ abbrev pub NamesNoRepair : List (List ℕ) → ℕ → Type 0
 NamesNoRepair ws i = NamesNoKind (word_at ws i) ⊎ NamesNoLink ws (i + 1) ⊎ (system_read (word_at ws (i + 4)) ≡ None)
 
 -- the command that the words say, or none where they say none
-abbrev pub Answers : List (List ℕ) → Option Command → Type 0
-Answers ws answer = MatchOption answer ((command : Command) → ¬ Says ws command) (Says ws)
+abbrev pub IsCommandOf : List (List ℕ) → Option Command → Type 0
+IsCommandOf ws answer = MatchOption answer ((command : Command) → ¬ SaysCommand ws command) (SaysCommand ws)
 
 -- the words say the command; or their first begins none, or it begins one and they say none
 abbrev pub IsReading : List (List ℕ) → Result Command LineFault → Type 0
-IsReading ws (Ok command) = Says ws command
+IsReading ws (Ok command) = SaysCommand ws command
 IsReading ws (Err UnknownWord) = ¬ BeginsCommand (word_at ws 0)
-IsReading ws (Err BadForm) = BeginsCommand (word_at ws 0) × ((command : Command) → ¬ Says ws command)
+IsReading ws (Err BadForm) = BeginsCommand (word_at ws 0) × ((command : Command) → ¬ SaysCommand ws command)
 IsReading ws (Err fault) = ⊥
 
 -- no other command begins with the word of this one

@@ -8,7 +8,7 @@ use Rattle.sr_script.specs.declared.line.Line.TheVariants.{Nothing, Word}
 use Rattle.sr_script.specs.declared.line.LineFault.{LineFault}
 use Rattle.sr_script.specs.declared.line.LineFault.TheVariants.{TooLong, UnknownWord, BadForm, BadHex, Memory}
 use Rattle.sr_script.specs.Words.{words_of}
-use Rattle.sr_script.specs.Says.{Says, first_word}
+use Rattle.sr_script.specs.Says.{SaysCommand, first_word}
 
 -- the word begins a command
 abbrev pub BeginsCommand : List ℕ → Type 0
@@ -19,9 +19,9 @@ abbrev pub IsRemark : List ℕ → Type 0
 IsRemark word = slice_index word 0 ≡ 35
 
 -- there are no words, or the first begins a remark
-abbrev pub SaysNothing : List (List ℕ) → Type 0
-SaysNothing [] = Unit {0}
-SaysNothing (first ∷ rest) = IsRemark first
+abbrev pub SayNothing : List (List ℕ) → Type 0
+SayNothing [] = Unit {0}
+SayNothing (first ∷ rest) = IsRemark first
 
 -- the first word begins neither a remark nor a command
 abbrev pub IsUnknown : List (List ℕ) → Type 0
@@ -39,14 +39,14 @@ IsLspOf ws text = ws ≡ codes "lsp" ∷ text ∷ []
 
 -- the words say this
 abbrev pub WordsSay : List (List ℕ) → Line → Type 0
-WordsSay ws Nothing = SaysNothing ws
-WordsSay ws (Word command) = Says ws command
+WordsSay ws Nothing = SayNothing ws
+WordsSay ws (Word command) = SaysCommand ws command
 
 -- the words begin a command, aren't `lsp` and one text, and say no command
 pub record IsBadForm (ws : List (List ℕ)) : Type 0 where
   pub known : IsKnown ws
   pub other : (text : List ℕ) → ¬ IsLspOf ws text
-  pub unsaid : (command : Command) → ¬ Says ws command
+  pub unsaid : (command : Command) → ¬ SaysCommand ws command
 
 -- the words are `lsp` and a text that isn't pairs of hexadecimal digits
 pub record IsBadHex (ws : List (List ℕ)) : Type 0 where
@@ -63,20 +63,20 @@ IsWordsFault ws BadHex = IsBadHex ws
 IsWordsFault ws (Memory error) = Unit {0}
 
 -- no more bytes than the longest line may have, a carriage return counted
-abbrev pub IsShort : List ℕ → Type 0
-IsShort line = length line ≤ LONGEST_LINE
+abbrev pub IsShortLine : List ℕ → Type 0
+IsShortLine line = length line ≤ LONGEST_LINE
 
 -- a line that isn't too long says what its words say
 pub record LineSays (line : List ℕ) (said : Line) : Type 0 where
-  pub short : IsShort line
+  pub short : IsShortLine line
   pub says : WordsSay (words_of line) said
 
 -- the line is refused so; memory may run out at any line
 abbrev pub IsLineFault : List ℕ → LineFault → Type 0
 IsLineFault line TooLong = LONGEST_LINE < length line
-IsLineFault line UnknownWord = IsShort line × IsUnknown (words_of line)
-IsLineFault line BadForm = IsShort line × IsBadForm (words_of line)
-IsLineFault line BadHex = IsShort line × IsBadHex (words_of line)
+IsLineFault line UnknownWord = IsShortLine line × IsUnknown (words_of line)
+IsLineFault line BadForm = IsShortLine line × IsBadForm (words_of line)
+IsLineFault line BadHex = IsShortLine line × IsBadHex (words_of line)
 IsLineFault line (Memory error) = Unit {0}
 
 -- memory ran out

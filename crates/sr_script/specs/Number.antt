@@ -13,8 +13,8 @@ abbrev pub is_number : List ℕ → Bool
 is_number word = list_all is_ascii_digit word && (nat_le 1 (length word) && nat_le (length word) MOST_DIGITS)
 
 -- the number that a word writes, if it is a number
-unfoldable pub number_of : List ℕ → Option ℕ
-number_of word = if is_number word then Some (decimal_value word) else None
+unfoldable pub number_read : List ℕ → Option ℕ
+number_read word = if is_number word then Some (decimal_value word) else None
 
 -- a number, if it is there and in the range
 abbrev pub within : ℕ → ℕ → Option ℕ → Option ℕ
@@ -23,4 +23,4 @@ within low high None = None
 
 -- the number that a word writes, if it is a number in the range
 unfoldable pub number_in : ℕ → ℕ → List ℕ → Option ℕ
-number_in low high word = within low high (number_of word)
+number_in low high word = within low high (number_read word)

@@ -15,10 +15,10 @@ use Rattle.sr_script.specs.declared.command.Command.{Command}
 use Rattle.sr_script.specs.declared.command.Command.TheVariants.{Lsp, Cost, Down, Up, Depth, Commit, DropStaged, Dist, Next, Label, Spaces, Repair, Walk, WalkRepair, Audit, AuditFull, Hold, Watch, Join, Show}
 
 -- the word for a kind of failure
-abbrev pub kind_text : Kind → List ℕ
-kind_text Link = codes "link"
-kind_text Node = codes "node"
-kind_text Risk = codes "risk"
+abbrev pub kind_word : Kind → List ℕ
+kind_word Link = codes "link"
+kind_word Node = codes "node"
+kind_word Risk = codes "risk"
 
 -- what a word behind the first gives: itself, a system id, a number of a range, a kind of failure, or octets
 pub data Argument : Type 0 where
@@ -33,7 +33,7 @@ abbrev pub IsGiven : List ℕ → Argument → Type 0
 IsGiven word (Itself text) = word ≡ text
 IsGiven word (System id) = system_read word ≡ Some id
 IsGiven word (Number low high n) = number_in low high word ≡ Some n
-IsGiven word (Failure kind) = word ≡ kind_text kind
+IsGiven word (Failure kind) = word ≡ kind_word kind
 IsGiven word (Hex octets) = decode_of word ≡ Ok octets
 
 -- the words from place i on give these arguments, a word each
@@ -76,6 +76,41 @@ form (Watch watchers rounds) = (codes "watch", Number 1 MOST_WATCHERS watchers �
 form Join = (codes "join", [])
 form Show = (codes "show", [])
 
+-- two nodes of an example
+abbrev pub example_ends : EndNames
+example_ends = record { from = 0; to = 0 }
+
+-- a link of an example
+abbrev pub example_link : LinkName
+example_link = record { from = 0; to = 0; n = 1 }
+
+-- a failure and a destination of an example
+abbrev pub example_repair : RepairName
+example_repair = record { kind = Link; link = example_link; dest = 0 }
+
+-- an example of a command for each first word
+abbrev pub example_commands : List Command
+example_commands =
+    Lsp []
+    ∷ Cost example_link 1
+    ∷ Down example_link
+    ∷ Up example_link
+    ∷ Depth 0
+    ∷ Commit
+    ∷ DropStaged
+    ∷ Dist example_ends
+    ∷ Next example_ends
+    ∷ Label 0 0
+    ∷ Spaces example_repair
+    ∷ Repair example_repair
+    ∷ Walk example_ends 0
+    ∷ Audit
+    ∷ Hold
+    ∷ Watch 1 1
+    ∷ Join
+    ∷ Show
+    ∷ []
+
 -- the word with which a command begins
 abbrev pub first_word : Command → List ℕ
 first_word command = (form command).0
@@ -85,7 +120,7 @@ abbrev pub arguments : Command → List Argument
 arguments command = (form command).1
 
 -- the words say the command: its first word, and behind it a word for each argument, and no others
-pub record Says (ws : List (List ℕ)) (command : Command) : Type 0 where
+pub record SaysCommand (ws : List (List ℕ)) (command : Command) : Type 0 where
   pub first : word_at ws 0 ≡ first_word command
   pub others : AreGiven ws 1 (arguments command)
   pub count : length ws ≡ 1 + length (arguments command)

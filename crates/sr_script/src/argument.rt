@@ -4,7 +4,7 @@ ghost use Rattle.std.specs.Prelude.{◌≡◌, ◌+◌, ◌<◌, ◌≤◌, IfSo
 ghost use Rattle.sr_model.specs.SystemText.{system_read};
 ghost use Rattle.sr_script.specs.Words.{word_at};
 ghost use Rattle.sr_script.specs.Number.{number_in as number_within};
-ghost use Rattle.sr_script.specs.Says.{AreGiven, kind_text, ends_arguments, link_arguments, repair_arguments};
+ghost use Rattle.sr_script.specs.Says.{AreGiven, kind_word, ends_arguments, link_arguments, repair_arguments};
 ghost use Rattle.sr_script.specs.Answers.{NamesNoKind, NamesNoEnds, NamesNoLink, NamesNoRepair};
 
 use crate::name::{EndNames, LinkName, MOST_LINKS, RepairName};
@@ -13,7 +13,7 @@ use crate::words::{KEPT, Words};
 use sr_model::{Kind, SystemId};
 
 /// The system id at a place.
-pub(crate) fn system_at(words: &Words<'_>, place: usize) -> Option<SystemId>
+pub(crate) fn system_argument(words: &Words<'_>, place: usize) -> Option<SystemId>
     requires { place < KEPT }
     ensures { result ≡ system_read (word_at words.now place) }
 {
@@ -21,7 +21,7 @@ pub(crate) fn system_at(words: &Words<'_>, place: usize) -> Option<SystemId>
 }
 
 /// The number at a place, where it is at least the one bound and at most the other.
-pub(crate) fn number_at(words: &Words<'_>, place: usize, low: u32, high: u32) -> Option<u32>
+pub(crate) fn number_argument(words: &Words<'_>, place: usize, low: u32, high: u32) -> Option<u32>
     requires { place < KEPT }
     ensures value { result ≡ number_within low high (word_at words.now place) }
     ensures range { IfSome result (λ n. (low ≤ n) × (n ≤ high)) }
@@ -30,9 +30,11 @@ pub(crate) fn number_at(words: &Words<'_>, place: usize, low: u32, high: u32) ->
 }
 
 /// The kind of failure at a place.
-fn kind_at(words: &Words<'_>, place: usize) -> Option<Kind>
+fn kind_argument(words: &Words<'_>, place: usize) -> Option<Kind>
     requires { place < KEPT }
-    ensures { MatchOption result (NamesNoKind (word_at words.now place)) (λ kind. word_at words.now place ≡ kind_text kind) }
+    ensures { MatchOption result
+        (NamesNoKind (word_at words.now place))
+        (λ kind. word_at words.now place ≡ kind_word kind) }
 {
     let word = words.get(place);
     if word == b"link".as_slice() {
@@ -47,32 +49,32 @@ fn kind_at(words: &Words<'_>, place: usize) -> Option<Kind>
 }
 
 /// The ends that are named from a place on.
-pub(crate) fn ends_at(words: &Words<'_>, place: usize) -> Option<EndNames>
+pub(crate) fn ends_argument(words: &Words<'_>, place: usize) -> Option<EndNames>
     requires { place + 1 < KEPT }
     ensures { MatchOption result (NamesNoEnds words.now place) (λ ends. AreGiven words.now place (ends_arguments ends)) }
 {
-    let from = system_at(words, place)?;
-    let to = system_at(words, place + 1)?;
+    let from = system_argument(words, place)?;
+    let to = system_argument(words, place + 1)?;
     Some(EndNames { from, to })
 }
 
 /// The link that is named from a place on.
-pub(crate) fn link_at(words: &Words<'_>, place: usize) -> Option<LinkName>
+pub(crate) fn link_argument(words: &Words<'_>, place: usize) -> Option<LinkName>
     requires { place + 2 < KEPT }
     ensures { MatchOption result (NamesNoLink words.now place) (λ link. AreGiven words.now place (link_arguments link)) }
 {
-    let from = system_at(words, place)?;
-    let to = system_at(words, place + 1)?;
-    let n = number_at(words, place + 2, 1, MOST_LINKS)?;
+    let from = system_argument(words, place)?;
+    let to = system_argument(words, place + 1)?;
+    let n = number_argument(words, place + 2, 1, MOST_LINKS)?;
     Some(LinkName { from, to, n })
 }
 
 /// The failure and the destination that are named behind the first word.
-pub(crate) fn repair_at(words: &Words<'_>) -> Option<RepairName>
+pub(crate) fn repair_argument(words: &Words<'_>) -> Option<RepairName>
     ensures { MatchOption result (NamesNoRepair words.now 1) (λ repair. AreGiven words.now 1 (repair_arguments repair)) }
 {
-    let kind = kind_at(words, 1)?;
-    let link = link_at(words, 2)?;
-    let dest = system_at(words, 5)?;
+    let kind = kind_argument(words, 1)?;
+    let link = link_argument(words, 2)?;
+    let dest = system_argument(words, 5)?;
     Some(RepairName { kind, link, dest })
 }

@@ -29,9 +29,9 @@ pub enum Command {
     Lsp { octets: Seq<u8> },
     /// `cost A B n M`: stages a metric for a link.
     Cost { link: LinkName, metric: u32 },
-    /// `down A B n`: stages that a pair of links is down.
+    /// `down A B n`: stages that a bidirectional link is down.
     Down { link: LinkName },
-    /// `up A B n`: stages that a pair of links is up.
+    /// `up A B n`: stages that a bidirectional link is up.
     Up { link: LinkName },
     /// `depth K`: stages how many segments a repair list may have.
     Depth { depth: u8 },

@@ -14,10 +14,10 @@ const OCTETS: usize = 16;
 fn values_of(bytes: u8x32) -> u8x32
     ensures { AreValuesOf 32 bytes result }
 {
-    // Sums and differences wrap. `0` to `9` come to 246 to 255 and so to 0 to 9, and each other byte
-    // to 6 to 245 and so to 16 or more.
+    // Sums and differences wrap. `0` to `9` give 246 to 255 and so 0 to 9, and each other byte
+    // gives 6 to 245 and so 16 or more.
     let decimal = (bytes - u8x32::splat(b'9' + 1)).simd_max(u8x32::splat(6)) + u8x32::splat(10);
-    // `a` to `f` come to 0 to 5 and so to 10 to 15, and each other byte again to 16 or more.
+    // `a` to `f` give 0 to 5 and so 10 to 15, and each other byte again 16 or more.
     let lower_case = bytes | u8x32::splat(0x20);
     let letter = (lower_case - u8x32::splat(b'a')).simd_min(u8x32::splat(245)) + u8x32::splat(10);
     decimal.simd_min(letter)
@@ -53,7 +53,7 @@ fn write_few(text: &[u8], octets: &mut [u8]) -> bool
 
 /// Writes the octets of the text, two digits each, or says that some byte is no digit. Then some of
 /// them may be written.
-pub(crate) fn write_octets(text: &[u8], octets: &mut [u8]) -> bool
+pub(crate) fn write_pairs(text: &[u8], octets: &mut [u8]) -> bool
     requires { length text.now ≡ 2 * length octets.old }
     ensures { MatchBool result (decode_of text.now ≡ Ok octets.new) (IsErr (decode_of text.now)) }
 {

@@ -1,10 +1,10 @@
-//! The text of `lsp`.
+//! The hexadecimal digits of `lsp`.
 
 ghost use Rattle.std.specs.Prelude.{◌≡◌, Ok, IfOk, IfErr};
 ghost use Rattle.hex.specs.Hex.{decode_of};
 ghost use Rattle.sr_script.specs.Answers.{IsHexFault};
 
-use crate::digits::write_octets;
+use crate::digits::write_pairs;
 use crate::line::LineFault;
 use sr_seq::Seq;
 use std::alloc::Global;
@@ -19,7 +19,7 @@ pub(crate) fn read_octets(alloc: Global, text: &[u8]) -> Result<Seq<u8>, LineFau
     }
     match vec![in alloc; 0u8; text.len() / 2] {
         Ok(mut octets) => {
-            if write_octets(text, octets.as_mut_slice()) {
+            if write_pairs(text, octets.as_mut_slice()) {
                 Ok(Seq::new(octets))
             } else {
                 Err(LineFault::BadHex)

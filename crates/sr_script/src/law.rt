@@ -10,7 +10,7 @@ pub fn line_says_one_thing(line: &[u8])
     ensures { (a : Said) (b : Said) → LineSays line.now a → LineSays line.now b → a ≡ b }
 {}
 
-/// A line that says something is refused for want of memory alone.
+/// A line that says something is refused only where memory runs out.
 pub fn said_is_not_refused(line: &[u8])
     ensures { (said : Said) (fault : Refusal) → LineSays line.now said → IsLineFault line.now fault → IsMemory fault }
 {}

@@ -28,7 +28,7 @@ pub enum LineFault {
     /// The words behind the first are too few or too many, or one of them isn't of its form or in its range.
     #[error("the words have a bad form")]
     BadForm,
-    /// The text of `lsp` isn't pairs of hexadecimal digits.
+    /// The word after `lsp` isn't pairs of hexadecimal digits.
     #[error("the text is not hexadecimal")]
     BadHex,
     /// Memory ran out.

@@ -1,15 +1,15 @@
 //! Numbers as words.
 
 ghost use Rattle.std.specs.Prelude.{◌≡◌, ◌≤◌, IfSome};
-ghost use Rattle.sr_script.specs.Number.{number_of, number_in as number_within};
+ghost use Rattle.sr_script.specs.Number.{number_read, number_in as number_within};
 
 /// The most digits of a number.
 pub const MOST_DIGITS: usize = 10;
 
 /// The number that the word writes. None exactly where the word isn't one to ten decimal digits.
-#[tactic(auto, unfolding(crate::specs::Number::number_of))]
+#[tactic(auto, unfolding(crate::specs::Number::number_read))]
 fn read_number(word: &[u8]) -> Option<u64>
-    ensures { result ≡ number_of word.now }
+    ensures { result ≡ number_read word.now }
 {
     if word.is_empty() || word.len() > MOST_DIGITS {
         return None;

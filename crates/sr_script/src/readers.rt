@@ -1,15 +1,16 @@
 //! The readers of commands: what the words say that begin with each first word, but `lsp`.
 //!
-//! A new word has its variant and its limits in `command.rt`, its form in `specs/Says.antt`, its reader and its line in
-//! `read_command` here, and a sample in `proofs/Samples.antt`. A reader of more than eight words goes on behind them word
-//! by word.
+//! A new word has its variant and its limits in `command.rt`, its form and an example in `specs/Says.antt`, and its reader
+//! and its line in `read_command` here. A reader of more than eight words goes on behind them word by word.
 
 ghost use Rattle.std.specs.Prelude.{◌≡◌, ◌≢◌, [], codes};
 ghost use Rattle.sr_script.specs.Words.{word_at};
 ghost use Rattle.sr_script.specs.Says.{first_word, arguments};
-ghost use Rattle.sr_script.specs.Answers.{Answers, IsReading, IsOnly};
+ghost use Rattle.sr_script.specs.Answers.{IsCommandOf, IsReading, IsOnly};
 
-use crate::argument::{ends_at, link_at, number_at, repair_at, system_at};
+use crate::argument::{
+    ends_argument, link_argument, number_argument, repair_argument, system_argument,
+};
 use crate::command::{
     Command, MOST_CHOICE, MOST_DEPTH, MOST_LABEL, MOST_METRIC, MOST_ROUNDS, MOST_WATCHERS,
 };
@@ -30,7 +31,7 @@ macro_rules! read_by_word {
 
 /// The command that the words say, by the reader for the first of them: that word may be unknown, or the words have no form
 /// of a command. `lsp` is read elsewhere.
-#[tactic(auto, using(crate::proofs::Samples::begins))]
+#[tactic(auto, using(crate::proofs::FirstWords::begins))]
 pub(crate) fn read_command(words: &Words<'_>) -> Result<Command, LineFault>
     requires { word_at words.now 0 ≢ codes "lsp" }
     ensures { IsReading words.now result }
@@ -62,7 +63,7 @@ fn read_lone(words: &Words<'_>, command: Command) -> Option<Command>
     requires first { word_at words.now 0 ≡ first_word command }
     requires only { IsOnly command }
     requires lone { arguments command ≡ [] }
-    ensures { Answers words.now result }
+    ensures { IsCommandOf words.now result }
 {
     if words.len() == 1 {
         Some(command)
@@ -74,127 +75,127 @@ fn read_lone(words: &Words<'_>, command: Command) -> Option<Command>
 /// `cost A B n M`
 fn read_cost(words: &Words<'_>) -> Option<Command>
     requires { word_at words.now 0 ≡ codes "cost" }
-    ensures { Answers words.now result }
+    ensures { IsCommandOf words.now result }
 {
     if words.len() != 5 {
         return None;
     }
-    let link = link_at(words, 1)?;
-    let metric = number_at(words, 4, 1, MOST_METRIC)?;
+    let link = link_argument(words, 1)?;
+    let metric = number_argument(words, 4, 1, MOST_METRIC)?;
     Some(Command::Cost { link, metric })
 }
 
 /// `down A B n`
 fn read_down(words: &Words<'_>) -> Option<Command>
     requires { word_at words.now 0 ≡ codes "down" }
-    ensures { Answers words.now result }
+    ensures { IsCommandOf words.now result }
 {
     if words.len() != 4 {
         return None;
     }
-    let link = link_at(words, 1)?;
+    let link = link_argument(words, 1)?;
     Some(Command::Down { link })
 }
 
 /// `up A B n`
 fn read_up(words: &Words<'_>) -> Option<Command>
     requires { word_at words.now 0 ≡ codes "up" }
-    ensures { Answers words.now result }
+    ensures { IsCommandOf words.now result }
 {
     if words.len() != 4 {
         return None;
     }
-    let link = link_at(words, 1)?;
+    let link = link_argument(words, 1)?;
     Some(Command::Up { link })
 }
 
 /// `depth K`
 fn read_depth(words: &Words<'_>) -> Option<Command>
     requires { word_at words.now 0 ≡ codes "depth" }
-    ensures { Answers words.now result }
+    ensures { IsCommandOf words.now result }
 {
     if words.len() != 2 {
         return None;
     }
-    let depth = number_at(words, 1, 0, MOST_DEPTH)?;
+    let depth = number_argument(words, 1, 0, MOST_DEPTH)?;
     Some(Command::Depth { depth: depth as u8 })
 }
 
 /// `dist A B`
 fn read_dist(words: &Words<'_>) -> Option<Command>
     requires { word_at words.now 0 ≡ codes "dist" }
-    ensures { Answers words.now result }
+    ensures { IsCommandOf words.now result }
 {
     if words.len() != 3 {
         return None;
     }
-    let ends = ends_at(words, 1)?;
+    let ends = ends_argument(words, 1)?;
     Some(Command::Dist { ends })
 }
 
 /// `next A B`
 fn read_next(words: &Words<'_>) -> Option<Command>
     requires { word_at words.now 0 ≡ codes "next" }
-    ensures { Answers words.now result }
+    ensures { IsCommandOf words.now result }
 {
     if words.len() != 3 {
         return None;
     }
-    let ends = ends_at(words, 1)?;
+    let ends = ends_argument(words, 1)?;
     Some(Command::Next { ends })
 }
 
 /// `label A X`
 fn read_label(words: &Words<'_>) -> Option<Command>
     requires { word_at words.now 0 ≡ codes "label" }
-    ensures { Answers words.now result }
+    ensures { IsCommandOf words.now result }
 {
     if words.len() != 3 {
         return None;
     }
-    let node = system_at(words, 1)?;
-    let label = number_at(words, 2, 0, MOST_LABEL)?;
+    let node = system_argument(words, 1)?;
+    let label = number_argument(words, 2, 0, MOST_LABEL)?;
     Some(Command::Label { node, label })
 }
 
 /// `spaces KIND A B n D`
 fn read_spaces(words: &Words<'_>) -> Option<Command>
     requires { word_at words.now 0 ≡ codes "spaces" }
-    ensures { Answers words.now result }
+    ensures { IsCommandOf words.now result }
 {
     if words.len() != 6 {
         return None;
     }
-    let repair = repair_at(words)?;
+    let repair = repair_argument(words)?;
     Some(Command::Spaces { repair })
 }
 
 /// `repair KIND A B n D`
 fn read_repair(words: &Words<'_>) -> Option<Command>
     requires { word_at words.now 0 ≡ codes "repair" }
-    ensures { Answers words.now result }
+    ensures { IsCommandOf words.now result }
 {
     if words.len() != 6 {
         return None;
     }
-    let repair = repair_at(words)?;
+    let repair = repair_argument(words)?;
     Some(Command::Repair { repair })
 }
 
 /// `walk A D K`, or `walk KIND A B n D K`
 fn read_walk(words: &Words<'_>) -> Option<Command>
     requires { word_at words.now 0 ≡ codes "walk" }
-    ensures { Answers words.now result }
+    ensures { IsCommandOf words.now result }
 {
     match words.len() {
         4 => {
-            let ends = ends_at(words, 1)?;
-            let choice = number_at(words, 3, 0, MOST_CHOICE)?;
+            let ends = ends_argument(words, 1)?;
+            let choice = number_argument(words, 3, 0, MOST_CHOICE)?;
             Some(Command::Walk { ends, choice })
         }
         7 => {
-            let repair = repair_at(words)?;
-            let choice = number_at(words, 6, 0, MOST_CHOICE)?;
+            let repair = repair_argument(words)?;
+            let choice = number_argument(words, 6, 0, MOST_CHOICE)?;
             Some(Command::WalkRepair { repair, choice })
         }
         _ => None,
@@ -204,7 +205,7 @@ fn read_walk(words: &Words<'_>) -> Option<Command>
 /// `audit`, or `audit full`
 fn read_audit(words: &Words<'_>) -> Option<Command>
     requires { word_at words.now 0 ≡ codes "audit" }
-    ensures { Answers words.now result }
+    ensures { IsCommandOf words.now result }
 {
     match words.len() {
         1 => Some(Command::Audit),
@@ -216,12 +217,12 @@ fn read_audit(words: &Words<'_>) -> Option<Command>
 /// `watch T R`
 fn read_watch(words: &Words<'_>) -> Option<Command>
     requires { word_at words.now 0 ≡ codes "watch" }
-    ensures { Answers words.now result }
+    ensures { IsCommandOf words.now result }
 {
     if words.len() != 3 {
         return None;
     }
-    let watchers = number_at(words, 1, 1, MOST_WATCHERS)?;
-    let rounds = number_at(words, 2, 1, MOST_ROUNDS)?;
+    let watchers = number_argument(words, 1, 1, MOST_WATCHERS)?;
+    let rounds = number_argument(words, 2, 1, MOST_ROUNDS)?;
     Some(Command::Watch { watchers, rounds })
 }

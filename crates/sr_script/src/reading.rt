@@ -2,7 +2,7 @@
 
 ghost use Rattle.std.specs.Prelude.{◌≡◌, ◌≤◌, ◌↔◌, IsTrue, IfOk, IfErr, codes};
 ghost use Rattle.sr_script.specs.Words.{word_at};
-ghost use Rattle.sr_script.specs.LineSays.{IsRemark, SaysNothing, LineSays, IsLineFault, WordsSay, IsWordsFault};
+ghost use Rattle.sr_script.specs.LineSays.{IsRemark, SayNothing, LineSays, IsLineFault, WordsSay, IsWordsFault};
 
 use crate::blank::without_return;
 use crate::command::Command;
@@ -13,7 +13,7 @@ use crate::words::Words;
 use std::alloc::Global;
 
 /// What the words of `lsp` say.
-fn read_lsp(alloc: Global, words: &Words<'_>) -> Result<Line, LineFault>
+fn read_lsp_words(alloc: Global, words: &Words<'_>) -> Result<Line, LineFault>
     requires { word_at words.now 0 ≡ codes "lsp" }
     ensures said { IfOk result (WordsSay words.now) }
     ensures refused { IfErr result (IsWordsFault words.now) }
@@ -36,7 +36,7 @@ fn is_remark(word: &[u8]) -> bool
 
 /// Whether there are no words, or the first begins a remark.
 fn says_nothing(words: &Words<'_>) -> bool
-    ensures { IsTrue result ↔ SaysNothing words.now }
+    ensures { IsTrue result ↔ SayNothing words.now }
 {
     words.len() == 0 || is_remark(words.get(0))
 }
@@ -50,7 +50,7 @@ fn read_words(alloc: Global, words: &Words<'_>) -> Result<Line, LineFault>
         return Ok(Line::Nothing);
     }
     if words.get(0) == b"lsp".as_slice() {
-        return read_lsp(alloc, words);
+        return read_lsp_words(alloc, words);
     }
     match read_command(words) {
         Ok(command) => Ok(Line::Word(command)),
@@ -59,8 +59,8 @@ fn read_words(alloc: Global, words: &Words<'_>) -> Result<Line, LineFault>
 }
 
 /// What a line says, or why it is refused: the first of these faults. It is too long, of more than 140,000 bytes; its
-/// first word is unknown; its words have no form of a command; the text of `lsp` isn't pairs of hexadecimal digits. Want
-/// of memory is an answer to any line.
+/// first word is unknown; its words have no form of a command; the word after `lsp` isn't pairs of hexadecimal digits.
+/// Out of memory is an answer to any line.
 pub fn read_line(alloc: Global, line: &[u8]) -> Result<Line, LineFault>
     ensures said { IfOk result (LineSays line.now) }
     ensures refused { IfErr result (IsLineFault line.now) }

@@ -1,4 +1,5 @@
-//! `tilfa run` reads a script from standard input, and writes the answers to standard output.
+//! `tilfa run` reads a script from standard input, and writes the answers to standard output. `tilfa make` writes a script
+//! there that is made from two numbers.
 #![tactic(auto)]
 
 ghost use Rattle.std.specs.Prelude.{◌≡◌, ◌⊎◌, IfErr};
@@ -74,7 +75,7 @@ fn main(rt: HostRuntime) -> ExitCode {
     };
     if code == ExitCode::from(NO_COMMAND) {
         // A message that can't be written changes nothing: the status says it too.
-        let _ = eprintln!(rt; "usage: tilfa run");
+        let _ = eprintln!(rt; "usage: tilfa run | tilfa make --nodes N --start S");
     }
     code
 }

@@ -21,6 +21,6 @@ returns-in-Err-find_node c =
 pub returns-in-None : goal.returns-in-None
 returns-in-None c =
     let net = c.args.version.now.net in
-    lacks-link net c.args.repair.now c.in-Ok._nodes.from.0 c.in-Ok._nodes.to.0 c.in-Ok-find_node.destination.0 c.no_link.result
+    lacks-link net c.args.repair.now c.in-Ok._nodes.from.0 c.in-Ok._nodes.to.0 c.in-Ok-find_node.destination.0 c.missing_link.result
     (subst (λ (e : EndNames). AreEnds net e c.in-Ok._nodes.from.0 c.in-Ok._nodes.to.0) c.ends_of.ensures c.in-Ok.ensures)
-    c.in-Ok-find_node.ensures c.in-None.ensures c.no_link.ensures
+    c.in-Ok-find_node.ensures c.in-None.ensures c.missing_link.ensures

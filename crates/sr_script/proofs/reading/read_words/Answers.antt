@@ -4,13 +4,13 @@ use Rattle.std.specs.Str.{bytes_eq}
 use Rattle.std.proofs.lemmas.Bool.{false≢true}
 use Rattle.std.proofs.lemmas.Slice.Eq.{bytes_eq-Decides}
 use Rattle.sr_script.specs.Words.{word_at}
-use Rattle.sr_script.specs.LineSays.{SaysNothing}
+use Rattle.sr_script.specs.LineSays.{SayNothing}
 use Rattle.sr_script.proofs.LineLemmas.{reading-refused}
 use Rattle.sr_script.proofs.reading.read_words.Goals as goal
 
 pub returns-in-Err-clause-refused : goal.returns-in-Err-clause-refused
 returns-in-Err-clause-refused c =
-    let something : ¬ SaysNothing c.args.words.now = λ said. false≢true (sym c.if-says_nothing.false ∙ c.says_nothing.ensures.1 said) in
+    let something : ¬ SayNothing c.args.words.now = λ said. false≢true (sym c.if-says_nothing.false ∙ c.says_nothing.ensures.1 said) in
     let other : word_at c.args.words.now 0 ≢ codes "lsp" = λ lsp.
     let same : bytes_eq c.get.result.now c.as_slice.result.now ≡ true = (bytes_eq-Decides _ _).1 (c.get.ensures ∙ lsp ∙ sym c.as_slice.ensures) in
     false≢true (sym c.if-eq.false ∙ c.eq.ensures ∙ same) in

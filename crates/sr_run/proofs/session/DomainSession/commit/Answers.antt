@@ -4,8 +4,14 @@ use Rattle.sr_run.specs.declared.commit.TheConstants.{MOST_VERSIONS}
 use Rattle.sr_lsdb.specs.Editing.{with_accepted, with_none_staged}
 use Rattle.sr_run.specs.Domain.{number_of}
 use Rattle.sr_run.specs.State.{State}
-use Rattle.sr_run.proofs.HandlerLemmas.{accepts-told, rejects-told}
+use Rattle.sr_run.proofs.HandlerLemmas.{accepts-told, next-kept, rejects-told}
 use Rattle.sr_run.proofs.session.DomainSession.commit.Goals as goal
+
+pub publish-requires : goal.publish-requires
+publish-requires g c =
+    let same : number_of c.self.inside.current ≡ number_of c.args.self.now.current = ap (λ (s : State). number_of s.current) c.self.view_is in
+    let room : number_of c.args.self.now.current < MOST_VERSIONS = omega (arith, same, c.last_number.ensures, c.if-last_number-ge-MOST_VERSIONS.false) in
+    next-kept c.args.self.now _ c.in-Ok.version c.in_ok-version.ensures.editing room (rw c.in-Ok.is at c.in_ok-version.ensures.made)
 
 pub returns-in_ok-publish-in-Ok : goal.returns-in_ok-publish-in-Ok
 returns-in_ok-publish-in-Ok g c =

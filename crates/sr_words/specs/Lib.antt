@@ -1,0 +1,3 @@
+pub mod Making
+pub mod Tasks
+pub mod Laws
