@@ -9,6 +9,7 @@ mod edits;
 mod field;
 mod flooded;
 mod limits;
+mod made;
 mod pairs;
 mod remains;
 mod rings;
@@ -85,9 +86,19 @@ fn flooded_domains_are_answered(rt: HostRuntime) -> Result<(), AllocError> {
 }
 
 #[test]
-fn only_the_word_run_is_a_command(rt: HostRuntime) -> Result<(), AllocError> {
+fn other_words_are_no_command(rt: HostRuntime) -> Result<(), AllocError> {
     let alloc = rt.alloc();
-    for text in ["fly", "", "run run", "run x", "Run", "runs"] {
+    for text in [
+        "fly",
+        "",
+        "run run",
+        "run x",
+        "Run",
+        "runs",
+        "make",
+        "make --nodes 2 --start 0",
+        "make --nodes 257 --start 0",
+    ] {
         let words = words(alloc, text)?;
         let mut source = SteadySource::new(Vec::from_slice(alloc, b"commit\n")?);
         let mut sink = SteadySink::new(alloc);

@@ -17,7 +17,7 @@ struct Line {
     labels: &'static [u32],
 }
 
-/// The audit of two nodes with one pair of links. Where node 2 fails, no other destination is left to node 1.
+/// The audit of two nodes with one bidirectional link. Where node 2 fails, no other destination is left to node 1.
 const PAIR_LINES: [Line; 4] = [
     Line {
         kind: Kind::Link,
@@ -78,7 +78,7 @@ fn a_ring_of_four_is_audited(rt: HostRuntime) -> Result<(), Fail> {
     let version = version_of(&rt, &RINGS, "a ring of four")?;
     let report = audit(&rt, rt.alloc(), &version)?;
     // With each of the 8 links its end and the node behind it are affected, and where the end fails the node behind it
-    // alone. No groups are shared, so a case of kind risk is as that of kind link: 16, 8 and 16.
+    // alone. No groups are shared, so an SRLG case is as the link case: 16, 8 and 16.
     let wanted = Counts {
         covered: 40,
         nopath: 0,

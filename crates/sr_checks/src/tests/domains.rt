@@ -9,7 +9,7 @@ use sr_seq::{Few, Seq};
 use sr_subtlv::{LinkIds, PrefixSid, Sid, SrCap};
 use std::alloc::{AllocError, AllocGlobal, Global};
 
-/// A pair of links between two nodes, numbered from 1, with one metric both ways.
+/// A bidirectional link between two nodes, numbered from 1, with one metric both ways.
 #[derive(Clone, Copy, Debug)]
 struct Pair {
     low: u32,

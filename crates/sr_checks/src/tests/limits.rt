@@ -19,7 +19,7 @@ fn a_script_has_at_most_33_554_432_bytes(rt: HostRuntime) -> Result<(), AllocErr
     Ok(())
 }
 
-/// A line of so many letters x.
+/// A line of that many letters x.
 fn letters(alloc: Global, bytes: usize) -> Result<Vec<u8>, AllocError> {
     let mut line = vec![in alloc; b'x'; bytes]?;
     line.push(b'\n')?;
@@ -45,7 +45,7 @@ fn a_line_has_at_most_140_000_bytes(rt: HostRuntime) -> Result<(), AllocError> {
     Ok(())
 }
 
-/// A line so many times, and what follows.
+/// A line that many times, and what follows.
 fn repeated(alloc: Global, line: &[u8], times: usize, last: &[u8]) -> Result<Vec<u8>, AllocError> {
     let mut script = Vec::new(alloc);
     for _ in 0..times {
