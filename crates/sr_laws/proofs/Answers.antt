@@ -2,8 +2,6 @@
 use Rattle.std.proofs.Common.{◌≡◌, ℕ, ◌<◌, ◌⊎◌, ⊎_elim, inl, inr, Bool, List, [], ◌∷◌, length, refl, arith, ap, sym, ◌∙◌, subst}
 use Rattle.std.proofs.lemmas.Bool.{cases_order}
 use Rattle.sr_model.specs.declared.case.Case.{Case}
-use Rattle.sr_model.specs.declared.link.LinkNo.{LinkNo}
-use Rattle.sr_model.specs.declared.link.NodeNo.{NodeNo}
 use Rattle.sr_model.specs.declared.repair.Segment.{Segment}
 use Rattle.sr_model.specs.declared.repair.Segment.TheVariants.{Node, Adj}
 use Rattle.sr_model.specs.declared.repair.RepairList.{RepairList}
@@ -15,12 +13,7 @@ use Rattle.sr_model.specs.Repair.{Path, SegmentLt, SegmentsLt, PathLe, IsLeast, 
 use Rattle.sr_walks.proofs.Distances.{distance-unique}
 use Rattle.sr_laws.proofs.Order.{PathLe-antisym}
 use Rattle.sr_laws.proofs.Failures.{failed-one}
-
-link_is : (a b : LinkNo) → a.0 ≡ b.0 → a ≡ b
-link_is a b e = let q : record { 0 = a.0 } ≡ record { 0 = b.0 } = rw e refl in q
-
-node_is : (a b : NodeNo) → a.0 ≡ b.0 → a ≡ b
-node_is a b e = let q : record { 0 = a.0 } ≡ record { 0 = b.0 } = rw e refl in q
+use Rattle.sr_laws.proofs.Parts.{link_is, node_is}
 
 segment_total : (a b : Segment) → SegmentLt a b ⊎ ((a ≡ b) ⊎ SegmentLt b a)
 segment_total (Node a) (Node b) = ⊎_elim (λ e. inr (inl (ap Node (node_is a b e)))) (λ ne. ⊎_elim (λ (lt : a.0 < b.0). inl lt) (λ (gt : b.0 < a.0). inr (inr gt)) ne) (cases_order a.0 b.0)

@@ -48,13 +48,14 @@ walk_outside : (g : Graph) (x : List Bool) (u : ℕ) (p : List ℕ) (l : ℕ) (q
 walk_outside g x u [] l q v a = a.1
 walk_outside g x u (k ∷ p) l q v a = walk_outside g x (head g k) p l q v a.3
 
--- what is known of every run, over no rest, of a delivered packet that came to u over the links before
+-- what is known of every run, over no rest, of a delivered packet that reached u over the links before
 pub record GoesWell (n : Net) (x : List Bool) (s d : ℕ) (before : List ℕ) (turns : ℕ) (ms : List Move) (v : ℕ) (after : List ℕ) : Type 0 where
   pub ends : ((v ≡ d) × (after ≡ [])) ⊎ ((m : Move) × (w : ℕ) × (next : List ℕ) × Step n [] v after m w next)
   pub along : (more : List ℕ) × IsShortest n.graph x s (before ++ (crossed ms ++ more)) d
   pub few : length ms ≤ turns
   pub walk : IsWalk n.graph x s (before ++ crossed ms) v
 
+-- every run of the packet under these labels goes well
 abbrev pub AllGoWell : Net → List Bool → ℕ → ℕ → List ℕ → ℕ → List ℕ → ℕ → Type 0
 AllGoWell n x s d before u labels turns = (ms : List Move) (v : ℕ) (after : List ℕ) → Run n [] [] u labels ms v after → GoesWell n x s d before turns ms v after
 

@@ -3,7 +3,6 @@ use Rattle.std.proofs.Common.{◌≡◌, ℕ, ◌<◌, ⊎_elim, inl, inr, List,
 use Rattle.std.specs.Prelude.{slice_get, reverse}
 use Rattle.std.proofs.lemmas.List.{reverse-reverse}
 use Rattle.sr_model.specs.declared.case.Case.{Case}
-use Rattle.sr_model.specs.declared.link.NodeNo.{NodeNo}
 use Rattle.sr_model.specs.declared.repair.Answer.{Answer}
 use Rattle.sr_model.specs.declared.repair.Answer.TheVariants.{Least, NoPath, NoList, TooDeep}
 use Rattle.sr_model.specs.declared.audit.Item.{Item}
@@ -13,6 +12,7 @@ use Rattle.sr_model.specs.Audit.{rank_of, CaseLt, ItemLt, AreLabelsOf, IsItem, I
 use Rattle.sr_laws.proofs.Ascending.{ascending-one}
 use Rattle.sr_laws.proofs.Answers.{case-answer-one}
 use Rattle.sr_laws.proofs.Stacks.{stack-one}
+use Rattle.sr_laws.proofs.Parts.{node_is}
 
 labels_one : (n : Net) (d : ℕ) (answer : Answer) (one two : List ℕ) → AreLabelsOf n d answer one → AreLabelsOf n d answer two → one ≡ two
 labels_one n d (Least list) one two p q =
@@ -20,9 +20,6 @@ labels_one n d (Least list) one two p q =
 labels_one n d NoPath one two p q = p ∙ sym q
 labels_one n d NoList one two p q = p ∙ sym q
 labels_one n d (TooDeep k) one two p q = p ∙ sym q
-
-node_is : (a b : NodeNo) → a.0 ≡ b.0 → a ≡ b
-node_is a b e = let q : record { 0 = a.0 } ≡ record { 0 = b.0 } = rw e refl in q
 
 item_is : (a b : Item) → a.case ≡ b.case → a.dest ≡ b.dest → a.answer ≡ b.answer → a.labels ≡ b.labels → a ≡ b
 item_is a b c d e f =

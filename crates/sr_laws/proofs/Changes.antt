@@ -12,6 +12,7 @@ use Rattle.sr_model.specs.Case.{key_at}
 use Rattle.sr_model.specs.Stay.{HaveSameNodes, HaveSameName, IsChanged, IsIdle, HaveSamePairs, IsOfFailedPair}
 use Rattle.sr_laws.proofs.Keys.{IsSameLink, IsPairSet, nodes-same, nodes-sym, system-one, same-link, pair-sym, pair-trans}
 use Rattle.sr_walks.proofs.Rows.{IsIdleLink, Keeps}
+use Rattle.sr_laws.proofs.Parts.{key_is}
 
 ident_cases : (a b : Ident) → (a ≡ b) ⊎ (a ≢ b)
 ident_cases None None = inl refl
@@ -31,11 +32,6 @@ ident_cases (Linked a b) (Linked c d) =
     (λ (p : a ≡ c). ⊎_elim (λ (q : b ≡ d). inl (cc)) (λ (q : b ≢ d). inr (λ e. q (cc))) (cases_eq b d))
     (λ (p : a ≢ c). inr (λ e. p (cc)))
     (cases_eq a c)
-
-key_is : (a b : LinkKey) → a.from ≡ b.from → a.to ≡ b.to → a.ident ≡ b.ident → a ≡ b
-key_is a b f t i =
-    let q : record { from = a.from; to = a.to; ident = a.ident } ≡ record { from = b.from; to = b.to; ident = b.ident } = rw (f, t, i) refl in
-    q
 
 -- keys are the same or not
 pub key-cases : (a b : LinkKey) → (a ≡ b) ⊎ (a ≢ b)

@@ -12,6 +12,7 @@ use Rattle.sr_model.specs.Forward.{Crossing, Step, crossed, AreLawful, StepBy, R
 use Rattle.sr_laws.proofs.Delivery.{same_node, not_null, not_adj}
 use Rattle.sr_laws.proofs.Stacks.{crossing-same}
 use Rattle.sr_laws.proofs.Ascending.{ascending-one}
+use Rattle.sr_laws.proofs.Parts.{link_is}
 
 some_inj : {A : Type 0} {a b : A} → Some a ≡ Some b → a ≡ b
 some_inj e = cc
@@ -24,9 +25,6 @@ pub lawful-one : (n : Net) (x : List Bool) (u b : ℕ) (ls ks : List ℕ) → Ar
 lawful-one n x u b ls ks p q =
     ascending-one (λ k l. k < l) (λ k lt. omega (arith, lt)) (λ j k l lt lt'. omega (arith, lt, lt')) ls ks p.ascending q.ascending
     (lawful_among n x u b ls ks p q) (lawful_among n x u b ks ls q p)
-
-link_is : (a b : LinkNo) → a.0 ≡ b.0 → a ≡ b
-link_is a b e = let q : record { 0 = a.0 } ≡ record { 0 = b.0 } = rw e refl in q
 
 -- nothing is popped where a link is crossed
 pop_or_cross : (n : Net) (r : IsNet n) (x : List Bool) (u t : ℕ) (rest : List ℕ) (l : LinkNo) (v w : ℕ) (after next : List ℕ) → Step n x u (t ∷ rest) Popped v after → Step n x u (t ∷ rest) (Crossed l) w next → ⊥

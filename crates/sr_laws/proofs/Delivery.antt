@@ -19,6 +19,7 @@ use Rattle.sr_walks.proofs.Distinct.{shortest-length, shortest-distinct}
 use Rattle.sr_walks.proofs.Walks.{IsWalk-append, cost-append, carries-cases, carries-clear, passes-clear, passes-cases}
 use Rattle.sr_laws.proofs.Waypoints.{Routes, IsRouted, routed-from_sound, space-walk}
 use Rattle.sr_walks.proofs.Distances.{shortest-cut, distance-unique, distance-self, sum-from_IsNextHop, IsShortest-from_cost}
+use Rattle.sr_laws.proofs.Parts.{true_or}
 
 -- a next hop towards a node of P is outside x, and its end has the node in P too
 pub hop-outside : (g : Graph) (x : List Bool) (u v l : ℕ) → InP g x u v → IsNextHop g [] u v l → has x l ≡ false
@@ -102,6 +103,7 @@ pub record Pops (n : Net) (x : List Bool) (d u : ℕ) (ts : List ℕ) (c : ℕ) 
   pub fewer : length left < length ts
   pub on : On n x d w legs left c
 
+-- after link l was crossed: the link stands at u and is free, and what is left costs less by its metric
 pub record Crosses (n : Net) (x : List Bool) (d u l : ℕ) (ts : List ℕ) (c : ℕ) (w : ℕ) (after rest : List ℕ) : Type 0 where
   pub legs : List Segment
   pub left : List ℕ
@@ -116,6 +118,7 @@ pub record Crosses (n : Net) (x : List Bool) (d u l : ℕ) (ts : List ℕ) (c : 
   pub on : On n x d w legs left more
   pub paid : c ≡ metric n.graph l + more
 
+-- what is left after a move: a label was popped, or a link was crossed
 abbrev pub Goes : Net → List Bool → ℕ → ℕ → List ℕ → ℕ → Move → ℕ → List ℕ → List ℕ → Type 0
 Goes n x d u ts c Popped w after rest = Pops n x d u ts c w after rest
 Goes n x d u ts c (Crossed l) w after rest = Crosses n x d u l.0 ts c w after rest
@@ -135,7 +138,7 @@ not_null n r u b t l e = let h : 0 < t = r.high u l.0 t l.3 in omega arith
 pub not_adj : (n : Net) (r : IsNet n) (u b t l : ℕ) → IsLabel n u b t → tail n.graph l ≡ u → adj_at n l ≡ Some t → ⊥
 not_adj n r u b t l is begins a = r.adj_apart l is.0 t a (rw begins is.3)
 
--- where the packet has come to the end of a node leg, the leg costs nothing more
+-- where the packet has reached the end of a node leg, the leg costs nothing more
 leg_over : (n : Net) (x : List Bool) (u : ℕ) (v : NodeNo) (ls : List Segment) (d c : ℕ) → u ≡ v.0 → Legs n x u (Node v ∷ ls) d c → Legs n x v.0 ls d c
 leg_over n x u v ls d c e a =
     let z : a.0 ≡ 0 = distance-unique n.graph [] v.0 v.0 a.0 0 (rw e at a.4) (distance-self n.graph [] v.0) in
@@ -322,10 +325,6 @@ legs-from_on n x d u [] ts c on = (on.1, on.2)
 legs-from_on n x d u (s ∷ ls) [] c on = absurd on
 legs-from_on n x d u (Node v ∷ ls) (t ∷ ts) c on = on.2
 legs-from_on n x d u (Adj l ∷ ls) (t ∷ ts) c on = on.2
-
-pub true_or : (b : Bool) → (b ≡ true) ⊎ (b ≡ false)
-true_or true = inl refl
-true_or false = inr refl
 
 -- whatever node it leads to, a link can be crossed under a node's label
 pub can_cross : (n : Net) (r : IsNet n) (u b m t : ℕ) (rest : List ℕ) → m < node_count n.graph → IsLabel n u b t → (after : List ℕ) × Crossing n b m rest after

@@ -17,6 +17,7 @@ use Rattle.sr_model.specs.Table.{IsOut, leaves, IsEntry, HasNoStep, IsLookup}
 use Rattle.sr_laws.specs.Tables.{Allows, AllowsAt}
 use Rattle.sr_laws.proofs.Delivery.{same_node, not_null, not_adj}
 use Rattle.sr_laws.proofs.Stacks.{crossing-out, hops-one}
+use Rattle.sr_laws.proofs.Parts.{link_is, node_is}
 
 own_steps : (n : Net) (r : IsNet n) (u t : ℕ) → IsLabel n u u t → (rest : List ℕ) (m : Move) (v : ℕ) (after : List ℕ) → Step n [] u (t ∷ rest) m v after ↔ Allows n u Own rest m v after
 own_steps n r u t is rest Popped v after = (λ s. (s.1, s.2), λ a. (inr is, a.0, a.1))
@@ -107,12 +108,6 @@ entry_moves n r u t (Adj k) is none = none [] (Crossed k) (head n.graph k.0) [] 
 entry_moves n r u t (Node b hops) is none =
     let h = first_of_hops hops is.3 in
     none [] (Crossed h.0.0) (head n.graph h.0.0.0) (leaves h.0.1 []) ((node_steps n r u t b hops is [] (Crossed h.0.0) (head n.graph h.0.0.0) (leaves h.0.1 [])).1 (0, h.0, h.1, refl, refl, refl))
-
-link_is : (a b : LinkNo) → a.0 ≡ b.0 → a ≡ b
-link_is a b e = let q : record { 0 = a.0 } ≡ record { 0 = b.0 } = rw e refl in q
-
-node_is : (a b : NodeNo) → a.0 ≡ b.0 → a ≡ b
-node_is a b e = let q : record { 0 = a.0 } ≡ record { 0 = b.0 } = rw e refl in q
 
 own_null : (n : Net) → IsNet n → (u b t : ℕ) → IsLabel n u b t → t ≡ 0 → ⊥
 own_null n r u b t is null = not_null n r u b t is null

@@ -1,9 +1,8 @@
 -- Lists that lead to a waypoint by a shortest walk without the failed links, and the least of them.
-use Rattle.std.proofs.Common.{◌≡◌, ℕ, ◌+◌, ◌<◌, ◌≤◌, ◌⊎◌, ⊎_elim, inl, inr, Bool, true, false, List, [], ◌∷◌, ◌++◌, length, refl, arith, ap, sym, subst}
-use Rattle.std.proofs.Common.{zero, suc, Option, Some, None}
-use Rattle.std.specs.Prelude.{slice_index_or}
+use Rattle.std.proofs.Common.{◌≡◌, ℕ, ◌+◌, ◌≤◌, ◌⊎◌, ⊎_elim, inl, inr, Bool, true, List, [], ◌∷◌, ◌++◌, length, refl, arith, ap, sym, subst}
+use Rattle.std.proofs.Common.{zero, suc, Option}
 use Rattle.std.proofs.lemmas.List.{length-append}
-use Rattle.sr_model.specs.Graph.{Graph, IsGraph, carries, has, head, link_count, metric, tail}
+use Rattle.sr_model.specs.Graph.{Graph, IsGraph, carries, head, metric}
 use Rattle.sr_model.specs.Label.{Net}
 use Rattle.sr_model.specs.Repair.{IsLeast, IsSound, Path, PathLe}
 use Rattle.sr_model.specs.Space.{InQ}
@@ -14,15 +13,7 @@ use Rattle.sr_walks.proofs.Walks.{IsWalk-append, cost-append, passes-clear}
 use Rattle.sr_walks.proofs.Distances.{distance-unique}
 use Rattle.sr_laws.proofs.Waypoints.{Routes, IsRouted, routed-from_sound, sound-from_routed, space-walk, last-walk}
 use Rattle.sr_laws.proofs.Order.{push, PathLe-push, PathLe-trans}
-
--- the list leads from s to w at the distance without x
-pub record IsExact (n : Net) (x : List Bool) (s w : ℕ) (a : Path) : Type 0 where
-  pub within : a.first < link_count n.graph
-  pub begins : tail n.graph a.first ≡ s
-  pub outside : has x a.first ≡ false
-  pub middle : ℕ
-  pub leads : Routes n x (head n.graph a.first) a.segments w middle
-  pub fits : IsDistance n.graph x s w (metric n.graph a.first + middle)
+pub use Rattle.sr_laws.specs.Exact.{IsExact, Knows}
 
 pub routes-walk : (n : Net) (x : List Bool) (u : ℕ) (ss : List Segment) (w c : ℕ) → Routes n x u ss w c → (p : List ℕ) × IsWalk n.graph x u p w × (cost n.graph p ≡ c) × Passes n.graph u p
 routes-walk n x u [] w c a = ([], a.0, sym a.1, tt)
@@ -108,17 +99,13 @@ pub record IsBest (n : Net) (x : List Bool) (s w : ℕ) (a : Path) : Type 0 wher
   pub exact : IsExact n x s w a
   pub least : (b : Path) → IsExact n x s w b → PathLe a b
 
--- what a search knows: for each waypoint a list or none
-abbrev pub Knows : List (Option Path) → ℕ → Path → Type 0
-Knows known w a = slice_index_or known w None ≡ Some a
-
 -- what it is to have when it ends: exact lists, closed under one more segment
 pub record IsClosed (n : Net) (x : List Bool) (s : ℕ) (known : List (Option Path)) : Type 0 where
   pub exact : (w : ℕ) (a : Path) → Knows known w a → IsExact n x s w a
   pub starts : (w first : ℕ) → IsExact n x s w (record { first = first; segments = [] }) → (a : Path) × Knows known w a × PathLe a (record { first = first; segments = [] })
   pub goes_on : (w v e : ℕ) (a : Path) (t : Segment) (k : Knows known w a) → Routes n x w (t ∷ []) v e → IsDistance n.graph x s v (metric n.graph a.first + (exact w a k).middle + e) → (b : Path) × Knows known v b × PathLe b (push a t)
 
--- a list of segments is empty or has a last one
+-- a segment list is empty or has a last segment
 pub snoc_cases : (ss : List Segment) → (ss ≡ []) ⊎ ((init : List Segment) × (last : Segment) × (ss ≡ init ++ last ∷ []))
 snoc_cases [] = inl refl
 snoc_cases (s ∷ ss) =
@@ -145,7 +132,8 @@ closed-least n x s known c (suc k) w first ss short exact =
     (q.0, q.1, le_same q.0 first ss (r0.0 ++ r0.1 ∷ []) r0.2 (PathLe-trans q.0 (push r.0 r0.1) (push (record { first = first; segments = r0.0 }) r0.1) q.2 (PathLe-push r.0 (record { first = first; segments = r0.0 }) r0.1 r.2))))
     (snoc_cases ss)
 
--- the least of the known lists whose waypoint has the destination in Q, at the whole distance, is the least sound list
+-- the least of the known lists whose waypoint has the destination in Q, at the whole distance, is the least sound
+-- list
 pub record Serves (n : Net) (x : List Bool) (s d w : ℕ) (a : Path) : Type 0 where
   pub exact : IsExact n x s w a
   pub rest : ℕ

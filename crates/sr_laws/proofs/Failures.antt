@@ -1,5 +1,5 @@
 -- Failed sets: they hold whole pairs, and there is one for each case.
-use Rattle.std.proofs.Common.{◌≡◌, ℕ, ◌<◌, ◌⊎◌, ⊎_elim, inl, inr, Bool, true, false, List, length, refl, arith, ap, sym, ◌∙◌, subst}
+use Rattle.std.proofs.Common.{◌≡◌, ℕ, ◌<◌, ⊎_elim, inl, inr, Bool, true, false, List, length, refl, arith, ap, sym, ◌∙◌, subst}
 use Rattle.std.specs.Prelude.{Contains}
 use Rattle.sr_model.specs.declared.case.Case.{Case}
 use Rattle.sr_model.specs.declared.case.Kind.{Kind}
@@ -12,10 +12,6 @@ use Rattle.sr_laws.proofs.Keys.{system-one, pair-sym, pair-trans, IsPairSet}
 
 pub tests-same : (xs ys : List Bool) → length xs ≡ length ys → ((k : ℕ) → k < length xs → has xs k ≡ has ys k) → xs ≡ ys
 tests-same xs ys e h = list-same false xs ys e h
-
-pub true_or : (b : Bool) → (b ≡ true) ⊎ (b ≡ false)
-true_or true = inl refl
-true_or false = inr refl
 
 -- tests that are true for the same reason are the same
 pub test-same : (a b : Bool) → (a ≡ true → b ≡ true) → (b ≡ true → a ≡ true) → a ≡ b

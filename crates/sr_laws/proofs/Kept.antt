@@ -27,6 +27,7 @@ use Rattle.sr_laws.proofs.KeptOrder.{Ordered, length-alike, least-kept, none-kep
 use Rattle.sr_laws.proofs.Failures.{failed-one, failed-pairs}
 use Rattle.sr_laws.proofs.Changes.{AreVersions, NamesAgree, keeps-there, keeps-back}
 use Rattle.sr_laws.proofs.Answers.{answer-one}
+use Rattle.sr_laws.proofs.Parts.{link_is}
 
 pub nothing-pairs : (g : Graph) → IsPairSet g []
 nothing-pairs g l k lw kw pair is = absurd {0} (cc)
@@ -127,16 +128,16 @@ module _ (n m : Net) (case : Case) (nn : IsNet n) (nm : IsNet m) (c : IsKeptCase
   v : AreVersions n.graph m.graph
   v = record { old = nn.graph; new = nm.graph; named = nn.named; named' = nm.named; same = c.nodes }
 
-  nodes_same : node_count m.graph ≡ node_count n.graph
+  pub nodes_same : node_count m.graph ≡ node_count n.graph
   nodes_same = nodes-same n.graph m.graph c.nodes
 
-  source_within : tail n.graph case.link.0 < node_count n.graph
+  pub source_within : tail n.graph case.link.0 < node_count n.graph
   source_within = let a : IsLink n.graph (link_at n.graph case.link.0) = nn.graph.each case.link.0 c.within in a.0
 
   s_tree : TreeStays n.graph m.graph (tail n.graph case.link.0)
   s_tree = kept-tree n.graph m.graph v (tail n.graph case.link.0) source_within c.tree
 
-  ends : (tail m.graph c.link.0 ≡ tail n.graph case.link.0) × (head m.graph c.link.0 ≡ head n.graph case.link.0)
+  pub ends : (tail m.graph c.link.0 ≡ tail n.graph case.link.0) × (head m.graph c.link.0 ≡ head n.graph case.link.0)
   ends = name-ends n.graph m.graph nn.graph nm.graph nn.named nm.named c.nodes case.link.0 c.link.0 c.protected
 
   px : IsPairSet n.graph c.x
@@ -235,9 +236,6 @@ module _ (n m : Net) (case : Case) (nn : IsNet n) (nm : IsNet m) (c : IsKeptCase
         (q, refl, record { first = (b.2.0, b.2.1, ap (λ j. j.key) b.2.2); segments = segments-same n.graph m.graph p.segments b.0.segments b.3; cost = refl }),
         (b.1, subst (λ j. Fits m (tail n.graph case.link.0) j) long (fits-there n m (tail n.graph case.link.0) (length p.segments) c.depth a.1), distance_there d p.cost within a.2),
       )
-
-link_is : (a b : LinkNo) → a.0 ≡ b.0 → a ≡ b
-link_is a b e = let q : record { 0 = a.0 } ≡ record { 0 = b.0 } = rw e refl in q
 
 one_like : (g h : Graph) → IsNamed h → (l : ℕ) (j k : LinkNo) → HaveSameName g h l j.0 → HaveSameName g h l k.0 → j ≡ k
 one_like g h named l j k p q = link_is j k (key-one h named j.0 k.0 p.1 q.1 (p.2 ∙ sym q.2))

@@ -93,9 +93,11 @@ pub record Stays (n : Net) (x : List Bool) (m : Net) (y : List Bool) (s d : ℕ)
   pub index : (w : ℕ) → w < node_count n.graph → OnWay n.graph x s d w → (labels_at n w).index ≡ (labels_at m w).index
   pub adj : (l k : ℕ) → l < link_count n.graph → k < link_count m.graph → OnWay n.graph x s d (tail n.graph l) → link_at m.graph k ≡ link_at n.graph l → adj_at n l ≡ adj_at m k
 
+-- link l of g and link k of h are the same
 abbrev pub AreLinksAlike : Graph → Graph → ℕ → ℕ → Type 0
 AreLinksAlike g h l k = (l < link_count g) × (k < link_count h) × (link_at h k ≡ link_at g l)
 
+-- the lists have the same nodes, and links that are alike, in the same order
 abbrev pub AreSegmentsAlike : Graph → Graph → List Segment → List Segment → Type 0
 AreSegmentsAlike g h [] ts = ts ≡ []
 AreSegmentsAlike g h (Node v ∷ ss) [] = ⊥

@@ -25,6 +25,7 @@ length-alike g h (Adj l ∷ ss) [] a = absurd a
 length-alike g h (Adj l ∷ ss) (Node w ∷ ts) a = absurd a
 length-alike g h (Adj l ∷ ss) (Adj k ∷ ts) a = omega (arith, length-alike g h ss ts a.1)
 
+-- both segments are of the same node, or of links that are alike
 abbrev AreAlike : Graph → Graph → Segment → Segment → Type 0
 AreAlike g h (Node v) (Node w) = v ≡ w
 AreAlike g h (Node v) (Adj k) = ⊥

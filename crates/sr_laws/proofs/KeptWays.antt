@@ -1,11 +1,12 @@
--- What a kept tree and a kept case say of the other net: its next hops, its nodes on repair ways, and the like of each answer.
-use Rattle.std.proofs.Common.{◌≡◌, ℕ, ◌<◌, ⊎_elim, Bool, false, true, List, [], ◌∷◌, ◌++◌, length, refl, arith, ap, sym, ◌∙◌, subst}
+-- What a kept tree and a kept case say of the other net: its next hops, its nodes on repair ways, and the like of
+-- each answer.
+use Rattle.std.proofs.Common.{◌≡◌, ℕ, ◌<◌, ⊎_elim, Bool, false, true, List, [], ◌++◌, length, refl, arith, ap, sym, subst}
 use Rattle.std.specs.Prelude.{◌↔◌, is_some}
 use Rattle.std.proofs.lemmas.Bool.{cases_lt}
 use Rattle.std.proofs.lemmas.List.{get_or_past}
 use Rattle.sr_model.specs.declared.case.Case.{Case}
 use Rattle.sr_model.specs.declared.repair.Answer.{Answer}
-use Rattle.sr_model.specs.Graph.{Graph, node_count, link_count, link_at, tail, head, IsGraph, IsLink, IsNamed}
+use Rattle.sr_model.specs.Graph.{Graph, node_count, link_count, tail, IsGraph, IsNamed}
 use Rattle.sr_model.specs.Walk.{cost, IsWalk, IsDistance, IsNextHop, IsOnWay, IsShortest, Passes}
 use Rattle.sr_model.specs.Case.{IsAffected, IsFailedSet, IsOnRepairWay}
 use Rattle.sr_model.specs.Label.{Labels, Net, labels_at, nameless}
@@ -15,11 +16,11 @@ use Rattle.sr_model.specs.Stay.{HaveSameName, IsKeptTree, IsKeptCase, case_with,
 use Rattle.sr_walks.proofs.Walks.{cost-append, walk-end, walk-within, Begins, begins-self, begins-passes}
 use Rattle.sr_walks.proofs.Distances.{shortest-cut, distance-from_shortest}
 use Rattle.sr_walks.proofs.Rows.{agree-sym}
-use Rattle.sr_laws.proofs.Keys.{nodes-same, name-ends}
+use Rattle.sr_laws.proofs.Keys.{nodes-same}
 use Rattle.sr_laws.proofs.KeptLists.{TreeStays, tree-sym, OnWay, Stays}
 use Rattle.sr_laws.proofs.KeptOrder.{way-sym, stays-sym}
 use Rattle.sr_laws.proofs.Failures.{failed-one}
-use Rattle.sr_laws.proofs.Kept.{kept-tree, hop-stays, on-way, stays-at, affected-there, affected-back, answer-kept}
+use Rattle.sr_laws.proofs.Kept.{nodes_same, source_within, ends, kept-tree, hop-stays, on-way, stays-at, affected-there, affected-back, answer-kept}
 
 -- each next hop of the new graph is a link of the old one
 pub hop-old : (g h : Graph) → IsGraph g → IsNamed g → IsGraph h → IsNamed h → (u w k : ℕ) → u < node_count g → w < node_count g → IsKeptTree g h u → IsNextHop h [] u w k → (l : ℕ) × HaveSameName g h l k
@@ -68,29 +69,20 @@ off-way g x s d w o =
     }
 
 module _ (n m : Net) (case : Case) (nn : IsNet n) (nm : IsNet m) (c : IsKeptCase n m case) where
-  nodes : node_count m.graph ≡ node_count n.graph
-  nodes = nodes-same n.graph m.graph c.nodes
-
-  ends : (tail m.graph c.link.0 ≡ tail n.graph case.link.0) × (head m.graph c.link.0 ≡ head n.graph case.link.0)
-  ends = name-ends n.graph m.graph nn.graph nm.graph nn.named nm.named c.nodes case.link.0 c.link.0 c.protected
-
-  source_within : tail n.graph case.link.0 < node_count n.graph
-  source_within = let a : IsLink n.graph (link_at n.graph case.link.0) = nn.graph.each case.link.0 c.within in a.0
-
   way_there : (w : ℕ) → IsOnRepairWay n case c.x w → IsOnRepairWay m (case_with case c.link) c.y w
   way_there w on =
       let d_within : on.0 < node_count n.graph = index-within n on.0 nn on.1.index in
-      let w_within : w < node_count n.graph = walk-within n.graph c.x (tail n.graph case.link.0) on.2.before w nn.graph source_within on.2.to in
+      let w_within : w < node_count n.graph = walk-within n.graph c.x (tail n.graph case.link.0) on.2.before w nn.graph (source_within n m case nn nm c) on.2.to in
       let st : Stays n c.x m c.y (tail n.graph case.link.0) on.0 c.post = stays-at n m case nn nm c on.0 d_within on.1 in
       let o : OnWay m.graph c.y (tail n.graph case.link.0) on.0 w = way-sym m c.y n c.x (tail n.graph case.link.0) on.0 c.post (stays-sym n c.x m c.y (tail n.graph case.link.0) on.0 c.post st d_within) w w_within d_within (off-way n.graph c.x (tail n.graph case.link.0) on.0 w on.2) in
-      (on.0, affected-there n m case nn nm c on.0 d_within on.1, subst (λ s. IsOnWay m.graph c.y s on.0 w) (sym ends.0) (on-way m.graph c.y (tail n.graph case.link.0) on.0 w o))
+      (on.0, affected-there n m case nn nm c on.0 d_within on.1, subst (λ s. IsOnWay m.graph c.y s on.0 w) (sym (ends n m case nn nm c).0) (on-way m.graph c.y (tail n.graph case.link.0) on.0 w o))
 
   way_back : (w : ℕ) → IsOnRepairWay m (case_with case c.link) c.y w → IsOnRepairWay n case c.x w
   way_back w on =
       let d_within' : on.0 < node_count m.graph = index-within m on.0 nm on.1.index in
-      let d_within : on.0 < node_count n.graph = omega (arith, nodes, d_within') in
-      let way : IsOnWay m.graph c.y (tail n.graph case.link.0) on.0 w = subst (λ s. IsOnWay m.graph c.y s on.0 w) ends.0 on.2 in
-      let s_within : tail n.graph case.link.0 < node_count m.graph = omega (arith, nodes, source_within) in
+      let d_within : on.0 < node_count n.graph = omega (arith, nodes_same n m case nn nm c, d_within') in
+      let way : IsOnWay m.graph c.y (tail n.graph case.link.0) on.0 w = subst (λ s. IsOnWay m.graph c.y s on.0 w) (ends n m case nn nm c).0 on.2 in
+      let s_within : tail n.graph case.link.0 < node_count m.graph = omega (arith, nodes_same n m case nn nm c, source_within n m case nn nm c) in
       let w_within : w < node_count m.graph = walk-within m.graph c.y (tail n.graph case.link.0) way.before w nm.graph s_within way.to in
       let af : IsAffected n case on.0 = affected-back n m case nn nm c on.0 d_within on.1 in
       let st : Stays n c.x m c.y (tail n.graph case.link.0) on.0 c.post = stays-at n m case nn nm c on.0 d_within af in

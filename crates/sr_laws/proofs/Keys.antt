@@ -1,5 +1,5 @@
 -- The order of keys, and links matched by key.
-use Rattle.std.proofs.Common.{◌≡◌, ◌≢◌, ℕ, ◌<◌, ◌≤◌, ◌⊎◌, ⊎_elim, inl, inr, Bool, true, false, List, length, refl, arith, ap, sym, ◌∙◌, subst}
+use Rattle.std.proofs.Common.{◌≡◌, ◌≢◌, ℕ, ◌<◌, ◌≤◌, ⊎_elim, inl, inr, Bool, true, List, length, refl, arith, ap, sym, ◌∙◌, subst}
 use Rattle.std.specs.Prelude.{slice_index}
 use Rattle.std.proofs.lemmas.Bool.{cases_lt, cases_eq}
 use Rattle.sr_model.specs.declared.name.Ident.{Ident}
@@ -10,6 +10,7 @@ use Rattle.sr_model.specs.Key.{PairLt, IdentLt, KeyLt, turned, mirror, IsSamePai
 use Rattle.sr_model.specs.Graph.{Graph, node_count, link_count, link_at, tail, head, metric, has, system_at, IsGraph, IsLink, IsNamed}
 use Rattle.sr_model.specs.Case.{key_at}
 use Rattle.sr_model.specs.Stay.{HaveSameNodes, HaveSameName, HaveSamePairs}
+use Rattle.sr_laws.proofs.Parts.{true_or}
 
 -- link l of g and link k of h have one key and one metric: the link isn't changed
 abbrev pub IsSameLink : Graph → Graph → ℕ → ℕ → Type 0
@@ -152,10 +153,6 @@ pair-trans a b c p q =
     inl (e ∙ ap mirror f ∙ twice))
     q)
     p
-
-true_or : (b : Bool) → (b ≡ true) ⊎ (b ≡ false)
-true_or true = inl refl
-true_or false = inr refl
 
 -- where the sets have the same pairs, a link is in both or in neither
 pub pairs-agree : (g : Graph) (x : List Bool) (h : Graph) (y : List Bool) → IsPairSet g x → IsPairSet h y → HaveSamePairs g x h y → (l k : ℕ) → HaveSameName g h l k → has x l ≡ has y k

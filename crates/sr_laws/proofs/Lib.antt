@@ -1,3 +1,4 @@
+pub mod Parts
 pub mod Waypoints
 pub mod Order
 pub mod Exact

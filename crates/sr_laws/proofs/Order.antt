@@ -4,10 +4,7 @@ use Rattle.std.proofs.lemmas.List.{length-append}
 use Rattle.sr_model.specs.Repair.{Path, PathLe, PathLt, SegmentLt, SegmentsLt}
 use Rattle.sr_model.specs.declared.repair.Segment.{Segment}
 use Rattle.sr_model.specs.declared.repair.Segment.TheVariants.{Adj, Node}
-
--- the list with one segment more
-abbrev pub push : Path → Segment → Path
-push a s = record { first = a.first; segments = a.segments ++ s ∷ [] }
+pub use Rattle.sr_laws.specs.Exact.{push}
 
 SegmentLt-trans : (a b c : Segment) → SegmentLt a b → SegmentLt b c → SegmentLt a c
 SegmentLt-trans (Node a) (Node b) (Node c) p q = omega arith

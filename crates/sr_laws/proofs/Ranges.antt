@@ -7,11 +7,12 @@ use Rattle.sr_model.specs.Label.{IsIndexOf, AreApart, IsGoodAt, IsSrgb, IsWithin
 use Rattle.sr_model.specs.declared.label.Range.{Range}
 use Rattle.sr_laws.specs.Labels.{IsInRanges}
 
--- the same, by recursion: each range within and apart from all later ones
+-- range r is apart from each range of the list
 abbrev pub AllApart : Range → List Range → Type 0
 AllApart r [] = Unit {0}
 AllApart r (s ∷ rs) = AreApart r s × AllApart r rs
 
+-- each range is within the labels, and apart from all later ones
 abbrev pub IsGood : List Range → Type 0
 IsGood [] = Unit {0}
 IsGood (r ∷ rs) = IsWithin r × AllApart r rs × IsGood rs

@@ -11,6 +11,7 @@ use Rattle.sr_model.specs.Label.{Net, labels_at, label_of, IsLabel}
 use Rattle.sr_model.specs.Forward.{Crossing, IsLabels, IsStack}
 use Rattle.sr_model.specs.Table.{IsOut, leaves, AreHops}
 use Rattle.sr_laws.proofs.Ascending.{ascending-one}
+use Rattle.sr_laws.proofs.Parts.{link_is}
 
 some_inj : {A : Type 0} {a b : A} → Some a ≡ Some b → a ≡ b
 some_inj e = cc
@@ -93,9 +94,6 @@ out-same n b m NullOut (Swap t) x y = ⊎_elim (λ ne. absurd (ne x.0)) (λ keep
 out-same n b m (Swap t) Pop x y = ⊎_elim (λ ne. absurd (ne y.0)) (λ keep. true_false (labels_at n b).keep keep.0 y.1) x.1
 out-same n b m (Swap t) NullOut x y = ⊎_elim (λ ne. absurd (ne y.0)) (λ keep. true_false (labels_at n b).explicit y.2 keep.1) x.1
 out-same n b m (Swap t) (Swap r) x y = ap Swap (label-same n m b t r x.0 y.0)
-
-link_is : (a b : LinkNo) → a.0 ≡ b.0 → a ≡ b
-link_is a b e = let q : record { 0 = a.0 } ≡ record { 0 = b.0 } = rw e refl in q
 
 hop_same : (n : Net) (b : ℕ) (h k : LinkNo × Out) → IsOut n b (head n.graph h.0.0) h.1 → IsOut n b (head n.graph k.0.0) k.1 → k.0.0 ≡ h.0.0 → k ≡ h
 hop_same n b h k x y e =

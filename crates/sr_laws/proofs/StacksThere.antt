@@ -9,7 +9,7 @@ use Rattle.sr_model.specs.Label.{Net, labels_at, adj_at}
 use Rattle.sr_model.specs.Rule.{IsNet}
 use Rattle.sr_model.specs.Repair.{Leads, Path, IsSound}
 use Rattle.sr_model.specs.Forward.{Crossing, IsLabels, IsStack}
-use Rattle.sr_laws.proofs.Failures.{true_or}
+use Rattle.sr_laws.proofs.Parts.{true_or}
 
 some-of : (o : Option ℕ) → is_some o ≡ true → (i : ℕ) × (o ≡ Some i)
 some-of None e = absurd {0} (cc)

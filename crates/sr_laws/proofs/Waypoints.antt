@@ -1,9 +1,8 @@
 -- Where the waypoints of a sound list let walks pass.
 use Rattle.std.proofs.Common.{◌≡◌, ◌≢◌, ℕ, ◌+◌, ◌<◌, ◌≤◌, ⊎_elim, Bool, true, false, List, [], ◌∷◌, ◌++◌, refl, arith, sym, subst}
-use Rattle.std.specs.Prelude.{is_some}
 use Rattle.std.proofs.lemmas.List.Elements.{All-head, All-tail}
-use Rattle.sr_model.specs.Graph.{Graph, IsGraph, IsLink, carries, has, head, is_overloaded, link_at, link_count, metric, node_count, tail}
-use Rattle.sr_model.specs.Label.{Net, adj_at, labels_at}
+use Rattle.sr_model.specs.Graph.{Graph, IsGraph, IsLink, carries, has, head, is_overloaded, link_at, link_count, metric, tail}
+use Rattle.sr_model.specs.Label.{Net}
 use Rattle.sr_model.specs.Repair.{Clear, IsSound, Leads, Path}
 use Rattle.sr_model.specs.Space.{Avoids, InP, InQ}
 use Rattle.sr_model.specs.Walk.{IsDistance, IsWalk, Passes, cost}
@@ -11,6 +10,7 @@ use Rattle.sr_model.specs.declared.repair.Segment.{Segment}
 use Rattle.sr_model.specs.declared.repair.Segment.TheVariants.{Adj, Node}
 use Rattle.sr_walks.proofs.Walks.{IsWalk-append, cost-append, carries-cases, carries-clear, passes-clear}
 use Rattle.sr_walks.proofs.Distances.{IsShortest-from_cost, distance-unique, distance-self}
+pub use Rattle.sr_laws.specs.Exact.{Routes}
 
 -- a walk that avoids x is one without x
 pub IsWalk-avoiding : (g : Graph) (x : List Bool) (u : ℕ) (p : List ℕ) (v : ℕ) → IsWalk g [] u p v → Avoids x p → IsWalk g x u p v
@@ -29,14 +29,6 @@ last-walk g x u v e carry inside d =
     (λ (same : u ≡ v). ([], same, distance-unique g [] v v 0 e (distance-self g [] v) (rw same at d), tt))
     (λ clear. let r = space-walk g x u v e inside d in (r.0, r.1, r.2, passes-clear g u r.0 clear))
     (carries-cases g v u carry)
-
--- the segments lead from waypoint u to waypoint w, and no waypoint at which one of them begins is overloaded
-abbrev pub Routes : Net → List Bool → ℕ → List Segment → ℕ → ℕ → Type 0
-Routes n x u [] w c = (u ≡ w) × (c ≡ 0)
-Routes n x u (Node v ∷ rest) w c =
-    (d : ℕ) × (e : ℕ) × (is_some (labels_at n v.0).index ≡ true) × (v.0 < node_count n.graph) × (v.0 ≢ u) × InP n.graph x u v.0 × IsDistance n.graph [] u v.0 d × Routes n x v.0 rest w e × (c ≡ d + e) × (is_overloaded n.graph u ≡ false)
-Routes n x u (Adj l ∷ rest) w c =
-    (e : ℕ) × (l.0 < link_count n.graph) × (tail n.graph l.0 ≡ u) × (has x l.0 ≡ false) × (is_some (adj_at n l.0) ≡ true) × Routes n x (head n.graph l.0) rest w e × (c ≡ metric n.graph l.0 + e) × (is_overloaded n.graph u ≡ false)
 
 pub leads-from_routes : (n : Net) (x : List Bool) (u : ℕ) (ss : List Segment) (w c : ℕ) → Routes n x u ss w c → Leads n x u ss w c
 leads-from_routes n x u [] w c a = a

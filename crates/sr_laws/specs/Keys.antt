@@ -24,4 +24,5 @@ PairsAgree = (a b : LinkKey) → a.from ≢ a.to → b.from ≢ b.to → IsSameP
 -- the key of each link has exactly one place among the announced keys
 abbrev pub PlacesAreUnique : Type 0
 PlacesAreUnique =
-    (g : Graph) (keys : List LinkKey) → AreAnnounced g keys → (l : ℕ) → l < link_count g → (k : ℕ) × IsPlace keys (key_at g l) k × ((j : ℕ) → IsPlace keys (key_at g l) j → j ≡ k)
+    (g : Graph) (keys : List LinkKey) → AreAnnounced g keys → (l : ℕ) → l < link_count g
+    → (k : ℕ) × IsPlace keys (key_at g l) k × ((j : ℕ) → IsPlace keys (key_at g l) j → j ≡ k)

@@ -6,7 +6,8 @@ use Rattle.sr_model.specs.Rule.{IsAccepted, IsNet}
 
 -- the label lies in one of the ranges
 abbrev pub IsInRanges : List Range → ℕ → Type 0
-IsInRanges rs t = (k : ℕ) × (k < length rs) × ((range_at rs k).first ≤ t) × (t < (range_at rs k).first + (range_at rs k).size)
+IsInRanges rs t =
+    (k : ℕ) × (k < length rs) × ((range_at rs k).first ≤ t) × (t < (range_at rs k).first + (range_at rs k).size)
 
 -- the indices below the sum of the sizes have labels, and no others
 abbrev pub IndicesHaveLabels : Type 0
@@ -18,11 +19,14 @@ LabelsHaveIndices = (rs : List Range) (t : ℕ) → IsInRanges rs t ↔ ((i : �
 
 -- in an SRGB a label has at most one index
 abbrev pub IndicesAreUnique : Type 0
-IndicesAreUnique = (rs : List Range) → IsSrgb rs → (t : ℕ) (a b : Option ℕ) → IsIndexOf rs t a → IsIndexOf rs t b → a ≡ b
+IndicesAreUnique =
+    (rs : List Range) → IsSrgb rs → (t : ℕ) (a b : Option ℕ) → IsIndexOf rs t a → IsIndexOf rs t b → a ≡ b
 
 -- an SRGB has at most 2^20 labels, none of them reserved
 abbrev pub LabelsAreFree : Type 0
-LabelsAreFree = (rs : List Range) → IsSrgb rs → (sizes rs ≤ 1048576) × ((i t : ℕ) → label_of rs i ≡ Some t → (16 ≤ t) × (t < 1048576))
+LabelsAreFree =
+    (rs : List Range) → IsSrgb rs
+    → (sizes rs ≤ 1048576) × ((i t : ℕ) → label_of rs i ≡ Some t → (16 ≤ t) × (t < 1048576))
 
 -- where no rule is broken, labels tell each node what to do
 abbrev pub AcceptedNetsAreNets : Type 0

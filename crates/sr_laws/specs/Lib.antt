@@ -5,3 +5,4 @@ pub mod Staying
 pub mod Tables
 pub mod Auditing
 pub mod Keys
+pub mod Exact

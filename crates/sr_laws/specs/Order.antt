@@ -19,4 +19,5 @@ LeastListsAreUnique = (n : Net) (x : List Bool) (s d : ℕ) (a b : Path) → IsL
 
 -- a case has at most one answer for a destination
 abbrev pub AnswersAreUnique : Type 0
-AnswersAreUnique = (n : Net) (case : Case) (d : ℕ) (a b : Answer) → IsCaseAnswer n case d a → IsCaseAnswer n case d b → a ≡ b
+AnswersAreUnique =
+    (n : Net) (case : Case) (d : ℕ) (a b : Answer) → IsCaseAnswer n case d a → IsCaseAnswer n case d b → a ≡ b

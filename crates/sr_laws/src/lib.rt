@@ -2,7 +2,7 @@
 //! ensures; its statement stands in `specs/`.
 #![tactic(auto)]
 
-ghost use Rattle.sr_laws.specs.Delivery.{SoundListsDeliver, SoundListsMeetNoNodeTwice, StacksAreUnique, StacksAreThere, PacketsDeliver, SteeredPacketsAvoid, SoundListsArrive, PacketsArrive, WalksByChoiceAreUnique};
+ghost use Rattle.sr_laws.specs.Delivery.{SoundListsDeliver, SoundListsAreLoopFree, StacksAreUnique, StacksAreThere, PacketsDeliver, SteeredPacketsAvoid, SoundListsArrive, PacketsArrive, WalksByChoiceAreUnique};
 ghost use Rattle.sr_laws.specs.Tables.{LookupsAreSteps, LookupsAreUnique};
 ghost use Rattle.sr_laws.specs.Auditing.{AuditsAreUnique};
 ghost use Rattle.sr_laws.specs.Order.{ListsAreOrdered, OrderIsStrict, LeastListsAreUnique, AnswersAreUnique};
@@ -10,10 +10,10 @@ ghost use Rattle.sr_laws.specs.Labels.{IndicesHaveLabels, LabelsHaveIndices, Ind
 ghost use Rattle.sr_laws.specs.Keys.{KeysAreOrdered, KeysAreTold, PairsAgree, PlacesAreUnique};
 ghost use Rattle.sr_laws.specs.Staying.{RowsStay, NextHopsStay, NextHopsAreThere, NextHopsAreOld, PostRowsStay, AffectedStay, RepairWaysStay, AnswersStay, AnswersAreThere, AnswersCarryOver, NothingChangesInItself, NetsAreUnchanged, UnchangedTreesStay, UnchangedCasesStay};
 
-/// Every sound list delivers, whichever equal-cost link each node takes, and no node is met twice.
+/// Every sound list delivers, whichever equal-cost link each node takes, and the way of the packet is loop-free.
 pub fn sound_lists_deliver()
     ensures deliver { SoundListsDeliver }
-    ensures distinct { SoundListsMeetNoNodeTwice }
+    ensures distinct { SoundListsAreLoopFree }
 {}
 
 /// A list has at most one stack, and a sound list to a destination with an index has one.

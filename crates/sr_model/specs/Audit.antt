@@ -43,8 +43,10 @@ pub record IsItem (n : Net) (item : Item) : Type 0 where
 -- the audit: each case and each destination that it affects once, in order
 pub record IsAudit (n : Net) (items : List Item) : Type 0 where
   pub each : (k : ℕ) (item : Item) → slice_get items k ≡ Some item → IsItem n item
-  pub ascending : (j k : ℕ) (a b : Item) → j < k → slice_get items j ≡ Some a → slice_get items k ≡ Some b → ItemLt a b
-  pub all : (case : Case) (d : ℕ) → IsCase n.graph case → IsAffected n case d → (k : ℕ) × (item : Item) × (slice_get items k ≡ Some item) × (item.case ≡ case) × (item.dest.0 ≡ d)
+  pub ascending : (j k : ℕ) (a b : Item) → j < k → slice_get items j ≡ Some a → slice_get items k ≡ Some b
+      → ItemLt a b
+  pub all : (case : Case) (d : ℕ) → IsCase n.graph case → IsAffected n case d
+      → (k : ℕ) × (item : Item) × (slice_get items k ≡ Some item) × (item.case ≡ case) × (item.dest.0 ≡ d)
 
 -- the answer is a list
 abbrev pub is_least : Answer → Bool

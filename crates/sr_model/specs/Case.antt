@@ -21,7 +21,9 @@ Touches g l v = (tail g l ≡ v) ⊎ (head g l ≡ v)
 abbrev pub ShareGroup : Graph → ℕ → ℕ → Type 0
 ShareGroup g k l = (r : ℕ) × Contains (groups_at g k) r × Contains (groups_at g l) r
 
--- link l fails where link p is protected against a failure of this kind (this project's rule): of kind link, the links of its pair; of kind node, the links that begin or end at its end; of kind risk, the links of its pair and of each pair with an end at its beginning that shares a group with it
+-- link l fails where link p is protected against a failure of this kind (this project's rule): in a link case, the
+-- links of its pair; in a node case, the links that begin or end at its end; in an SRLG case, the links of its pair,
+-- and those that begin or end at its beginning and share a group with it
 abbrev pub FailsWith : Graph → Kind → ℕ → ℕ → Type 0
 FailsWith g LinkKind p l = IsSamePair (key_at g l) (key_at g p)
 FailsWith g NodeKind p l = Touches g l (head g p)
@@ -31,7 +33,8 @@ FailsWith g RiskKind p l = IsSamePair (key_at g l) (key_at g p) ⊎ (Touches g l
 abbrev pub IsCase : Graph → Case → Type 0
 IsCase g case = case.link.0 < link_count g
 
--- the tests, one for each link, tell the links that fail in the case; the graph without them is the graph in whose walks none of them stands
+-- the tests, one for each link, tell the links that fail in the case; the graph without them is the graph in whose
+-- walks none of them stands
 pub record IsFailedSet (g : Graph) (case : Case) (x : List Bool) : Type 0 where
   pub long : length x ≡ link_count g
   pub each : (l : ℕ) → l < link_count g → (has x l ≡ true) ↔ FailsWith g case.kind case.link.0 l
@@ -49,7 +52,8 @@ pub record IsOutside (g : Graph) (case : Case) (d : ℕ) : Type 0 where
   pub source : d ≢ source_of g case
   pub failed : case.kind ≡ NodeKind → d ≢ end_of g case
 
--- d is affected: it has a node index, isn't the source nor a node that fails, and the protected link is a next hop of the source towards it (this project's rule)
+-- d is affected: it has a node index, isn't the source nor a node that fails, and the protected link is a next hop of
+-- the source towards it (this project's rule)
 pub record IsAffected (n : Net) (case : Case) (d : ℕ) : Type 0 where
   pub index : is_some (labels_at n d).index ≡ true
   pub outside : IsOutside n.graph case d

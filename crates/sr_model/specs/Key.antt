@@ -17,7 +17,10 @@ mirror key = record { from = key.to; to = key.from; ident = turned key.ident }
 
 -- the pair that a link belongs to, with the identity as the lower end announces it
 abbrev pub pair_of : LinkKey → PairKey
-pair_of key = if nat_le key.from key.to then record { low = key.from; high = key.to; ident = key.ident } else record { low = key.to; high = key.from; ident = turned key.ident }
+pair_of key =
+    if nat_le key.from key.to
+    then record { low = key.from; high = key.to; ident = key.ident }
+    else record { low = key.to; high = key.from; ident = turned key.ident }
 
 -- the two names are those of one link or of two opposite links
 abbrev pub IsSamePair : LinkKey → LinkKey → Type 0

@@ -4,7 +4,8 @@ use Rattle.sr_model.specs.declared.label.Range.{Range}
 use Rattle.sr_model.specs.declared.name.LinkKey.{LinkKey}
 use Rattle.sr_model.specs.Graph.{Graph, node_count}
 
--- the label of an index: the ranges are taken in announced order; an index below the first size is counted from the first base, and else that size is taken off and the next range is tried (RFC 8660, 2.4 and RFC 8667, 3.1)
+-- the label of an index: the ranges are taken in announced order; an index below the first size is counted from the
+-- first base, else that size is subtracted from it and the next range is tried (RFC 8660, 2.4 and RFC 8667, 3.1)
 abbrev pub label_of : List Range → ℕ → Option ℕ
 label_of [] i = None
 label_of (r ∷ rs) i = if nat_lt i r.size then Some (r.first + i) else label_of rs (i - r.size)
@@ -27,7 +28,8 @@ no_range = record { first = 0; size = 0 }
 abbrev pub range_at : List Range → ℕ → Range
 range_at rs k = slice_index_or rs k no_range
 
--- not empty, and within the labels that aren't reserved (RFC 3032, 2.1: a label has 20 bits, and 0 to 15 are reserved)
+-- not empty, and within the labels that aren't reserved (RFC 3032, 2.1: a label has 20 bits, and 0 to 15 are
+-- reserved)
 pub record IsWithin (r : Range) : Type 0 where
   pub some : 0 < r.size
   pub above : 16 ≤ r.first
@@ -51,7 +53,9 @@ pub record IsSrgb (rs : List Range) : Type 0 where
 abbrev pub IsFirstBad : List Range → ℕ → Type 0
 IsFirstBad rs k = ((rs ≡ []) × (k ≡ 0)) ⊎ ((k < length rs) × ((j : ℕ) → j < k → IsGoodAt rs j) × (IsGoodAt rs k → ⊥))
 
--- what a node announces: its SRGB, the index of its node segment, whether a packet keeps that segment's label up to the node (P flag, RFC 8667, 2.1.1), whether that label is then explicit null (P and E flags), and how many labels it can impose (MSD type 1, RFC 8491, 5)
+-- what a node announces: its SRGB, the index of its node segment, whether a packet keeps that segment's label up to
+-- the node (P flag, RFC 8667, 2.1.1), whether that label is then explicit null (P and E flags), and how many labels
+-- it can impose (its maximum SID depth, MSD type 1, RFC 8491, 5)
 pub record Labels : Type 0 where
   pub srgb : List Range
   pub index : Option ℕ
@@ -63,7 +67,9 @@ pub record Labels : Type 0 where
 abbrev pub nameless : Labels
 nameless = record { srgb = []; index = None; keep = false; explicit = false; imposes = None }
 
--- a net: the graph, what each node announces, the adjacency label of each link (RFC 8667, 2.2), the keys of all two-way announcements, also of links that aren't in use, and how many segments a list may have where its node announces no imposition depth
+-- a net: the graph, what each node announces, the adjacency label of each link (RFC 8667, 2.2), the keys of all
+-- two-way announcements, also of links that aren't in use, and how many segments a list may have where its node
+-- announces no maximum SID depth (MSD)
 pub record Net : Type 0 where
   pub graph : Graph
   pub labels : List Labels
@@ -81,7 +87,8 @@ adj_at n l = slice_index_or n.adj l None
 
 -- t is the label of node b at node u: that of b's index in the ranges of u (RFC 8660, 2.4)
 abbrev pub IsLabel : Net → ℕ → ℕ → ℕ → Type 0
-IsLabel n u b t = (i : ℕ) × (b < node_count n.graph) × ((labels_at n b).index ≡ Some i) × (label_of (labels_at n u).srgb i ≡ Some t)
+IsLabel n u b t =
+    (i : ℕ) × (b < node_count n.graph) × ((labels_at n b).index ≡ Some i) × (label_of (labels_at n u).srgb i ≡ Some t)
 
 -- the announced keys from a to b; they are in order of identity, since the announced keys ascend
 abbrev pub keys_between : List LinkKey → ℕ → ℕ → List LinkKey

@@ -46,7 +46,8 @@ pub record IsClashAt (nodes : List Labels) (adj : List AdjLabel) (k : ℕ) : Typ
   pub clash :
       ((adj_label_at adj k).label < 16)
       ⊎ (((i : ℕ) × (label_of (node_at nodes (adj_label_at adj k).node).srgb i ≡ Some (adj_label_at adj k).label))
-      ⊎ ((j : ℕ) × (j < length adj) × (j ≢ k) × ((adj_label_at adj j).node ≡ (adj_label_at adj k).node) × ((adj_label_at adj j).label ≡ (adj_label_at adj k).label)))
+      ⊎ ((j : ℕ) × (j < length adj) × (j ≢ k) × ((adj_label_at adj j).node ≡ (adj_label_at adj k).node)
+      × ((adj_label_at adj j).label ≡ (adj_label_at adj k).label)))
 
 -- the lower node, then the lower label
 abbrev pub IsNoLater : AdjLabel → AdjLabel → Type 0
@@ -69,12 +70,14 @@ NoOutside nodes = (i v : ℕ) → IsIndexOutside nodes i v → ⊥
 abbrev pub NoAdjClash : List Labels → List AdjLabel → Type 0
 NoAdjClash nodes adj = (k : ℕ) → IsClashAt nodes adj k → ⊥
 
--- of the three rules in this order, the first that is broken with the least that breaks it, or none where none is broken (this project's rule)
+-- of the three rules in this order, the first that is broken with the least that breaks it, or none where none is
+-- broken (this project's rule)
 abbrev pub IsFirstBroken : List Labels → List AdjLabel → Option LabelRule → Type 0
 IsFirstBroken nodes adj None = NoDuplicate nodes × NoOutside nodes × NoAdjClash nodes adj
 IsFirstBroken nodes adj (Some (DuplicateIndex i low high)) = IsLeastDuplicate nodes i low high
 IsFirstBroken nodes adj (Some (IndexOutside i v)) = NoDuplicate nodes × IsLeastOutside nodes i v
-IsFirstBroken nodes adj (Some (AdjLabelClash t v)) = NoDuplicate nodes × NoOutside nodes × IsLeastClash nodes adj (record { node = v; label = t })
+IsFirstBroken nodes adj (Some (AdjLabelClash t v)) =
+    NoDuplicate nodes × NoOutside nodes × IsLeastClash nodes adj (record { node = v; label = t })
 
 -- the adjacency labels of the links, each with the node at which its link begins
 abbrev pub adj_labels_of : List Link → List (Option ℕ) → List AdjLabel
@@ -85,10 +88,12 @@ adj_labels_of (k ∷ ks) (Some t ∷ labels) = record { node = k.from.0; label =
 
 -- the announced keys ascend strictly, and the key of each link is among them
 pub record AreAnnounced (g : Graph) (keys : List LinkKey) : Type 0 where
-  pub ascending : (i j : ℕ) (a b : LinkKey) → i < j → slice_get keys i ≡ Some a → slice_get keys j ≡ Some b → KeyLt a b
+  pub ascending : (i j : ℕ) (a b : LinkKey) → i < j → slice_get keys i ≡ Some a → slice_get keys j ≡ Some b
+      → KeyLt a b
   pub holds : (l : ℕ) → l < link_count g → (i : ℕ) × (slice_get keys i ≡ Some (link_at g l).key)
 
--- an accepted net: a graph within its limits and in order, with its groups; an SRGB for each node, and an entry for each link; no rule on labels is broken; the announced keys ascend and hold each link's; and the depth is at most 12
+-- an accepted net: a graph within its limits and in order, with its groups; an SRGB for each node, and an entry for
+-- each link; no rule on labels is broken; the announced keys ascend and hold each link's; and the depth is at most 12
 pub record IsAccepted (n : Net) : Type 0 where
   pub graph : IsGraph n.graph
   pub named : IsNamed n.graph
@@ -100,17 +105,22 @@ pub record IsAccepted (n : Net) : Type 0 where
   pub announced : AreAnnounced n.graph n.announced
   pub depth : n.depth ≤ 12
 
--- what an accepted net gives: each index has a label at each node, an index is one node's, a label is one index's at a node, no label is 0, and the adjacency labels of a node are apart from its ranges and from each other
+-- what an accepted net gives: each index has a label at each node, an index is one node's, a label is one index's at
+-- a node, no label is 0, and the adjacency labels of a node are apart from its ranges and from each other
 pub record IsNet (n : Net) : Type 0 where
   pub graph : IsGraph n.graph
   pub named : IsNamed n.graph
   pub grouped : IsGrouped n.graph
   pub nodes : length n.labels ≡ node_count n.graph
   pub links : length n.adj ≡ link_count n.graph
-  pub inside : (u v i : ℕ) → u < node_count n.graph → v < node_count n.graph → (labels_at n v).index ≡ Some i → (t : ℕ) × (label_of (labels_at n u).srgb i ≡ Some t)
-  pub own_index : (u v i : ℕ) → u < node_count n.graph → v < node_count n.graph → (labels_at n u).index ≡ Some i → (labels_at n v).index ≡ Some i → u ≡ v
-  pub own_label : (u i j t : ℕ) → label_of (labels_at n u).srgb i ≡ Some t → label_of (labels_at n u).srgb j ≡ Some t → i ≡ j
+  pub inside : (u v i : ℕ) → u < node_count n.graph → v < node_count n.graph → (labels_at n v).index ≡ Some i
+      → (t : ℕ) × (label_of (labels_at n u).srgb i ≡ Some t)
+  pub own_index : (u v i : ℕ) → u < node_count n.graph → v < node_count n.graph → (labels_at n u).index ≡ Some i
+      → (labels_at n v).index ≡ Some i → u ≡ v
+  pub own_label : (u i j t : ℕ) → label_of (labels_at n u).srgb i ≡ Some t → label_of (labels_at n u).srgb j ≡ Some t
+      → i ≡ j
   pub high : (u i t : ℕ) → label_of (labels_at n u).srgb i ≡ Some t → 0 < t
   pub adj_high : (l t : ℕ) → adj_at n l ≡ Some t → 0 < t
   pub adj_apart : (l i t : ℕ) → adj_at n l ≡ Some t → label_of (labels_at n (tail n.graph l)).srgb i ≡ Some t → ⊥
-  pub adj_one : (k l t : ℕ) → k < link_count n.graph → l < link_count n.graph → tail n.graph k ≡ tail n.graph l → adj_at n k ≡ Some t → adj_at n l ≡ Some t → k ≡ l
+  pub adj_one : (k l t : ℕ) → k < link_count n.graph → l < link_count n.graph → tail n.graph k ≡ tail n.graph l
+      → adj_at n k ≡ Some t → adj_at n l ≡ Some t → k ≡ l

@@ -35,13 +35,16 @@ IsChanged g h key =
     ⊎ ((HasLink h key × (HasLink g key → ⊥))
     ⊎ ((b : ℕ) × (c : ℕ) × HasMetric g key b × HasMetric h key c × (b ≢ c)))
 
--- a changed link is idle for the distances in a row where there is no walk to its beginning, or where there is one to its end that is cheaper than by the link, with each metric that it has in the old or the new net
+-- a changed link is idle for the distances in a row where there is no walk to its beginning, or where there is one to
+-- its end that is cheaper than by the link, with each metric that it has in the old or the new net
 pub record IsIdle (g h : Graph) (cells : List ℕ) (key : LinkKey) : Type 0 where
   pub from : ℕ
   pub to : ℕ
   pub begins : (from < node_count g) × (system_at g from ≡ key.from)
   pub ends : (to < node_count g) × (system_at g to ≡ key.to)
-  pub idle : (FAR ≤ slice_index cells from) ⊎ ((slice_index cells to < FAR) × ((c : ℕ) → HasMetric g key c ⊎ HasMetric h key c → slice_index cells to < slice_index cells from + c))
+  pub idle : (FAR ≤ slice_index cells from)
+      ⊎ ((slice_index cells to < FAR)
+      × ((c : ℕ) → HasMetric g key c ⊎ HasMetric h key c → slice_index cells to < slice_index cells from + c))
 
 -- the tree of u stays: the nodes are the same, and each changed link is idle for the old distances from u
 pub record IsKeptTree (g h : Graph) (u : ℕ) : Type 0 where
@@ -56,20 +59,23 @@ HaveSameName g h l k = (l < link_count g) × (k < link_count h) × (key_at h k �
 
 -- the failed links are of the same pairs
 pub record HaveSamePairs (g : Graph) (x : List Bool) (h : Graph) (y : List Bool) : Type 0 where
-  pub there : (l : ℕ) → l < link_count g → has x l ≡ true → (k : ℕ) × (k < link_count h) × (has y k ≡ true) × IsSamePair (key_at g l) (key_at h k)
-  pub back : (k : ℕ) → k < link_count h → has y k ≡ true → (l : ℕ) × (l < link_count g) × (has x l ≡ true) × IsSamePair (key_at h k) (key_at g l)
+  pub there : (l : ℕ) → l < link_count g → has x l ≡ true
+      → (k : ℕ) × (k < link_count h) × (has y k ≡ true) × IsSamePair (key_at g l) (key_at h k)
+  pub back : (k : ℕ) → k < link_count h → has y k ≡ true
+      → (l : ℕ) × (l < link_count g) × (has x l ≡ true) × IsSamePair (key_at h k) (key_at g l)
 
 -- the key is of the pair of a failed link
 abbrev pub IsOfFailedPair : Graph → List Bool → LinkKey → Type 0
 IsOfFailedPair g x key = (l : ℕ) × (l < link_count g) × (has x l ≡ true) × IsSamePair (key_at g l) key
 
--- node s has the same imposition depth in both nets, or none in both and the nets have one depth
+-- node s announces the same maximum SID depth (MSD) in both nets, or none in either and the nets have the same depth
 abbrev pub HasSameDepth : Net → Net → ℕ → Type 0
 HasSameDepth n m s =
     ((k : ℕ) × ((labels_at n s).imposes ≡ Some k) × ((labels_at m s).imposes ≡ Some k))
     ⊎ (((labels_at n s).imposes ≡ None) × ((labels_at m s).imposes ≡ None) × (m.depth ≡ n.depth))
 
--- a node whose tree stays, with the same index, the same flags, and the same adjacency label on each of its links that is in both nets
+-- a node whose tree stays, with the same index, the same flags, and the same adjacency label on each of its links
+-- that is in both nets
 pub record IsKeptNode (n m : Net) (w : ℕ) : Type 0 where
   pub tree : IsKeptTree n.graph m.graph w
   pub index : (labels_at n w).index ≡ (labels_at m w).index
@@ -81,7 +87,12 @@ pub record IsKeptNode (n m : Net) (w : ℕ) : Type 0 where
 abbrev pub case_with : Case → LinkNo → Case
 case_with case link = record { kind = case.kind; link = link }
 
--- a case of the old net stays: the protected key is a link of both nets; the failed links are of the same pairs; the source has the same imposition depth, or none and the nets have one depth; the tree of the source stays; each changed link that isn't of a failed pair is idle for the old distances from the source without the failed links; each node that isn't the source nor fails, and towards which the protected link is a next hop of the source, has an index in both nets or in neither; and each node on a shortest walk without the failed links from the source to an affected destination is kept
+-- a case of the old net stays: the protected key is a link of both nets; the failed links are of the same pairs; the
+-- source announces the same maximum SID depth, or none and the nets have the same depth; the tree of the source
+-- stays; each changed link that isn't of a failed pair is idle for the old distances from the source without the
+-- failed links; each node that isn't the source nor fails, and towards which the protected link is a next hop of the
+-- source, has an index in both nets or in neither; and each node on a shortest walk without the failed links from the
+-- source to an affected destination is kept
 pub record IsKeptCase (n m : Net) (case : Case) : Type 0 where
   pub within : IsCase n.graph case
   pub nodes : HaveSameNodes n.graph m.graph
@@ -96,8 +107,11 @@ pub record IsKeptCase (n m : Net) (case : Case) : Type 0 where
   pub tree : IsKeptTree n.graph m.graph (source_of n.graph case)
   pub post : List ℕ
   pub row : IsRow n.graph x (source_of n.graph case) post
-  pub idle : (key : LinkKey) → IsChanged n.graph m.graph key → (IsOfFailedPair n.graph x key → ⊥) → IsIdle n.graph m.graph post key
-  pub index : (d : ℕ) → d < node_count n.graph → IsOutside n.graph case d → IsNextHop n.graph [] (source_of n.graph case) d case.link.0 → is_some (labels_at n d).index ≡ is_some (labels_at m d).index
+  pub idle : (key : LinkKey) → IsChanged n.graph m.graph key → (IsOfFailedPair n.graph x key → ⊥)
+      → IsIdle n.graph m.graph post key
+  pub index : (d : ℕ) → d < node_count n.graph → IsOutside n.graph case d
+      → IsNextHop n.graph [] (source_of n.graph case) d case.link.0
+      → is_some (labels_at n d).index ≡ is_some (labels_at m d).index
   pub way : (w : ℕ) → w < node_count n.graph → IsOnRepairWay n case x w → IsKeptNode n m w
 
 -- the same segments, links matched by key

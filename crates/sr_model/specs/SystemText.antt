@@ -24,11 +24,14 @@ digit_at text i = digit_value (slice_index text i)
 
 -- four hexadecimal digits stand from place i on
 abbrev pub is_group : List ℕ → ℕ → Bool
-is_group text i = nat_lt (digit_at text i) 16 && (nat_lt (digit_at text (i + 1)) 16 && (nat_lt (digit_at text (i + 2)) 16 && nat_lt (digit_at text (i + 3)) 16))
+is_group text i =
+    nat_lt (digit_at text i) 16 && (nat_lt (digit_at text (i + 1)) 16
+    && (nat_lt (digit_at text (i + 2)) 16 && nat_lt (digit_at text (i + 3)) 16))
 
 -- the number that they write
 abbrev pub group_value : List ℕ → ℕ → ℕ
-group_value text i = ((digit_at text i * 16 + digit_at text (i + 1)) * 16 + digit_at text (i + 2)) * 16 + digit_at text (i + 3)
+group_value text i =
+    ((digit_at text i * 16 + digit_at text (i + 1)) * 16 + digit_at text (i + 2)) * 16 + digit_at text (i + 3)
 
 -- the number of a group, if four digits stand there
 unfoldable pub group_read : List ℕ → ℕ → Option ℕ

@@ -15,7 +15,8 @@ use Rattle.sr_model.specs.Forward.{Step}
 abbrev pub IsOut : Net → ℕ → ℕ → Out → Type 0
 IsOut n b m Pop = (m ≡ b) × ((labels_at n b).keep ≡ false)
 IsOut n b m NullOut = (m ≡ b) × ((labels_at n b).keep ≡ true) × ((labels_at n b).explicit ≡ true)
-IsOut n b m (Swap t) = IsLabel n m b t × ((m ≢ b) ⊎ (((labels_at n b).keep ≡ true) × ((labels_at n b).explicit ≡ false)))
+IsOut n b m (Swap t) =
+    IsLabel n m b t × ((m ≢ b) ⊎ (((labels_at n b).keep ≡ true) × ((labels_at n b).explicit ≡ false)))
 
 -- the stack that it leaves over the rest
 abbrev pub leaves : Out → List ℕ → List ℕ
@@ -25,9 +26,12 @@ leaves (Swap t) rest = t ∷ rest
 
 -- the next hops of u towards b, ascending, each with what becomes of b's label on it
 pub record AreHops (n : Net) (u b : ℕ) (hops : List (LinkNo × Out)) : Type 0 where
-  pub each : (i : ℕ) (h : LinkNo × Out) → slice_get hops i ≡ Some h → IsNextHop n.graph [] u b h.0.0 × IsOut n b (head n.graph h.0.0) h.1
-  pub ascending : (i j : ℕ) (h k : LinkNo × Out) → i < j → slice_get hops i ≡ Some h → slice_get hops j ≡ Some k → h.0.0 < k.0.0
-  pub all : (l : ℕ) → IsNextHop n.graph [] u b l → (i : ℕ) × (h : LinkNo × Out) × (slice_get hops i ≡ Some h) × (h.0.0 ≡ l)
+  pub each : (i : ℕ) (h : LinkNo × Out) → slice_get hops i ≡ Some h
+      → IsNextHop n.graph [] u b h.0.0 × IsOut n b (head n.graph h.0.0) h.1
+  pub ascending : (i j : ℕ) (h k : LinkNo × Out) → i < j → slice_get hops i ≡ Some h → slice_get hops j ≡ Some k
+      → h.0.0 < k.0.0
+  pub all : (l : ℕ) → IsNextHop n.graph [] u b l
+      → (i : ℕ) × (h : LinkNo × Out) × (slice_get hops i ≡ Some h) × (h.0.0 ≡ l)
 
 -- what label t does at node u: one triple of the table
 abbrev pub IsEntry : Net → ℕ → ℕ → Entry → Type 0

@@ -3,7 +3,7 @@ use Rattle.std.specs.Prelude.{◌≡◌, ◌≢◌, ℕ, ◌+◌, ◌<◌, ◌�
 use Rattle.sr_model.specs.declared.link.TheConstants.{FAR}
 use Rattle.sr_model.specs.Graph.{Graph, node_count, link_count, tail, head, metric, has, is_overloaded}
 
--- a walk that comes to w may go on by p: it ends there, or w isn't overloaded
+-- a walk that reaches w may go on by p: it ends there, or w isn't overloaded
 abbrev pub Passes : Graph → ℕ → List ℕ → Type 0
 Passes g w [] = Unit {0}
 Passes g w (l ∷ p) = is_overloaded g w ≡ false
@@ -11,7 +11,8 @@ Passes g w (l ∷ p) = is_overloaded g w ≡ false
 -- p leads from u to v by links outside x, each beginning where the one before ends, at a node that isn't overloaded
 abbrev pub IsWalk : Graph → List Bool → ℕ → List ℕ → ℕ → Type 0
 IsWalk g x u [] v = u ≡ v
-IsWalk g x u (l ∷ p) v = (l < link_count g) × (has x l ≡ false) × (tail g l ≡ u) × IsWalk g x (head g l) p v × Passes g (head g l) p
+IsWalk g x u (l ∷ p) v =
+    (l < link_count g) × (has x l ≡ false) × (tail g l ≡ u) × IsWalk g x (head g l) p v × Passes g (head g l) p
 
 -- the cost of a walk: the sum of the metrics of its links (ISO 10589, 7.2.6)
 abbrev pub cost : Graph → List ℕ → ℕ
@@ -47,7 +48,7 @@ pub record OnShortest (g : Graph) (x : List Bool) (u v l : ℕ) : Type 0 where
   pub after : List ℕ
   pub shortest : IsShortest g x u (before ++ l ∷ after) v
 
--- w stands on a shortest walk without x from s to d: the walk comes to w, and goes on from there
+-- w stands on a shortest walk without x from s to d: the walk reaches w, and goes on from there
 pub record IsOnWay (g : Graph) (x : List Bool) (s d w : ℕ) : Type 0 where
   pub before : List ℕ
   pub after : List ℕ
@@ -66,7 +67,7 @@ pub record IsRow (g : Graph) (x : List Bool) (u : ℕ) (cells : List ℕ) : Type
   pub long : length cells ≡ node_count g
   pub each : (v : ℕ) → v < node_count g → IsCell g x u v (slice_index cells v)
 
--- the nodes that a walk comes to
+-- the nodes at which the links of a walk end
 abbrev pub stops : Graph → List ℕ → List ℕ
 stops g [] = []
 stops g (l ∷ p) = head g l ∷ stops g p

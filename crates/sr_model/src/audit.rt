@@ -23,3 +23,19 @@ pub struct Counts {
     pub nolist: u32,
     pub toodeep: u32,
 }
+
+/// A round of a watch: which watcher made it, and which of its rounds it is, both from 1.
+#[derive(Clone, Copy, Debug, PartialEq, Eq, Hash)]
+pub struct WatchRound {
+    pub watcher: u32,
+    pub round: u32,
+}
+
+/// What background work reports of one round: whose round of a watch it was, or None of a hold; the version that was
+/// audited; and how many answers of each sort its audit has.
+#[derive(Clone, Copy, Debug, PartialEq, Eq, Hash)]
+pub struct RoundReport {
+    pub round: Option<WatchRound>,
+    pub version: u32,
+    pub counts: Counts,
+}

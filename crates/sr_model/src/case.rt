@@ -5,11 +5,12 @@ use crate::link::LinkNo;
 /// What fails together with the protected link of a case.
 #[derive(Clone, Copy, Debug, PartialEq, Eq, PartialOrd, Ord, Hash)]
 pub enum Kind {
-    /// The pair of the protected link.
+    /// A link case: the pair of the protected link fails.
     Link,
-    /// The node at its end.
+    /// A node case: the node at the end of the protected link fails.
     Node,
-    /// Its pair, and the pairs at its beginning that share a risk group with it.
+    /// An SRLG case: the pair of the protected link fails, and so do the pairs at its beginning that share a risk group
+    /// with it.
     Risk,
 }
 

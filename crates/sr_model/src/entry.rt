@@ -12,7 +12,7 @@ pub enum Move {
 /// What becomes of the label on top when a link is crossed (RFC 8660, 2.10 and 2.11).
 #[derive(Clone, Copy, Debug, PartialEq, Eq, Hash)]
 pub enum Out {
-    /// It is taken off.
+    /// It is popped.
     Pop,
     /// It becomes explicit null.
     Null,

@@ -11,11 +11,11 @@ mod repair;
 mod rule;
 mod text;
 
-pub use audit::{Counts, Item};
+pub use audit::{Counts, Item, RoundReport, WatchRound};
 pub use case::{Case, Kind};
 pub use entry::{Entry, Move, Out};
 pub use label::{AdjLabel, LabelRule, Range};
-pub use link::{FAR, Link, LinkNo, NodeNo};
+pub use link::{FAR, Link, LinkNo, MOST_LINKS, MOST_METRIC, MOST_NODES, NodeNo};
 pub use name::{Ident, LinkKey, PairKey, SystemId};
 pub use repair::{Answer, RepairList, Segment, Segments};
 pub use rule::DomainRule;

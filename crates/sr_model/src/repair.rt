@@ -11,7 +11,8 @@ pub enum Segment {
     Adj(LinkNo),
 }
 
-/// A list of segments, the first to be followed first, in memory of its version. Contracts see it as the list.
+/// A segment list, whose first segment is followed first. It stands in memory of its version, and contracts see it as a
+/// list.
 #[derive(Debug, Drop)]
 pub struct Segments<'a> {
     list: &'a [Segment],
@@ -27,14 +28,14 @@ impl<'a> Model for Segments<'a> {
 }
 
 impl<'a> Segments<'a> {
-    /// These segments.
+    /// The segment list that a slice holds.
     pub fn new(list: &'a [Segment]) -> Segments<'a>
         ensures { result ≡ list.now }
     {
         Segments { list }
     }
 
-    /// The segments.
+    /// The segments as a slice.
     pub fn list(&self) -> &'a [Segment]
         ensures { result.now ≡ self.now }
     {
@@ -58,7 +59,7 @@ pub enum Answer<'a> {
     Least(RepairList<'a>),
     /// The failure leaves no way to the destination.
     NoPath,
-    /// There is a way, but no list of segments keeps to it.
+    /// There is a way, but no segment list keeps to it.
     NoList,
     /// The least list has this many segments, and they don't fit on a packet at the node.
     TooDeep { needed: u32 },

@@ -56,7 +56,7 @@ impl SystemId {
         SystemId::new(high * (1 << 32) + middle * (1 << 16) + low)
     }
 
-    /// The text of the id, with digits in lower case.
+    /// The id as text, with digits in lower case.
     #[tactic(auto, using(crate::proofs::SystemTextLemmas::written_is_read))]
     fn text(self) -> [u8; 14]
         ensures text { result ≡ system_text self }
@@ -81,7 +81,7 @@ impl SystemId {
         ]
     }
 
-    /// Appends the text of the id, with digits in lower case. What is written so is read again as the same id.
+    /// Appends the id as text, with digits in lower case. This text is read as the same id.
     pub fn put(self, out: &mut Vec<u8>) -> Result<(), AllocError>
         ensures ok { OnOk result (out.new.items ≡ out.old.items ++ system_text self) }
         ensures err { OnErr result (out.new.items ≡ out.old.items) }

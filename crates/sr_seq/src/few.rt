@@ -45,7 +45,7 @@ impl<T: Drop> Few<T> {
         }
     }
 
-    /// No values, with room for so many; room for one takes no memory.
+    /// No values, with room for `count` of them. Room for one value takes no memory.
     pub fn with_room(alloc: Global, count: usize) -> Result<Few<T>, AllocError>
         ensures { IfOk result (λ few. few ≡ []) }
     {

@@ -1,11 +1,13 @@
--- A shortest walk meets no node twice, so it has fewer links than there are nodes.
-use Rattle.std.proofs.Common.{◌≡◌, ◌≢◌, ℕ, zero, suc, ◌+◌, ◌*◌, ◌<◌, ◌≤◌, Bool, cond, List, [], ◌∷◌, length, refl, arith, ap, sym, ◌∙◌, subst}
+-- A shortest walk is loop-free, so it has fewer links than there are nodes.
+use Rattle.std.proofs.Common.{◌≡◌, ◌≢◌, ℕ, zero, suc, ◌+◌, ◌-◌, ◌*◌, ◌<◌, ◌≤◌, Bool, cond, List, [], ◌∷◌, length, refl, arith, ap, sym, ◌∙◌, subst}
 use Rattle.std.specs.Prelude.{◌==◌}
 use Rattle.std.proofs.lemmas.Bool.{cond_both, eqb-true, eqb-false}
+use Rattle.sr_model.specs.declared.link.TheConstants.{MOST_NODES, MOST_METRIC}
 use Rattle.sr_model.specs.Graph.{Graph, IsGraph, IsLink, head, link_at, metric, node_count}
 use Rattle.sr_model.specs.Walk.{IsDistance, AllNe, AreDistinct, IsShortest, IsWalk, cost, stops}
 use Rattle.sr_walks.proofs.Distances.{shortest-cut, IsShortest-from_cost}
 
+-- each number of the list is below n
 abbrev pub AllBelow : ℕ → List ℕ → Type 0
 AllBelow n [] = Unit {0}
 AllBelow n (y ∷ ys) = (y < n) × AllBelow n ys
@@ -59,7 +61,7 @@ stops-below : (g : Graph) (x : List Bool) (u : ℕ) (p : List ℕ) (v : ℕ) →
 stops-below g x u [] v r a = tt
 stops-below g x u (l ∷ p) v r a = let k : IsLink g (link_at g l) = r.each l a.0 in (k.1, stops-below g x (head g l) p v r a.3)
 
--- what is cheaper than every walk from u never comes to u
+-- a walk that is cheaper than every walk from u never reaches u
 never_back : (g : Graph) (x : List Bool) (u v best : ℕ) → ((q : List ℕ) → IsWalk g x u q v → best ≤ cost g q) → (w : ℕ) (p : List ℕ) → IsWalk g x w p v → cost g p < best → AllNe u (w ∷ stops g p)
 never_back g x u v best least w [] a cheap =
     ((λ e. let le : best ≤ 0 = least [] (sym e ∙ a) in omega arith), tt)
@@ -83,17 +85,17 @@ shortest-length g x u p v r within s =
     omega (arith, length-stops g p)
 
 -- each link costs at most the greatest metric
-cost-few : (g : Graph) (x : List Bool) (u : ℕ) (p : List ℕ) (v : ℕ) → IsGraph g → IsWalk g x u p v → cost g p ≤ 16777214 * length p
+cost-few : (g : Graph) (x : List Bool) (u : ℕ) (p : List ℕ) (v : ℕ) → IsGraph g → IsWalk g x u p v → cost g p ≤ MOST_METRIC * length p
 cost-few g x u [] v r a = omega arith
 cost-few g x u (l ∷ p) v r a =
     let k : IsLink g (link_at g l) = r.each l a.0 in
-    let more : cost g p ≤ 16777214 * length p = cost-few g x (head g l) p v r a.3 in
+    let more : cost g p ≤ MOST_METRIC * length p = cost-few g x (head g l) p v r a.3 in
     omega arith
 
 -- so distances are small
-pub distance-small : (g : Graph) → IsGraph g → (x : List Bool) (u v c : ℕ) → u < node_count g → IsDistance g x u v c → c ≤ 255 * 16777214
+pub distance-small : (g : Graph) → IsGraph g → (x : List Bool) (u v c : ℕ) → u < node_count g → IsDistance g x u v c → c ≤ (MOST_NODES - 1) * MOST_METRIC
 distance-small g r x u v c within d =
     let s : IsShortest g x u d.reached.0 v = IsShortest-from_cost g x u v c d.reached.0 d d.reached.1 d.reached.2 in
     let short : length d.reached.0 < node_count g = shortest-length g x u d.reached.0 v r within s in
-    let few : node_count g ≤ 256 = r.few_nodes in
+    let few : node_count g ≤ MOST_NODES = r.few_nodes in
     omega (arith, cost-few g x u d.reached.0 v r d.reached.1, d.reached.2)

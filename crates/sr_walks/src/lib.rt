@@ -2,7 +2,7 @@
 //! is what a function with an empty body ensures; its statement stands in `specs/`.
 #![tactic(auto)]
 
-ghost use Rattle.sr_walks.specs.Distance.{DistancesAreUnique, RowsAreUnique, DistancesMeetTriangles, DistancesAreSmall, PartsAreShortest, ShortestMeetNoNodeTwice};
+ghost use Rattle.sr_walks.specs.Distance.{DistancesAreUnique, RowsAreUnique, DistancesMeetTriangles, DistancesAreSmall, PartsAreShortest, ShortestWalksAreLoopFree};
 ghost use Rattle.sr_walks.specs.Sums.{ShortestBySums, NextHopsBySums, SpacesBySums};
 
 /// There is at most one distance between two nodes, and at most one row of distances from a node; a distance obeys the
@@ -14,10 +14,10 @@ pub fn distances_are_unique()
     ensures small { DistancesAreSmall }
 {}
 
-/// The parts of a shortest walk are shortest, and it meets no node twice.
+/// The parts of a shortest walk are shortest, and it is loop-free.
 pub fn shortest_walks()
     ensures parts { PartsAreShortest }
-    ensures distinct { ShortestMeetNoNodeTwice }
+    ensures distinct { ShortestWalksAreLoopFree }
 {}
 
 /// Links on shortest walks, next hops and spaces are told by sums of distances.

@@ -1,0 +1,24 @@
+-- Numbers and names that have the same parts are the same, and a test is true or false.
+use Rattle.std.proofs.Common.{◌≡◌, ◌⊎◌, inl, inr, Bool, true, false, refl}
+use Rattle.sr_model.specs.declared.link.LinkNo.{LinkNo}
+use Rattle.sr_model.specs.declared.link.NodeNo.{NodeNo}
+use Rattle.sr_model.specs.declared.name.LinkKey.{LinkKey}
+
+-- links of the same number are the same
+pub link_is : (a b : LinkNo) → a.0 ≡ b.0 → a ≡ b
+link_is a b e = let q : record { 0 = a.0 } ≡ record { 0 = b.0 } = rw e refl in q
+
+-- nodes of the same number are the same
+pub node_is : (a b : NodeNo) → a.0 ≡ b.0 → a ≡ b
+node_is a b e = let q : record { 0 = a.0 } ≡ record { 0 = b.0 } = rw e refl in q
+
+-- keys of the same nodes with the same identity are the same
+pub key_is : (a b : LinkKey) → a.from ≡ b.from → a.to ≡ b.to → a.ident ≡ b.ident → a ≡ b
+key_is a b f t i =
+    let q : record { from = a.from; to = a.to; ident = a.ident } ≡ record { from = b.from; to = b.to; ident = b.ident } = rw (f, t, i) refl in
+    q
+
+-- a test is true or false
+pub true_or : (b : Bool) → (b ≡ true) ⊎ (b ≡ false)
+true_or true = inl refl
+true_or false = inr refl
