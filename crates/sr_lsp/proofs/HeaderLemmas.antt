@@ -15,10 +15,10 @@ use Rattle.sr_lsp.specs.Text.{header_text}
 pub length_again : (lsp : Lsp) (pdu_length : ℕ) (behind : List ℕ) → pdu_length < 2 ^ 16 → number (header_text lsp pdu_length ++ behind) 8 2 ≡ pdu_length
 length_again lsp pdu_length behind fits = big_number-reads_back 2 pdu_length (drop 10 (header_text lsp pdu_length ++ behind)) fits
 
-abbrev holds_length : List ℕ → Bool
+abbrev pub holds_length : List ℕ → Bool
 holds_length octets = nat_le 27 (number octets 8 2) && nat_le (number octets 8 2) (length octets)
 
-abbrev no_fault : Option Malformed
+abbrev pub no_fault : Option Malformed
 no_fault = None
 
 -- a header passes every check whose PDU length is one that the octets hold

@@ -6,4 +6,5 @@ pub mod CapabilityLaws
 pub mod TableLaws
 pub mod HeaderLemmas
 pub mod LspLemmas
+pub mod TruncationLemmas
 pub mod LayoutLemmas

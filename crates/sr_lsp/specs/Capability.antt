@@ -50,7 +50,8 @@ node_of capability = record { srgb = capability.srgb; msd = if_any capability.ms
 
 -- its one spelling
 abbrev pub capability_value : Capability → List ℕ
-capability_value capability = big_bytes 4 capability.router ++ capability.flags ∷ fields_text node_fields (node_of capability)
+capability_value capability =
+    big_bytes 4 capability.router ++ capability.flags ∷ fields_text node_fields (node_of capability)
 
 -- its router id fits four octets, as the numbers of its sub-TLVs do theirs
 pub record HasCapabilityWidths (capability : Capability) : Type 0 where

@@ -29,7 +29,8 @@ use Rattle.sr_lsp.specs.Risk.{SaysRisk}
 
 -- what the sub-TLVs of an entry of extended IS reachability say: the link identifiers, the addresses of both ends,
 -- and the SIDs of the adjacency
-pub record SaysLink (octets : List ℕ) (ids : Option LinkIds) (local remote : Option ℕ) (adj : List AdjSid) : Type 0 where
+pub record SaysLink (octets : List ℕ) (ids : Option LinkIds) (local remote : Option ℕ)
+    (adj : List AdjSid) : Type 0 where
   pub subs : List Tlv
   pub text : AreSubs octets subs
   pub first_ids : FirstSays LINK_IDS AreIds subs ids
@@ -75,13 +76,16 @@ pub record SaysAddress (entry : PrefixEntry) (prefix : Prefix) : Type 0 where
 -- an entry with a longer prefix says nothing
 abbrev pub SaysAtMost32 : PrefixEntry → List Prefix → Type 0
 SaysAtMost32 entry own =
-    MatchBool (nat_le (bits_of entry) ADDRESS_BITS) ((prefix : Prefix) × SaysAddress entry prefix × (own ≡ prefix ∷ []))
+    MatchBool (nat_le (bits_of entry) ADDRESS_BITS)
+    ((prefix : Prefix) × SaysAddress entry prefix × (own ≡ prefix ∷ []))
     (own ≡ [])
 
 -- what the entries say, in order of place
 abbrev pub SaysPrefixes : List PrefixEntry → List Prefix → Type 0
 SaysPrefixes [] prefixes = prefixes ≡ []
-SaysPrefixes (entry ∷ entries) prefixes = (own : List Prefix) × (more : List Prefix) × SaysAtMost32 entry own × SaysPrefixes entries more × (prefixes ≡ own ++ more)
+SaysPrefixes (entry ∷ entries) prefixes =
+    (own : List Prefix) × (more : List Prefix) × SaysAtMost32 entry own × SaysPrefixes entries more
+    × (prefixes ≡ own ++ more)
 
 -- extended IP reachability says a part for each of its entries whose prefix has at most 32 bits
 pub record SaysAllPrefixes (value : List ℕ) (says : List Part) : Type 0 where
@@ -113,4 +117,5 @@ SaysOneRisk value parts = (risk : Risk) × SaysRisk value risk × (parts ≡ Ris
 
 -- so does the router capability
 abbrev pub SaysOneRouter : List ℕ → List Part → Type 0
-SaysOneRouter value parts = (capability : Capability) × SaysRouter value capability × (parts ≡ CapabilityPart capability ∷ [])
+SaysOneRouter value parts =
+    (capability : Capability) × SaysRouter value capability × (parts ≡ CapabilityPart capability ∷ [])

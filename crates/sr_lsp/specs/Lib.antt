@@ -8,5 +8,6 @@ pub mod Table
 pub mod Lsp
 pub mod InRange
 pub mod Text
+pub mod Truncation
 pub mod WriteFault
 pub mod Layouts

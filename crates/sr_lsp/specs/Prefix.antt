@@ -29,7 +29,7 @@ pub record PrefixEntry : Type 0 where
 abbrev pub bits_of : PrefixEntry → ℕ
 bits_of entry = entry.control % 64
 
--- how many octets hold a prefix of that many bits
+-- how many octets hold a prefix of `bits` bits
 abbrev pub prefix_octets : ℕ → ℕ
 prefix_octets bits = (bits + 7) / 8
 
@@ -107,7 +107,10 @@ pub record SaysPrefix (entry : PrefixEntry) (prefix : Prefix) : Type 0 where
 
 -- an entry says one part, and one with a longer prefix says nothing
 abbrev pub SaysOwn : PrefixEntry → List Part → Type 0
-SaysOwn entry own = MatchBool (nat_le (bits_of entry) ADDRESS_BITS) ((prefix : Prefix) × SaysPrefix entry prefix × (own ≡ PrefixPart prefix ∷ [])) (own ≡ [])
+SaysOwn entry own =
+    MatchBool (nat_le (bits_of entry) ADDRESS_BITS)
+    ((prefix : Prefix) × SaysPrefix entry prefix × (own ≡ PrefixPart prefix ∷ []))
+    (own ≡ [])
 
 -- the octets of the sub-TLVs in which it is written
 abbrev pub prefix_subs : Prefix → List ℕ
@@ -124,7 +127,12 @@ control_octet prefix = bit_if prefix.down PREFIX_DOWN + bit_if (is_some_list pre
 -- a value with one entry
 abbrev pub prefix_value : Prefix → List ℕ
 prefix_value prefix =
-    prefix_text (record { metric = prefix.metric; control = control_octet prefix; prefix = take (prefix_octets prefix.length) (big_bytes 4 prefix.prefix); subs = prefix_subs prefix })
+    prefix_text (record {
+      metric = prefix.metric;
+      control = control_octet prefix;
+      prefix = take (prefix_octets prefix.length) (big_bytes 4 prefix.prefix);
+      subs = prefix_subs prefix;
+    })
 
 -- a prefix of at most 32 bits whose octets past its length are 0, and sub-TLVs that have a spelling
 pub record FitsPrefix (prefix : Prefix) : Type 0 where

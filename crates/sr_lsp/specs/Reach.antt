@@ -27,7 +27,8 @@ pub record Entry : Type 0 where
 
 -- six octets of system id, one of pseudonode, three of metric, one of the length of the sub-TLVs, and these
 abbrev pub entry_text : Entry → List ℕ
-entry_text entry = big_bytes 6 entry.neighbour ++ entry.pseudonode ∷ big_bytes 3 entry.metric ++ length entry.subs ∷ entry.subs
+entry_text entry =
+    big_bytes 6 entry.neighbour ++ entry.pseudonode ∷ big_bytes 3 entry.metric ++ length entry.subs ∷ entry.subs
 
 -- its numbers fit their octets
 pub record IsReachEntry (entry : Entry) : Type 0 where
@@ -55,7 +56,8 @@ entry_layout = record {
 -- and all SIDs of the adjacency
 abbrev pub link_fields : List (Field LinkSubs)
 link_fields =
-    first_of ids_sub (λ link. link.ids) ∷ first_of own_addr_sub (λ link. link.local) ∷ first_of neighbour_addr_sub (λ link. link.remote)
+    first_of ids_sub (λ link. link.ids) ∷ first_of own_addr_sub (λ link. link.local)
+    ∷ first_of neighbour_addr_sub (λ link. link.remote)
     ∷ all_of adj_sid_sub (λ link. link.adj) ∷ []
 
 -- those of an entry
@@ -81,7 +83,12 @@ reach_subs reach = fields_text link_fields (link_subs_of reach)
 
 -- a value with one entry
 abbrev pub reach_value : Reach → List ℕ
-reach_value reach = entry_text (record { neighbour = reach.neighbour; pseudonode = reach.pseudonode; metric = reach.metric; subs = reach_subs reach })
+reach_value reach = entry_text (record {
+  neighbour = reach.neighbour;
+  pseudonode = reach.pseudonode;
+  metric = reach.metric;
+  subs = reach_subs reach;
+})
 
 -- a metric of three octets, and sub-TLVs that have a spelling
 pub record FitsReach (reach : Reach) : Type 0 where

@@ -33,7 +33,9 @@ CutField long at =
 
 -- its one spelling: unused flags are 0
 abbrev pub risk_value : Risk → List ℕ
-risk_value risk = big_bytes 6 risk.neighbour ++ risk.pseudonode ∷ bit_if risk.numbered RISK_NUMBERED ∷ big_bytes 4 risk.local ++ big_bytes 4 risk.remote ++ numbers_text risk.groups
+risk_value risk =
+    big_bytes 6 risk.neighbour ++ risk.pseudonode ∷ bit_if risk.numbered RISK_NUMBERED ∷ big_bytes 4 risk.local
+    ++ big_bytes 4 risk.remote ++ numbers_text risk.groups
 
 -- the neighbour fits six octets, and the ends of its link and its groups four each
 pub record HasRiskWidths (risk : Risk) : Type 0 where

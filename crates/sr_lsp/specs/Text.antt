@@ -10,8 +10,9 @@ use Rattle.sr_lsp.specs.Table.{spelling}
 -- maximum areas, and then the numbers
 abbrev pub header_text : Lsp → ℕ → List ℕ
 header_text lsp pdu_length =
-    0x83 ∷ 27 ∷ 1 ∷ 0 ∷ 20 ∷ 1 ∷ 0 ∷ 0 ∷ big_bytes 2 pdu_length ++ big_bytes 2 lsp.lifetime ++ big_bytes 6 lsp.id.system
-    ++ lsp.id.pseudonode ∷ lsp.id.fragment ∷ big_bytes 4 lsp.sequence ++ big_bytes 2 lsp.checksum ++ lsp.flags ∷ []
+    0x83 ∷ 27 ∷ 1 ∷ 0 ∷ 20 ∷ 1 ∷ 0 ∷ 0 ∷ big_bytes 2 pdu_length ++ big_bytes 2 lsp.lifetime
+    ++ big_bytes 6 lsp.id.system ++ lsp.id.pseudonode ∷ lsp.id.fragment ∷ big_bytes 4 lsp.sequence
+    ++ big_bytes 2 lsp.checksum ++ lsp.flags ∷ []
 
 -- how many octets the PDU has
 abbrev pub pdu_length : Lsp → ℕ
@@ -26,7 +27,7 @@ pub record HasSpelling (lsp : Lsp) : Type 0 where
   pub parts : All (HasShortValue spelling) lsp.parts
   pub whole : pdu_length lsp ≤ LONGEST_PDU
 
--- no part is too long, but the PDU is, which has that many octets
+-- no part is too long, but the PDU is, which has `long` octets
 pub record IsTooLong (lsp : Lsp) (long : ℕ) : Type 0 where
   pub parts : All (HasShortValue spelling) lsp.parts
   pub is : long ≡ pdu_length lsp

@@ -90,8 +90,10 @@ impl TlvKind<Part> for Capability {
 /// What a value says.
 fn read_capability(alloc: Global, value: &[u8]) -> Result<Capability, ReadFault>
     ensures says { MatchResult result (λ capability. SaysCapability value.now capability)
-        (λ fault. IfMalformed fault (λ malformed. CapabilityFault value.now malformed.offset malformed.check)) }
-    ensures within { IfErr result (λ fault. IfMalformed fault (λ malformed. malformed.offset ≤ length value.now)) }
+        (λ fault. IfMalformed fault
+        (λ malformed. CapabilityFault value.now malformed.offset malformed.check)) }
+    ensures within { IfErr result
+        (λ fault. IfMalformed fault (λ malformed. malformed.offset ≤ length value.now)) }
 {
     if value.len() < 4 {
         return Err(ReadFault::cut(0));
@@ -143,7 +145,8 @@ fn write_router(capability: &Capability, octets: u8, out: &mut Vec<u8>) -> Resul
 /// Appends the sub-TLV of the depths, where there are some.
 fn write_depths(depths: &Seq<Msd>, out: &mut Vec<u8>) -> Result<(), AllocError>
     requires { length (text_if_some (sub_text msds_sub) (if_any depths.now)) ≤ 255 }
-    ensures ok { OnOk result (out.new.items ≡ out.old.items ++ text_if_some (sub_text msds_sub) (if_any depths.now)) }
+    ensures ok { OnOk result
+        (out.new.items ≡ out.old.items ++ text_if_some (sub_text msds_sub) (if_any depths.now)) }
     ensures err { OnErr result (out.new.items ≡ out.old.items) }
 {
     if depths.as_slice().is_empty() {

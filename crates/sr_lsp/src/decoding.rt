@@ -18,7 +18,8 @@ use std::alloc::Global;
 /// Unknown TLVs and sub-TLVs are stepped over, and octets past the PDU length are left unread. The layouts can hold each
 /// value that is read.
 pub fn read_lsp(alloc: Global, octets: &[u8]) -> Result<Lsp, ReadFault>
-    ensures says { MatchResult result (λ lsp. Reads octets.now lsp) (λ fault. IfMalformed fault (λ malformed. IsBroken octets.now malformed)) }
+    ensures says { MatchResult result (λ lsp. Reads octets.now lsp)
+        (λ fault. IfMalformed fault (λ malformed. IsBroken octets.now malformed)) }
     ensures range { IfOk result (λ lsp. FitsLsp lsp) }
 {
     let header = match Header::read(octets) {
@@ -47,8 +48,10 @@ pub fn read_lsp(alloc: Global, octets: &[u8]) -> Result<Lsp, ReadFault>
 /// The parts that the TLVs of a PDU's body say.
 fn read_parts(alloc: Global, body: &[u8]) -> Result<Vec<Part>, ReadFault>
     ensures says { MatchResult result (λ parts. (body_of rows).says body.now parts.items)
-        (λ fault. IfMalformed fault (λ malformed. (body_of rows).fault body.now malformed.offset malformed.check)) }
-    ensures within { IfErr result (λ fault. IfMalformed fault (λ malformed. malformed.offset ≤ length body.now)) }
+        (λ fault. IfMalformed fault
+        (λ malformed. (body_of rows).fault body.now malformed.offset malformed.check)) }
+    ensures within { IfErr result
+        (λ fault. IfMalformed fault (λ malformed. malformed.offset ≤ length body.now)) }
 {
     let mut parts = Vec::new(alloc);
     let mut at = 0;

@@ -42,7 +42,8 @@ impl Header {
     /// The header at the front of the octets, which hold at least its PDU length, or the first check that they fail.
     pub fn read(octets: &[u8]) -> Result<Header, Malformed>
         ensures ok { IfOk result (λ header. IsHeader octets.now header) }
-        ensures holds { IfOk result (λ header. (27 ≤ header.pdu_length) × (header.pdu_length ≤ length octets.now)) }
+        ensures holds { IfOk result
+            (λ header. (27 ≤ header.pdu_length) × (header.pdu_length ≤ length octets.now)) }
         ensures malformed { IfErr result (λ fault. header_fault octets.now ≡ Some fault) }
     {
         if octets.len() < HEADER_OCTETS {
@@ -98,7 +99,7 @@ fn is_id_length(octet: u8) -> bool
     octet == 0 || octet == 6
 }
 
-/// Whether a PDU may have this length, of that many octets that are given.
+/// Whether a PDU of `length` octets has a whole header, and stands in the `given` octets.
 fn is_pdu_length(length: usize, given: usize) -> bool
     ensures { result ≡ (nat_le 27 length && nat_le length given) }
 {

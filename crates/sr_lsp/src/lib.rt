@@ -21,7 +21,8 @@ pub use capability::Capability;
 pub use decoding::read_lsp;
 pub use laws::{
     each_type_has_its_faults, each_type_says_its_layout, the_fault_is_determined,
-    what_is_read_is_determined, what_is_read_is_not_broken, what_is_written_is_read_again,
+    what_is_cut_short_is_broken, what_is_read_is_determined, what_is_read_is_not_broken,
+    what_is_written_is_read_again,
 };
 pub use lsp::{Lsp, LspId};
 pub use name::Name;

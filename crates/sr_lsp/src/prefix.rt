@@ -121,7 +121,9 @@ impl Entries<Part> for Prefix {
 /// Where the parts of the entry at a place stand, if it is whole.
 fn extent_of(value: &[u8], at: usize) -> Option<Extent>
     requires { at ≤ length value.now }
-    ensures none { IfNone result ((entry : PrefixEntry) (rest : List ℕ) → IsPrefixEntry entry → drop at value.now ≡ prefix_text entry ++ rest → ⊥) }
+    ensures none { IfNone result
+        ((entry : PrefixEntry) (rest : List ℕ) → IsPrefixEntry entry
+        → drop at value.now ≡ prefix_text entry ++ rest → ⊥) }
     ensures extent { IfSome result (IsExtent value.now at) }
 {
     if value.len() - at < OCTETS_BEFORE_PREFIX {
@@ -156,7 +158,9 @@ fn extent_of(value: &[u8], at: usize) -> Option<Extent>
 /// The part of an entry, unless its prefix has more than 32 bits.
 fn part_at(value: &[u8], at: usize, extent: Extent, said: PrefixSubs) -> Option<Part>
     requires extent { IsExtent value.now at extent }
-    requires said { (subs : List Tlv) × AreSubs (slice_range value.now extent.subs_from extent.end) subs × SayFields prefix_fields subs said }
+    requires said { (subs : List Tlv)
+        × AreSubs (slice_range value.now extent.subs_from extent.end) subs
+        × SayFields prefix_fields subs said }
     ensures { SaysOwn (prefix_entry_at value.now at extent) (if_some result) }
 {
     if bits_in(value[at + 4]) > ADDRESS_BITS {
@@ -202,7 +206,8 @@ fn octet_or_0(octets: &[u8], at: usize) -> u8
 /// Whether the octets of a prefix past its length are 0.
 fn is_zero_past(prefix: u32, bits: u8) -> bool
     requires { bits ≤ 32 }
-    ensures { IsTrue result ↔ All (λ octet. octet ≡ 0) (drop (prefix_octets bits) (big_bytes 4 prefix)) }
+    ensures { IsTrue result
+        ↔ All (λ octet. octet ≡ 0) (drop (prefix_octets bits) (big_bytes 4 prefix)) }
 {
     let octets = prefix.to_be_bytes();
     for &octet in &octets[octets_of(bits)..] {
@@ -220,7 +225,7 @@ fn bits_in(control: u8) -> u8
     control & LENGTH
 }
 
-/// How many octets hold that many bits.
+/// How many octets hold `bits` bits.
 fn octets_of(bits: u8) -> usize
     ensures is { result ≡ prefix_octets bits }
     ensures small { result ≤ 32 }
@@ -266,10 +271,11 @@ fn control(prefix: &Prefix) -> u8
     down + subs + prefix.length
 }
 
-/// Appends as few octets of an address as hold that many bits.
+/// Appends as few octets of an address as hold `bits` bits.
 fn write_address(address: u32, bits: u8, out: &mut Vec<u8>) -> Result<(), AllocError>
     requires { bits ≤ 32 }
-    ensures ok { OnOk result (out.new.items ≡ out.old.items ++ take (prefix_octets bits) (big_bytes 4 address)) }
+    ensures ok { OnOk result
+        (out.new.items ≡ out.old.items ++ take (prefix_octets bits) (big_bytes 4 address)) }
     ensures err { OnErr result (out.new.items ≡ out.old.items) }
 {
     let mut octets = [0; 4];

@@ -129,7 +129,8 @@ impl Entries<Part> for Reach {
 #[tactic(auto, using(crate::proofs::ReachLaws::no_entry))]
 fn entry_end(value: &[u8], at: usize) -> Option<usize>
     requires { at ≤ length value.now }
-    ensures none { IfNone result ((entry : Entry) (rest : List ℕ) → drop at value.now ≡ entry_text entry ++ rest → ⊥) }
+    ensures none { IfNone result
+        ((entry : Entry) (rest : List ℕ) → drop at value.now ≡ entry_text entry ++ rest → ⊥) }
     ensures room { IfSome result (λ end. end ≤ length value.now) }
     ensures end { IfSome result (λ end. end ≡ at + 11 + slice_index value.now (at + 10)) }
 {
@@ -149,8 +150,10 @@ fn read_reach(alloc: Global, entry: &[u8]) -> Result<Reach, ReadFault>
     requires { 11 ≤ length entry.now }
     ensures says { MatchResult result (λ reach. SaysReach (reach_entry_of entry.now) reach)
         (λ fault. IfMalformed fault
-        (λ malformed. entry_layout.fault (reach_entry_of entry.now) malformed.offset malformed.check)) }
-    ensures within { IfErr result (λ fault. IfMalformed fault (λ malformed. malformed.offset ≤ length entry.now)) }
+        (λ malformed. entry_layout.fault
+        (reach_entry_of entry.now) malformed.offset malformed.check)) }
+    ensures within { IfErr result
+        (λ fault. IfMalformed fault (λ malformed. malformed.offset ≤ length entry.now)) }
 {
     let none = LinkSubs {
         ids: None,
@@ -184,7 +187,7 @@ fn subs_length(reach: &Reach) -> u128
         + all_length::<AdjSid, AdjSid>(reach.adj.as_slice())
 }
 
-/// Appends the type and the length of the TLV whose sub-TLVs have that many octets, and the neighbour's system id.
+/// Appends the type and the length of the TLV whose sub-TLVs have `subs` octets, and the neighbour's system id.
 fn write_neighbour(reach: &Reach, subs: u8, out: &mut Vec<u8>) -> Result<(), AllocError>
     requires { 11 + subs ≤ 255 }
     ensures ok { OnOk result (out.new.items ≡ out.old.items

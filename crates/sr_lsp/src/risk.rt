@@ -74,7 +74,7 @@ impl TlvKind<Part> for Risk {
     }
 }
 
-/// The first field that passes the end of a value of that many octets.
+/// The first field that passes the end of a value of `length` octets.
 #[tactic(auto, using(crate::proofs::RiskLaws::cut_group))]
 fn cut_field(length: usize) -> Option<usize>
     ensures cut { MatchOption result ((16 ≤ length) × (length % 4 ≡ 0)) (λ at. CutField length at) }

@@ -49,9 +49,14 @@ pub(crate) fn push_parts(
     value: &[u8],
     parts: &mut Vec<Part>,
 ) -> Result<(), ReadFault>
-    ensures says { MatchResult result (λ _. (own : List Part) × TlvSays rows (record { kind = kind; value = value.now }) own × (parts.new.items ≡ parts.old.items ++ own))
-        (λ fault. IfMalformed fault (λ malformed. ValueFault rows (record { kind = kind; value = value.now }) malformed.offset malformed.check)) }
-    ensures within { IfErr result (λ fault. IfMalformed fault (λ malformed. malformed.offset ≤ length value.now)) }
+    ensures says { MatchResult result
+        (λ _. (own : List Part) × TlvSays rows (record { kind = kind; value = value.now }) own
+        × (parts.new.items ≡ parts.old.items ++ own))
+        (λ fault. IfMalformed fault
+        (λ malformed. ValueFault rows
+        (record { kind = kind; value = value.now }) malformed.offset malformed.check)) }
+    ensures within { IfErr result
+        (λ fault. IfMalformed fault (λ malformed. malformed.offset ≤ length value.now)) }
 {
     match kind {
         EXTENDED_REACH => Reach::read(alloc, value, parts),
@@ -71,7 +76,7 @@ pub(crate) fn part_length(part: &Part) -> u128
     of_part!(part, value => value.length())
 }
 
-/// Appends the TLV of a part, or a beginning of it before an error.
+/// Appends the TLV of a part. After an error what was there still stands, and other octets may follow it.
 pub(crate) fn write_part(part: &Part, out: &mut Vec<u8>) -> Result<(), AllocError>
     requires fits { (spelling part.now).fits }
     requires short { HasShortValue spelling part.now }

@@ -95,7 +95,7 @@ fn lsp_length(lsp: &Lsp) -> Result<u128, usize>
     Ok(octets)
 }
 
-/// The encoding of a PDU that has that many octets.
+/// The encoding of a PDU, which has `octets` octets.
 fn write_octets(alloc: Global, lsp: &Lsp, octets: u16) -> Result<Vec<u8>, AllocError>
     requires fits { FitsLsp lsp.now }
     requires short { All (HasShortValue spelling) lsp.now.parts }
@@ -110,7 +110,8 @@ fn write_octets(alloc: Global, lsp: &Lsp, octets: u16) -> Result<Vec<u8>, AllocE
     Ok(out)
 }
 
-/// Appends the header of a PDU of that many octets.
+/// Appends the header of a PDU that has `octets` octets. After an error what was there still stands, and other octets
+/// may follow it.
 fn write_header(lsp: &Lsp, octets: u16, out: &mut Vec<u8>) -> Result<(), AllocError>
     ensures ok { OnOk result (out.new.items ≡ out.old.items ++ header_text lsp.now octets) }
     ensures err { OnErr result (Continues out.old.items out.new.items) }
@@ -123,7 +124,8 @@ fn write_header(lsp: &Lsp, octets: u16, out: &mut Vec<u8>) -> Result<(), AllocEr
 
 /// Appends the octets that each link-state PDU of level 2 begins with.
 fn write_fixed(out: &mut Vec<u8>) -> Result<(), AllocError>
-    ensures ok { OnOk result (out.new.items ≡ out.old.items ++ (0x83 ∷ 27 ∷ 1 ∷ 0 ∷ 20 ∷ 1 ∷ 0 ∷ 0 ∷ [])) }
+    ensures ok { OnOk result
+        (out.new.items ≡ out.old.items ++ (0x83 ∷ 27 ∷ 1 ∷ 0 ∷ 20 ∷ 1 ∷ 0 ∷ 0 ∷ [])) }
     ensures err { OnErr result (out.new.items ≡ out.old.items) }
 {
     out.extend_from_slice(&[0x83, 27, 1, 0, 20, 1, 0, 0])
@@ -131,7 +133,8 @@ fn write_fixed(out: &mut Vec<u8>) -> Result<(), AllocError>
 
 /// Appends the length of the PDU, and its lifetime.
 fn write_lifetime(lsp: &Lsp, octets: u16, out: &mut Vec<u8>) -> Result<(), AllocError>
-    ensures ok { OnOk result (out.new.items ≡ out.old.items ++ (big_bytes 2 octets ++ big_bytes 2 lsp.now.lifetime)) }
+    ensures ok { OnOk result
+        (out.new.items ≡ out.old.items ++ (big_bytes 2 octets ++ big_bytes 2 lsp.now.lifetime)) }
     ensures err { OnErr result (out.new.items ≡ out.old.items) }
 {
     let mut numbers = [0; 4];

@@ -11,7 +11,13 @@ IsAddr value addr = (length value ≡ 4) × (addr ≡ big_number 4 value)
 
 -- a kind of sub-TLV that holds an address, by its type
 abbrev pub addr_sub : ℕ → Sub ℕ
-addr_sub kind = record { kind = kind; means = IsAddr; value = big_bytes 4; fits = λ addr. Unit {0}; widths = FitsFourOctets }
+addr_sub kind = record {
+  kind = kind;
+  means = IsAddr;
+  value = big_bytes 4;
+  fits = λ addr. Unit {0};
+  widths = FitsFourOctets;
+}
 
 -- the kind of sub-TLV of the own interface's address
 abbrev pub own_addr_sub : Sub ℕ

@@ -21,4 +21,10 @@ adj_sid_value adj_sid = adj_sid.flags ∷ adj_sid.weight ∷ sid_text adj_sid.si
 
 -- the kind of sub-TLV of an Adj-SID
 abbrev pub adj_sid_sub : Sub AdjSid
-adj_sid_sub = record { kind = ADJ_SID; means = IsAdjSid; value = adj_sid_value; fits = FitsAdjSid; widths = λ adj_sid. Unit {0} }
+adj_sid_sub = record {
+  kind = ADJ_SID;
+  means = IsAdjSid;
+  value = adj_sid_value;
+  fits = FitsAdjSid;
+  widths = λ adj_sid. Unit {0};
+}

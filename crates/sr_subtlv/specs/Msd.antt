@@ -19,4 +19,10 @@ AreMsds value msds = value ≡ msds_value msds
 
 -- the kind of sub-TLV of maximum SID depths
 abbrev pub msds_sub : Sub (List Msd)
-msds_sub = record { kind = NODE_MSD; means = AreMsds; value = msds_value; fits = λ msds. Unit {0}; widths = λ msds. Unit {0} }
+msds_sub = record {
+  kind = NODE_MSD;
+  means = AreMsds;
+  value = msds_value;
+  fits = λ msds. Unit {0};
+  widths = λ msds. Unit {0};
+}

@@ -21,4 +21,10 @@ prefix_sid_value prefix_sid = prefix_sid.flags ∷ prefix_sid.algorithm ∷ sid_
 
 -- the kind of sub-TLV of a Prefix-SID
 abbrev pub prefix_sid_sub : Sub PrefixSid
-prefix_sid_sub = record { kind = PREFIX_SID; means = IsPrefixSid; value = prefix_sid_value; fits = FitsPrefixSid; widths = λ prefix_sid. Unit {0} }
+prefix_sid_sub = record {
+  kind = PREFIX_SID;
+  means = IsPrefixSid;
+  value = prefix_sid_value;
+  fits = FitsPrefixSid;
+  widths = λ prefix_sid. Unit {0};
+}

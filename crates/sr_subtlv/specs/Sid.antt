@@ -8,7 +8,8 @@ use Rattle.sr_subtlv.specs.declared.sid.Sid.TheVariants.{Index, Label}
 -- in the 20 rightmost bits of three. The mask has those two flags.
 abbrev pub SaysSid : ℕ → ℕ → List ℕ → Sid → Type 0
 SaysSid mask flags octets (Index i) = (bit_and flags mask ≡ 0) × (length octets ≡ 4) × (i ≡ big_number 4 octets)
-SaysSid mask flags octets (Label l) = (bit_and flags mask ≡ mask) × (length octets ≡ 3) × (l ≡ big_number 3 octets % 2 ^ 20)
+SaysSid mask flags octets (Label l) =
+    (bit_and flags mask ≡ mask) × (length octets ≡ 3) × (l ≡ big_number 3 octets % 2 ^ 20)
 
 -- the SID has the form that the flags tell, and fits it
 abbrev pub FitsSid : ℕ → ℕ → Sid → Type 0

@@ -49,4 +49,10 @@ sr_cap_value c = c.flags ∷ flat_map range_text c.ranges
 
 -- the kind of sub-TLV of SR-Capabilities
 abbrev pub sr_cap_sub : Sub SrCap
-sr_cap_sub = record { kind = SR_CAPABILITIES; means = IsSrCap; value = sr_cap_value; fits = FitsSrCap; widths = λ cap. Unit {0} }
+sr_cap_sub = record {
+  kind = SR_CAPABILITIES;
+  means = IsSrCap;
+  value = sr_cap_value;
+  fits = FitsSrCap;
+  widths = λ cap. Unit {0};
+}

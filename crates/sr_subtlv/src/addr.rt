@@ -107,5 +107,6 @@ impl SubKind<u32> for NeighbourAddr {
 
 /// What is written of an address is read as that address, and as no other.
 pub fn addr_is_read_again()
-    ensures { (given read : ℕ) → given < 2 ^ 32 → (IsAddr (big_bytes 4 given) read ↔ (read ≡ given)) }
+    ensures { (given read : ℕ) → given < 2 ^ 32
+        → (IsAddr (big_bytes 4 given) read ↔ (read ≡ given)) }
 {}

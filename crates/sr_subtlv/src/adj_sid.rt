@@ -60,5 +60,6 @@ impl SubKind<AdjSid> for AdjSid {
 
 /// What is written of an Adj-SID is read as that Adj-SID, and as no other.
 pub fn adj_sid_is_read_again()
-    ensures { (given read : AdjSid) → FitsAdjSid given → (IsAdjSid (adj_sid_value given) read ↔ (read ≡ given)) }
+    ensures { (given read : AdjSid) → FitsAdjSid given
+        → (IsAdjSid (adj_sid_value given) read ↔ (read ≡ given)) }
 {}

@@ -63,5 +63,6 @@ impl SubKind<LinkIds> for LinkIds {
 
 /// What is written of link identifiers is read as those, and as no others.
 pub fn ids_are_read_again()
-    ensures { (given read : LinkIds) → given.local < 2 ^ 32 → given.remote < 2 ^ 32 → (AreIds (ids_value given) read ↔ (read ≡ given)) }
+    ensures { (given read : LinkIds) → given.local < 2 ^ 32 → given.remote < 2 ^ 32
+        → (AreIds (ids_value given) read ↔ (read ≡ given)) }
 {}

@@ -90,7 +90,7 @@ fn write_msds(msds: &[Msd], out: &mut Vec<u8>) -> Result<(), AllocError>
     }
 }
 
-/// Appends the sub-TLV, or a part of it before an error.
+/// Appends the sub-TLV. After an error what was there still stands, and other octets may follow it.
 fn push_msds(msds: &[Msd], out: &mut Vec<u8>) -> Result<(), AllocError>
     requires { 2 * length msds.now ≤ LONGEST_VALUE }
     ensures ok { OnOk result (out.new.items ≡ out.old.items ++ sub_text msds_sub msds.now) }

@@ -60,5 +60,6 @@ impl SubKind<PrefixSid> for PrefixSid {
 
 /// What is written of a Prefix-SID is read as that Prefix-SID, and as no other.
 pub fn prefix_sid_is_read_again()
-    ensures { (given read : PrefixSid) → FitsPrefixSid given → (IsPrefixSid (prefix_sid_value given) read ↔ (read ≡ given)) }
+    ensures { (given read : PrefixSid) → FitsPrefixSid given
+        → (IsPrefixSid (prefix_sid_value given) read ↔ (read ≡ given)) }
 {}

@@ -21,7 +21,8 @@ pub(crate) const LABEL_BITS: u32 = 0xf_ffff;
 
 /// The SID that octets behind flags say, where it has the form that the flags tell. The mask has the V and the L flag.
 pub(crate) fn read_sid(mask: u8, flags: u8, octets: &[u8]) -> Option<Sid>
-    ensures { MatchOption result ((sid : Sid) → SaysSid mask flags octets.now sid → ⊥) (SaysSid mask flags octets.now) }
+    ensures { MatchOption result ((sid : Sid) → SaysSid mask flags octets.now sid → ⊥)
+        (SaysSid mask flags octets.now) }
 {
     let form = flags & mask;
     if form == 0 && octets.len() == 4 {
@@ -63,7 +64,9 @@ pub(crate) fn write_sid(
     out: &mut Vec<u8>,
 ) -> Result<(), AllocError>
     requires { FitsOctets sid }
-    ensures ok { OnOk result (out.new.items ≡ out.old.items ++ tlv_text (record { kind = kind; value = flags ∷ second ∷ sid_text sid })) }
+    ensures ok { OnOk result
+        (out.new.items ≡ out.old.items
+        ++ tlv_text (record { kind = kind; value = flags ∷ second ∷ sid_text sid })) }
     ensures err { OnErr result (out.new.items ≡ out.old.items) }
 {
     match sid {

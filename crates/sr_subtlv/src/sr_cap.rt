@@ -74,7 +74,8 @@ impl SubKind<SrCap> for SrCap {
 
 /// The ranges that the octets are, or nothing where they aren't whole ranges.
 fn read_ranges(alloc: Global, octets: &[u8]) -> Result<Option<Vec<Range>>, AllocError>
-    ensures { IfOk result (λ found. MatchOption found ((ranges : List Range) → AreRanges octets.now ranges → ⊥)
+    ensures { IfOk result
+        (λ found. MatchOption found ((ranges : List Range) → AreRanges octets.now ranges → ⊥)
         (λ ranges. AreRanges octets.now ranges.items)) }
 {
     let mut ranges = Vec::with_capacity(alloc, octets.len() / RANGE)?;
@@ -95,7 +96,9 @@ fn read_ranges(alloc: Global, octets: &[u8]) -> Result<Option<Vec<Range>>, Alloc
 fn read_range(octets: &[u8], at: usize) -> Option<Range>
     requires { at ≤ length octets.now }
     ensures whole { IfSome result (λ range. at + 8 ≤ length octets.now) }
-    ensures range { MatchOption result ((range : Range) → IsRange (take 8 (drop at octets.now)) range → ⊥) (IsRange (take 8 (drop at octets.now))) }
+    ensures range { MatchOption result
+        ((range : Range) → IsRange (take 8 (drop at octets.now)) range → ⊥)
+        (IsRange (take 8 (drop at octets.now))) }
 {
     if octets.len() - at < RANGE {
         return None;
@@ -141,7 +144,7 @@ fn write_sr_cap(cap: &SrCap, out: &mut Vec<u8>) -> Result<(), AllocError>
     }
 }
 
-/// Appends the sub-TLV, or a part of it before an error.
+/// Appends the sub-TLV. After an error what was there still stands, and other octets may follow it.
 fn push_sr_cap(cap: &SrCap, out: &mut Vec<u8>) -> Result<(), AllocError>
     requires fits { FitsSrCap cap.now }
     requires few { 1 + 8 * length cap.now.ranges ≤ LONGEST_VALUE }
@@ -170,5 +173,6 @@ fn write_range(range: Range, out: &mut Vec<u8>) -> Result<(), AllocError>
 
 /// What is written of SR-Capabilities is read as those, and as no others.
 pub fn sr_cap_is_read_again()
-    ensures { (given read : SrCap) → FitsSrCap given → (IsSrCap (sr_cap_value given) read ↔ (read ≡ given)) }
+    ensures { (given read : SrCap) → FitsSrCap given
+        → (IsSrCap (sr_cap_value given) read ↔ (read ≡ given)) }
 {}

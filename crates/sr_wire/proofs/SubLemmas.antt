@@ -10,7 +10,7 @@ use Rattle.sr_wire.proofs.TlvLemmas.{IsAny, any_tlvs, tlv_code}
 use Rattle.sr_wire.specs.declared.fault.Check.{Check}
 use Rattle.sr_wire.specs.declared.fault.Check.TheVariants.{FieldExtent}
 use Rattle.sr_wire.specs.Run.{FaultyPiece, Layout, IsRun, NoPiece, RunFault}
-use Rattle.sr_wire.specs.Sub.{AddsAll, AddsFirst, AllSay, AreSubs, FirstSays, Says, SaysNothing, SubFault, sub_layout}
+use Rattle.sr_wire.specs.Sub.{AddsAll, AddsFirst, AllSay, AreSubs, FirstSays, SubSays, SaysNothing, SubFault, sub_layout}
 
 -- a run so far: whole pieces without a fault before place `at`
 pub record RunSoFar {X : Type 0} (layout : Layout X) (octets : List ℕ) (at : ℕ) (pieces : List X) : Type 0 where
@@ -87,7 +87,7 @@ all_one kind means (t ∷ ts) sub (x ∷ xs) all nothing =
     elim all [ inl says ↦ inl (says.0, all_one kind means ts sub xs says.1 nothing) | inr other ↦ inr (other.0, all_one kind means ts sub (x ∷ xs) other.1 nothing) ]
 
 -- one more sub-TLV that says something adds it
-all_says : {X : Type 0} (kind : ℕ) (means : List ℕ → X → Type 0) (subs : List Tlv) (sub : Tlv) (old : List X) (y : X) → AllSay kind means subs old → Says kind means sub y → AllSay kind means (subs ++ sub ∷ []) (old ++ y ∷ [])
+all_says : {X : Type 0} (kind : ℕ) (means : List ℕ → X → Type 0) (subs : List Tlv) (sub : Tlv) (old : List X) (y : X) → AllSay kind means subs old → SubSays kind means sub y → AllSay kind means (subs ++ sub ∷ []) (old ++ y ∷ [])
 all_says kind means [] sub [] y all says = inl (says, refl)
 all_says kind means [] sub (x ∷ xs) y all says = absurd {0} (cc)
 all_says kind means (t ∷ ts) sub [] y all says = inr (all.0, all_says kind means ts sub [] y all.1 says)

@@ -11,9 +11,10 @@ abbrev pub IfMalformed : ReadFault → (IsMalformed → Type 0) → Type 0
 IfMalformed (Malformed malformed) P = P malformed
 IfMalformed (Memory error) P = Unit {0}
 
--- the same fault, behind that many octets
+-- the same fault, as its place is counted with `octets` more octets before it
 abbrev pub fault_behind : ReadFault → ℕ → ReadFault
-fault_behind (Malformed malformed) octets = Malformed (record { offset = malformed.offset + octets; check = malformed.check })
+fault_behind (Malformed malformed) octets =
+    Malformed (record { offset = malformed.offset + octets; check = malformed.check })
 fault_behind (Memory error) octets = Memory error
 
 -- the number by which a check is known

@@ -11,15 +11,20 @@ pub record Format (X : Type 0) : Type 1 where
 
 -- octets that say one value, as a part
 abbrev pub one_part : {P X : Type 0} → (X → P) → (List ℕ → X → Type 0) → (List ℕ → ℕ → Check → Type 0) → Format P
-one_part {X = X} part means fault = record { says = λ octets parts. (x : X) × means octets x × (parts ≡ part x ∷ []); fault = fault }
+one_part {X = X} part means fault = record {
+  says = λ octets parts. (x : X) × means octets x × (parts ≡ part x ∷ []);
+  fault = fault;
+}
 
 -- what each piece says, one after another
 abbrev pub EachSays : {E X : Type 0} → (E → List X → Type 0) → List E → List X → Type 0
 EachSays says [] xs = xs ≡ []
-EachSays {X = X} says (e ∷ es) xs = (own : List X) × (more : List X) × says e own × EachSays says es more × (xs ≡ own ++ more)
+EachSays {X = X} says (e ∷ es) xs =
+    (own : List X) × (more : List X) × says e own × EachSays says es more × (xs ≡ own ++ more)
 
 -- octets are a run of pieces, each of which says something
-pub record SaysRun {E X : Type 0} (layout : Layout E) (says : E → List X → Type 0) (octets : List ℕ) (xs : List X) : Type 0 where
+pub record SaysRun {E X : Type 0} (layout : Layout E) (says : E → List X → Type 0) (octets : List ℕ)
+    (xs : List X) : Type 0 where
   pub pieces : List E
   pub run : IsRun layout octets pieces
   pub say : EachSays says pieces xs
@@ -64,11 +69,16 @@ TlvSays (r ∷ rs) tlv parts = MatchBool (tlv.kind == r.kind) (r.format.says tlv
 -- a fault inside a TLV's value, by its place in the value
 abbrev pub ValueFault : {P : Type 0} → List (Row P) → Tlv → ℕ → Check → Type 0
 ValueFault [] tlv at check = ⊥
-ValueFault (r ∷ rs) tlv at check = MatchBool (tlv.kind == r.kind) (r.format.fault tlv.value at check) (ValueFault rs tlv at check)
+ValueFault (r ∷ rs) tlv at check =
+    MatchBool (tlv.kind == r.kind) (r.format.fault tlv.value at check) (ValueFault rs tlv at check)
 
 -- TLVs, whose values stand behind two octets
 abbrev pub tlv_layout : {P : Type 0} → List (Row P) → Layout Tlv
-tlv_layout rows = record { is = λ tlv. Unit {0}; text = tlv_text; fault = λ tlv at check. (inside : ℕ) × ValueFault rows tlv inside check × (at ≡ 2 + inside) }
+tlv_layout rows = record {
+  is = λ tlv. Unit {0};
+  text = tlv_text;
+  fault = λ tlv at check. (inside : ℕ) × ValueFault rows tlv inside check × (at ≡ 2 + inside);
+}
 
 -- a part as it is written: the type and the value of its TLV, whether it has a spelling, and whether its numbers fit
 -- their octets

@@ -31,10 +31,12 @@ pub record FaultyPiece {X : Type 0} (layout : Layout X) (octets : List ℕ) (at 
 
 -- the first fault of a run: pieces without fault, and then no whole piece, which fails the check `own`, or a piece
 -- with a fault inside
-pub record RunFault {X : Type 0} (layout : Layout X) (own : Check) (octets : List ℕ) (at : ℕ) (check : Check) : Type 0 where
+pub record RunFault {X : Type 0} (layout : Layout X) (own : Check) (octets : List ℕ) (at : ℕ)
+    (check : Check) : Type 0 where
   pub before : List X
   pub rest : List ℕ
   pub front : List ℕ
   pub text : octets ≡ front ++ rest
   pub sound : IsRun layout front before
-  pub here : (NoPiece layout rest × (at ≡ length front) × (check ≡ own)) ⊎ ((inside : ℕ) × FaultyPiece layout rest inside check × (at ≡ length front + inside))
+  pub here : (NoPiece layout rest × (at ≡ length front) × (check ≡ own))
+      ⊎ ((inside : ℕ) × FaultyPiece layout rest inside check × (at ≡ length front + inside))

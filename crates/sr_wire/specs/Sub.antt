@@ -18,31 +18,35 @@ abbrev pub SubFault : List ℕ → ℕ → Check → Type 0
 SubFault octets at check = RunFault sub_layout FieldExtent octets at check
 
 -- a sub-TLV of this type whose value says x
-abbrev pub Says : {X : Type 0} → ℕ → (List ℕ → X → Type 0) → Tlv → X → Type 0
-Says kind means sub x = (sub.kind ≡ kind) × means sub.value x
+abbrev pub SubSays : {X : Type 0} → ℕ → (List ℕ → X → Type 0) → Tlv → X → Type 0
+SubSays kind means sub x = (sub.kind ≡ kind) × means sub.value x
 
 -- a sub-TLV says nothing of this kind: it has another type, or its value is ignored
 abbrev pub SaysNothing : {X : Type 0} → ℕ → (List ℕ → X → Type 0) → Tlv → Type 0
-SaysNothing {X = X} kind means sub = (x : X) → Says kind means sub x → ⊥
+SaysNothing {X = X} kind means sub = (x : X) → SubSays kind means sub x → ⊥
 
 -- what the first sub-TLV says that says something
 abbrev pub FirstSays : {X : Type 0} → ℕ → (List ℕ → X → Type 0) → List Tlv → Option X → Type 0
 FirstSays kind means [] None = Unit {0}
 FirstSays kind means [] (Some x) = ⊥
 FirstSays kind means (sub ∷ subs) None = SaysNothing kind means sub × FirstSays kind means subs None
-FirstSays kind means (sub ∷ subs) (Some x) = Says kind means sub x ⊎ (SaysNothing kind means sub × FirstSays kind means subs (Some x))
+FirstSays kind means (sub ∷ subs) (Some x) =
+    SubSays kind means sub x ⊎ (SaysNothing kind means sub × FirstSays kind means subs (Some x))
 
 -- what all sub-TLVs say that say something, in their order
 abbrev pub AllSay : {X : Type 0} → ℕ → (List ℕ → X → Type 0) → List Tlv → List X → Type 0
 AllSay kind means [] xs = xs ≡ []
 AllSay kind means (sub ∷ subs) [] = SaysNothing kind means sub × AllSay kind means subs []
-AllSay kind means (sub ∷ subs) (x ∷ xs) = (Says kind means sub x × AllSay kind means subs xs) ⊎ (SaysNothing kind means sub × AllSay kind means subs (x ∷ xs))
+AllSay kind means (sub ∷ subs) (x ∷ xs) =
+    (SubSays kind means sub x × AllSay kind means subs xs)
+    ⊎ (SaysNothing kind means sub × AllSay kind means subs (x ∷ xs))
 
 -- what was said first, after one more sub-TLV
 abbrev pub AddsFirst : {X : Type 0} → ℕ → (List ℕ → X → Type 0) → Tlv → Option X → Option X → Type 0
-AddsFirst kind means sub None new = MatchOption new (SaysNothing kind means sub) (λ x. Says kind means sub x)
+AddsFirst kind means sub None new = MatchOption new (SaysNothing kind means sub) (λ x. SubSays kind means sub x)
 AddsFirst kind means sub (Some x) new = new ≡ Some x
 
 -- all that was said, after one more sub-TLV
 abbrev pub AddsAll : {X : Type 0} → ℕ → (List ℕ → X → Type 0) → Tlv → List X → List X → Type 0
-AddsAll {X = X} kind means sub old new = (SaysNothing kind means sub × (new ≡ old)) ⊎ ((x : X) × Says kind means sub x × (new ≡ old ++ x ∷ []))
+AddsAll {X = X} kind means sub old new =
+    (SaysNothing kind means sub × (new ≡ old)) ⊎ ((x : X) × SubSays kind means sub x × (new ≡ old ++ x ∷ []))

@@ -33,9 +33,13 @@ pub trait Entries<P> {
     /// The entry at a place, or the fault there.
     fn next(alloc: Global, value: &[u8], at: usize) -> Result<Next<P>, ReadFault>
         requires { at < length value.now }
-        ensures ok { IfOk result (λ next. IsNextPiece layout says value.now at next.end (if_some next.says)) }
-        ensures fault { IfErr result (λ fault. IfMalformed fault (λ malformed. StopsAt layout value.now at malformed.offset malformed.check)) }
-        ensures within { IfErr result (λ fault. IfMalformed fault (λ malformed. malformed.offset ≤ length value.now)) };
+        ensures ok { IfOk result
+            (λ next. IsNextPiece layout says value.now at next.end (if_some next.says)) }
+        ensures fault { IfErr result
+            (λ fault. IfMalformed fault
+            (λ malformed. StopsAt layout value.now at malformed.offset malformed.check)) }
+        ensures within { IfErr result
+            (λ fault. IfMalformed fault (λ malformed. malformed.offset ≤ length value.now)) };
 }
 
 /// Appends what the entries of a value say.
@@ -44,9 +48,14 @@ pub fn read_entries<P: Drop, E: Entries<P>>(
     value: &[u8],
     parts: &mut Vec<P>,
 ) -> Result<(), ReadFault>
-    ensures says { MatchResult result (λ _. (own : List P) × SaysRun E.layout E.says value.now own × (parts.new.items ≡ parts.old.items ++ own))
-        (λ fault. IfMalformed fault (λ malformed. (run_of E.layout FieldExtent E.says).fault value.now malformed.offset malformed.check)) }
-    ensures within { IfErr result (λ fault. IfMalformed fault (λ malformed. malformed.offset ≤ length value.now)) }
+    ensures says { MatchResult result
+        (λ _. (own : List P) × SaysRun E.layout E.says value.now own
+        × (parts.new.items ≡ parts.old.items ++ own))
+        (λ fault. IfMalformed fault
+        (λ malformed.
+        (run_of E.layout FieldExtent E.says).fault value.now malformed.offset malformed.check)) }
+    ensures within { IfErr result
+        (λ fault. IfMalformed fault (λ malformed. malformed.offset ≤ length value.now)) }
 {
     let mut at = 0;
     while at < value.len() {

@@ -18,16 +18,20 @@ pub trait TlvKind<P> {
 
     /// Appends the parts that a value says.
     fn read(alloc: Global, value: &[u8], parts: &mut Vec<P>) -> Result<(), ReadFault>
-        ensures says { MatchResult result (λ _. (own : List P) × kind.format.says value.now own × (parts.new.items ≡ parts.old.items ++ own))
-            (λ fault. IfMalformed fault (λ malformed. kind.format.fault value.now malformed.offset malformed.check)) }
-        ensures within { IfErr result (λ fault. IfMalformed fault (λ malformed. malformed.offset ≤ length value.now)) };
+        ensures says { MatchResult result
+            (λ _. (own : List P) × kind.format.says value.now own
+            × (parts.new.items ≡ parts.old.items ++ own))
+            (λ fault. IfMalformed fault
+            (λ malformed. kind.format.fault value.now malformed.offset malformed.check)) }
+        ensures within { IfErr result
+            (λ fault. IfMalformed fault (λ malformed. malformed.offset ≤ length value.now)) };
 
     /// How many octets the value of the part's TLV has.
     fn length(&self) -> u128
         requires { kind.fits self.now }
         ensures { result ≡ length (kind.value self.now) };
 
-    /// Appends the TLV of the part, or a beginning of it before an error; what was there stands before it.
+    /// Appends the TLV of the part. After an error what was there still stands, and other octets may follow it.
     fn write(&self, out: &mut Vec<u8>) -> Result<(), AllocError>
         requires fits { kind.fits self.now }
         requires short { length (kind.value self.now) ≤ LONGEST_VALUE }

@@ -35,7 +35,7 @@ pub fn numbers_length(numbers: &[u32]) -> u128
     NUMBER as u128 * numbers.len() as u128
 }
 
-/// Appends the octets of the numbers, or those of some before an error.
+/// Appends the octets of the numbers. After an error what was there still stands, and other octets may follow it.
 pub fn write_numbers(numbers: &[u32], out: &mut Vec<u8>) -> Result<(), AllocError>
     ensures ok { OnOk result (out.new.items ≡ out.old.items ++ numbers_text numbers.now) }
     ensures err { OnErr result (Continues out.old.items out.new.items) }

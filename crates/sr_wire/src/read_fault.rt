@@ -50,7 +50,7 @@ impl ReadFault {
         })
     }
 
-    /// The same fault, where that many more octets stand in front.
+    /// The same fault, as its place is counted with `octets` more octets before it.
     pub fn behind(self, octets: usize) -> ReadFault
         requires { IfMalformed self (λ malformed. malformed.offset + octets < 2 ^ 64) }
         ensures { result ≡ fault_behind self octets }

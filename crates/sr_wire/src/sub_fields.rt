@@ -18,7 +18,9 @@ pub fn add_first<X: Drop, K: SubKind<X>>(
     kind: u8,
     value: &[u8],
 ) -> Result<(), AllocError>
-    ensures { OnOk result (AddsFirst K.sub.kind K.sub.means (record { kind = kind; value = value.now }) field.old field.new) }
+    ensures { OnOk result
+        (AddsFirst K.sub.kind K.sub.means
+        (record { kind = kind; value = value.now }) field.old field.new) }
 {
     if kind == K::kind() && field.is_none() {
         *field = K::read(alloc, value)?;
@@ -33,7 +35,9 @@ pub fn add_all<X: Drop, K: SubKind<X>>(
     kind: u8,
     value: &[u8],
 ) -> Result<(), AllocError>
-    ensures { OnOk result (AddsAll K.sub.kind K.sub.means (record { kind = kind; value = value.now }) field.old field.new) }
+    ensures { OnOk result
+        (AddsAll K.sub.kind K.sub.means
+        (record { kind = kind; value = value.now }) field.old field.new) }
 {
     if kind == K::kind() {
         if let Some(x) = K::read(alloc, value)? {
@@ -72,7 +76,8 @@ pub fn all_length<X, K: SubKind<X>>(field: &[X]) -> u128
 pub fn write_first<X, K: SubKind<X>>(field: &Option<X>, out: &mut Vec<u8>) -> Result<(), AllocError>
     requires fits { IfSome field.now K.sub.fits }
     requires short { length (text_if_some (sub_text K.sub) field.now) ≤ LONGEST_VALUE }
-    ensures ok { OnOk result (out.new.items ≡ out.old.items ++ text_if_some (sub_text K.sub) field.now) }
+    ensures ok { OnOk result
+        (out.new.items ≡ out.old.items ++ text_if_some (sub_text K.sub) field.now) }
     ensures err { OnErr result (out.new.items ≡ out.old.items) }
 {
     match field {
@@ -81,11 +86,12 @@ pub fn write_first<X, K: SubKind<X>>(field: &Option<X>, out: &mut Vec<u8>) -> Re
     }
 }
 
-/// Appends the sub-TLVs of the values, or some of them before an error.
+/// Appends the sub-TLVs of the values. After an error what was there still stands, and other octets may follow it.
 pub fn write_all_subs<X, K: SubKind<X>>(field: &[X], out: &mut Vec<u8>) -> Result<(), AllocError>
     requires most { K.most ≤ LONGEST_VALUE }
     requires fit { All K.sub.fits field.now }
-    ensures ok { OnOk result (out.new.items ≡ out.old.items ++ flat_map (sub_text K.sub) field.now) }
+    ensures ok { OnOk result
+        (out.new.items ≡ out.old.items ++ flat_map (sub_text K.sub) field.now) }
     ensures err { OnErr result (Continues out.old.items out.new.items) }
 {
     for x in field {

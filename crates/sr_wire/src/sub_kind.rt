@@ -22,7 +22,9 @@ pub trait SubKind<X> {
 
     /// What the octets of a value say, or `None` exactly where they say nothing.
     fn read(alloc: Global, value: &[u8]) -> Result<Option<X>, AllocError>
-        ensures { IfOk result (λ found. MatchOption found ((x : X) → sub.means value.now x → ⊥) (sub.means value.now)) };
+        ensures { IfOk result
+            (λ found. MatchOption found ((x : X) → sub.means value.now x → ⊥)
+            (sub.means value.now)) };
 
     /// How many octets the value has.
     fn length(x: &X) -> u128

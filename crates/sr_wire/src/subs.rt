@@ -21,7 +21,8 @@ pub trait SubTlvs {
 
     /// Adds what one more sub-TLV says.
     fn add(&mut self, alloc: Global, kind: u8, value: &[u8]) -> Result<(), AllocError>
-        ensures { OnOk result (adds (record { kind = kind; value = value.now }) self.old self.new) };
+        ensures { OnOk result
+            (adds (record { kind = kind; value = value.now }) self.old self.new) };
 
     /// With what it adds, what was said is what all of them say.
     ghost steps: { (subs : List Tlv) (sub : Tlv) (old new : Self) → said subs old → adds sub old new → said (subs ++ sub ∷ []) new };
@@ -30,9 +31,12 @@ pub trait SubTlvs {
 /// Adds to `start`, which says nothing yet, what the sub-TLVs of a run say.
 pub fn read_subs<S: SubTlvs + Drop>(alloc: Global, run: &[u8], start: S) -> Result<S, ReadFault>
     requires { S.said [] start }
-    ensures says { MatchResult result (λ said. (subs : List Tlv) × AreSubs run.now subs × S.said subs said)
-        (λ fault. IfMalformed fault (λ malformed. SubFault run.now malformed.offset malformed.check)) }
-    ensures within { IfErr result (λ fault. IfMalformed fault (λ malformed. malformed.offset ≤ length run.now)) }
+    ensures says { MatchResult result
+        (λ said. (subs : List Tlv) × AreSubs run.now subs × S.said subs said)
+        (λ fault. IfMalformed fault
+        (λ malformed. SubFault run.now malformed.offset malformed.check)) }
+    ensures within { IfErr result
+        (λ fault. IfMalformed fault (λ malformed. malformed.offset ≤ length run.now)) }
 {
     let mut said = start;
     let mut at = 0;
