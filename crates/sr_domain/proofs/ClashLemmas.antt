@@ -12,7 +12,7 @@ use Rattle.sr_labels.specs.Rules.{AreOfNodes}
 use Rattle.sr_lsdb.specs.declared.facts.Facts.{Facts}
 use Rattle.sr_domain.specs.Nodes.{nodes_of, all_labels}
 use Rattle.sr_domain.specs.Links.{found_adj_labels}
-use Rattle.sr_domain.specs.Rules.{AreKept, IsFirstBroken}
+use Rattle.sr_domain.specs.Rules.{AreKept, IsFirstBrokenRule}
 use Rattle.sr_domain.specs.Named.{ArePlacesWithin, Names}
 use Rattle.sr_domain.proofs.KeptLemmas.{kept-more}
 
@@ -37,22 +37,22 @@ module _ (facts : Facts) (nodes : List ℕ) (labels : List Labels) (adj : List A
   at : (place node : ℕ) → slice_get nodes place ≡ Some node → slice_get (nodes_of facts) place ≡ Some node
   at place node e = subst (λ (l : List ℕ). slice_get l place ≡ Some node) are e
 
-  pub clash-some : (rule : LabelRule) (named : DomainRule) → IsFirstClash labels adj (Some rule) → Names nodes rule named → IsFirstBroken facts named
+  pub clash-some : (rule : LabelRule) (named : DomainRule) → IsFirstClash labels adj (Some rule) → Names nodes rule named → IsFirstBrokenRule facts named
   clash-some (DuplicateIndex index low high) named first is =
       let f = moved (Some (DuplicateIndex index low high)) first in
-      subst (λ (r : DomainRule). IsFirstBroken facts r) (sym is.2) (record {
+      subst (λ (r : DomainRule). IsFirstBrokenRule facts r) (sym is.2) (record {
         broken = record { low_place = low; high_place = high; least = f; low_is = at low is.0 is.3; high_is = at high is.1 is.4 };
         earlier = kept;
       })
   clash-some (IndexOutside index node) named first is =
       let f = moved (Some (IndexOutside index node)) first in
-      subst (λ (r : DomainRule). IsFirstBroken facts r) (sym is.1) (record {
+      subst (λ (r : DomainRule). IsFirstBrokenRule facts r) (sym is.1) (record {
         broken = record { place = node; least = f.1; node_is = at node is.0 is.2 };
         earlier = kept-more facts 2 (SharedIndex 0 0 0) refl kept f.0;
       })
   clash-some (AdjLabelClash label node) named first is =
       let f = moved (Some (AdjLabelClash label node)) first in
-      subst (λ (r : DomainRule). IsFirstBroken facts r) (sym is.1) (record {
+      subst (λ (r : DomainRule). IsFirstBrokenRule facts r) (sym is.1) (record {
         broken = record { place = node; least = f.2; node_is = at node is.0 is.2 };
         earlier = kept-more facts 3 (FarIndex 0 0) refl (kept-more facts 2 (SharedIndex 0 0 0) refl kept f.0) f.1;
       })

@@ -13,7 +13,7 @@ use Rattle.sr_graph.specs.Draft.{AreLeast, EndsLe}
 use Rattle.sr_lsdb.specs.declared.facts.Facts.{Facts}
 use Rattle.sr_domain.specs.Nodes.{nodes_of, all_labels}
 use Rattle.sr_domain.specs.Links.{links_of, found_adj_labels}
-use Rattle.sr_domain.specs.Rules.{IsLeastNode, LacksSrgb, HasBadSrgb, IsOverloaded, HasZeroMetric, IsKeyRepeated, IsNodeAt, IsRuleBroken, Keeps, rank, IsFirstBroken}
+use Rattle.sr_domain.specs.Rules.{IsLeastNode, LacksSrgb, HasBadSrgb, IsOverloaded, HasZeroMetric, IsKeyRepeated, IsNodeAt, IsRuleBroken, Keeps, rank, IsFirstBrokenRule}
 use Rattle.sr_domain.specs.Net.{IsNetOf}
 
 node-one : (nodes : List ℕ) (P : ℕ → Type 0) (a b : ℕ) → IsLeastNode nodes P a → IsLeastNode nodes P b → a ≡ b
@@ -130,7 +130,7 @@ rank-below (TooManyLinks n) = omega arith
 rank-below (Overload v) = omega arith
 
 -- facts have at most one first broken rule
-pub fault-one : (facts : Facts) (a b : DomainRule) → IsFirstBroken facts a → IsFirstBroken facts b → a ≡ b
+pub fault-one : (facts : Facts) (a b : DomainRule) → IsFirstBrokenRule facts a → IsFirstBrokenRule facts b → a ≡ b
 fault-one facts a b x y =
     ⊎_elim
     (λ (same : rank a ≡ rank b). broken-one facts a b same x.broken y.broken)
@@ -140,5 +140,5 @@ fault-one facts a b x y =
     (cases_order (rank a) (rank b))
 
 -- facts that break a rule have no net
-pub broken-no_net : (facts : Facts) (rule : DomainRule) (net : Net) → IsFirstBroken facts rule → IsNetOf facts net → ⊥
+pub broken-no_net : (facts : Facts) (rule : DomainRule) (net : Net) → IsFirstBrokenRule facts rule → IsNetOf facts net → ⊥
 broken-no_net facts rule net x is = broken-not_kept facts rule x.broken (is.kept rule (rank-below rule))

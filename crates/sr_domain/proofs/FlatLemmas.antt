@@ -6,6 +6,7 @@ use Rattle.std.specs.List.{filter_map, flat_map, cons_option}
 use Rattle.std.proofs.lemmas.Bool.Decides.{nat_tests}
 use Rattle.std.proofs.lemmas.List.Elements.{filter_map-append}
 use Rattle.std.proofs.lemmas.Grind.{flat_map-append}
+use Rattle.std.proofs.lemmas.Option.{same_Some}
 use Rattle.sr_subtlv.specs.declared.prefix_sid.PrefixSid.{PrefixSid}
 use Rattle.sr_subtlv.specs.declared.adj_sid.AdjSid.{AdjSid}
 use Rattle.sr_lsp.specs.declared.lsp.LspId.{LspId}
@@ -17,7 +18,6 @@ use Rattle.sr_domain.specs.declared.nodes.NodeSid.{NodeSid}
 use Rattle.sr_domain.specs.Announced.{adj_label, adj_sid_labels, least, lesser}
 use Rattle.sr_domain.specs.Nodes.{own_parts, node_sid_by, node_sid_of, lesser_sid, least_sid, sid_of_part, least_of_parts, sid_from}
 use Rattle.sr_domain.specs.Least.{host_sids, candidates, IsFirstLeastSid, IsLeastNumber, IsAdjLabel}
-use Rattle.sr_domain.proofs.SameLemmas.{some_same}
 use Rattle.sr_domain.proofs.NodesLemmas.{lesser-assoc}
 
 -- the one of the least index of a flat list, and of equal ones the first
@@ -78,7 +78,7 @@ alone sid = record {
 }
   where
     at_one : (k : ℕ) (other : NodeSid) → slice_get (sid ∷ []) k ≡ Some other → sid.index ≤ other.index
-    at_one zero other at = let same : sid ≡ other = some_same sid other at in let index : sid.index ≡ other.index = ap (λ (s : NodeSid). s.index) same in omega arith
+    at_one zero other at = let same : sid ≡ other = same_Some sid other at in let index : sid.index ≡ other.index = ap (λ (s : NodeSid). s.index) same in omega arith
     at_one (suc k) other at = absurd (cc)
 
 later : (x y : NodeSid) (xs : List NodeSid) → IsFirstLeastSid xs y → y.index < x.index → IsFirstLeastSid (x ∷ xs) y
@@ -90,11 +90,11 @@ later x y xs first lt = record {
 }
   where
     before : (k : ℕ) (other : NodeSid) → k < suc first.place → slice_get (x ∷ xs) k ≡ Some other → y.index < other.index
-    before zero other less at = let index : x.index ≡ other.index = ap (λ (s : NodeSid). s.index) (some_same x other at) in omega arith
+    before zero other less at = let index : x.index ≡ other.index = ap (λ (s : NodeSid). s.index) (same_Some x other at) in omega arith
     before (suc k) other less at = first.earlier k other (omega arith) at
 
     all : (k : ℕ) (other : NodeSid) → slice_get (x ∷ xs) k ≡ Some other → y.index ≤ other.index
-    all zero other at = let index : x.index ≡ other.index = ap (λ (s : NodeSid). s.index) (some_same x other at) in omega arith
+    all zero other at = let index : x.index ≡ other.index = ap (λ (s : NodeSid). s.index) (same_Some x other at) in omega arith
     all (suc k) other at = first.least k other at
 
 sooner : (x y : NodeSid) (xs : List NodeSid) → IsFirstLeastSid xs y → x.index ≤ y.index → IsFirstLeastSid (x ∷ xs) x
@@ -106,7 +106,7 @@ sooner x y xs first le = record {
 }
   where
     all : (k : ℕ) (other : NodeSid) → slice_get (x ∷ xs) k ≡ Some other → x.index ≤ other.index
-    all zero other at = let index : x.index ≡ other.index = ap (λ (s : NodeSid). s.index) (some_same x other at) in omega arith
+    all zero other at = let index : x.index ≡ other.index = ap (λ (s : NodeSid). s.index) (same_Some x other at) in omega arith
     all (suc k) other at = let more : y.index ≤ other.index = first.least k other at in omega arith
 
 chosen : (sids : List NodeSid) → IsChosen sids (first_least sids)
@@ -136,14 +136,14 @@ least-alone number = record {
 }
   where
     all : (k other : ℕ) → slice_get (number ∷ []) k ≡ Some other → number ≤ other
-    all zero other at = let same : number ≡ other = some_same number other at in omega arith
+    all zero other at = let same : number ≡ other = same_Some number other at in omega arith
     all (suc k) other at = absurd (cc)
 
 least-more : (x y : ℕ) (xs : List ℕ) → IsLeastNumber xs y → IsLeastNumber (x ∷ xs) (min y x)
 least-more x y xs first = by (nat_lt x y) refl
   where
     all : (z : ℕ) → z ≤ x → z ≤ y → (k other : ℕ) → slice_get (x ∷ xs) k ≡ Some other → z ≤ other
-    all z a b zero other at = let same : x ≡ other = some_same x other at in omega arith
+    all z a b zero other at = let same : x ≡ other = same_Some x other at in omega arith
     all z a b (suc k) other at = let more : y ≤ other = first.least k other at in omega arith
 
     by : (t : Bool) → nat_lt x y ≡ t → IsLeastNumber (x ∷ xs) (min y x)

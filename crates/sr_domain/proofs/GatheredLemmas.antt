@@ -7,6 +7,8 @@ use Rattle.std.specs.Map.{lookup}
 use Rattle.std.specs.BTreeMap.{is_at}
 use Rattle.std.proofs.lemmas.Bool.Decides.{nat_tests}
 use Rattle.std.proofs.lemmas.List.Elements.{All-nil, All-cons, All-head, All-tail, All-append, All-weaker}
+use Rattle.std.specs.Cmp.{Equal-is}
+use Rattle.std.proofs.lemmas.Option.{same_Some}
 use Rattle.sr_model.specs.declared.name.LinkKey.{LinkKey}
 use Rattle.sr_model.specs.Key.{mirror, pair_of}
 use Rattle.sr_model.specs.KeyOrder.{key_cmp, same_key}
@@ -30,7 +32,6 @@ use Rattle.sr_domain.specs.Nodes.{node_by, nodes_of}
 use Rattle.sr_lsdb.specs.Tables.{is_down}
 use Rattle.sr_domain.specs.Links.{effective_metric, is_in_use, link_by, link_of, links_of, JoinsNodes}
 use Rattle.sr_domain.specs.Steps.{IsBelowMaximum}
-use Rattle.sr_domain.proofs.SameLemmas.{is_eq-true, some_same}
 use Rattle.sr_domain.proofs.MemberLemmas.{here, kept_by}
 
 -- an id that is tied with the first one of a node is that one
@@ -123,7 +124,7 @@ any-present facts (a ∷ anns) key all e = by (λ h. any-present facts anns key 
   where
     by : (is_announced anns key ≡ true → is_present facts key.from ≡ true) → (b : Bool) → same_key key a.key ≡ b → (b || is_announced anns key) ≡ true → is_present facts key.from ≡ true
     by rest true same h =
-        let equal : key ≡ a.key = key-from_cmp key a.key (is_eq-true (key_cmp key a.key) same) in
+        let equal : key ≡ a.key = key-from_cmp key a.key ((Equal-is (key_cmp key a.key)).0 same) in
         subst (λ (k : LinkKey). is_present facts k.from ≡ true) (sym equal) (All-head (IsSound facts) a anns all).present
     by rest false same h = rest h
 
@@ -161,7 +162,7 @@ lookup-cost test [] all m e = absurd (cc)
 lookup-cost test (entry ∷ es) all m e = by (λ h. lookup-cost test es (All-tail IsCost entry es all) m h) (test entry.0) e
   where
     by : (lookup test es ≡ Some m → m < MAXIMUM_METRIC) → (b : Bool) → cond b (Some entry.1) (lookup test es) ≡ Some m → m < MAXIMUM_METRIC
-    by rest true h = subst (λ n. n < MAXIMUM_METRIC) (some_same entry.1 m h) (All-head IsCost entry es all).1
+    by rest true h = subst (λ n. n < MAXIMUM_METRIC) (same_Some entry.1 m h) (All-head IsCost entry es all).1
     by rest false h = rest h
 
 metric-small_by : (metric : ℕ) (o : Option ℕ) → metric < 2 ^ 24 → ((m : ℕ) → o ≡ Some m → m < MAXIMUM_METRIC) → unwrap_or o metric < 16777216
@@ -187,7 +188,7 @@ link-good facts range a link two e = by (is_in_use facts a) refl e
           ends = (present-node facts a.key.from two.sound.present, present-node facts a.key.to two.other, two.sound.differ);
           below = metric-below (effective_metric facts a) small (and-left (not (effective_metric facts a == MAXIMUM_METRIC)) (not (is_down facts.downs (pair_of a.key))) used);
         } in
-        subst (λ (l : FoundLink). IsGoodLink facts l) (some_same (link_of facts a) link h) good
+        subst (λ (l : FoundLink). IsGoodLink facts l) (same_Some (link_of facts a) link h) good
 
 pub links-good : (facts : Facts) → AreInRange facts → All (IsGoodLink facts) (links_of facts)
 links-good facts range = pick-all (link_by facts) (IsTwoWay facts) (IsGoodLink facts) (link-good facts range) (two_way_of facts) (two-way-sound facts range)

@@ -12,6 +12,7 @@ use Rattle.std.proofs.lemmas.List.Kept.{Contains-dedup, Contains-from_dedup, IsS
 use Rattle.std.proofs.lemmas.List.Sorted.{list_any-IsPermutation}
 use Rattle.std.proofs.lemmas.Map.Keys.{IsStrictlyIncreasing-from_sorted, Less-from_sorted}
 use Rattle.std.proofs.lemmas.Map.Lookups.{CmpEqualImpliesEq, exact_pairs, exact_unsigned}
+use Rattle.std.specs.Cmp.{Equal-is}
 use Rattle.sr_model.specs.declared.name.PairKey.{PairKey}
 use Rattle.sr_domain.specs.declared.announced.Announcement.{Announcement}
 use Rattle.sr_domain.specs.declared.groups.RiskTable.{RiskTable}
@@ -25,7 +26,6 @@ use Rattle.sr_domain.specs.contracts.risks.RiskNameOrd.TheImpl.Laws as name_laws
 use Rattle.sr_model.specs.Key.{pair_of}
 use Rattle.sr_lsdb.specs.Order.{pair_cmp}
 use Rattle.sr_lsdb.proofs.OrderLemmas.{pair_total, pair_exact}
-use Rattle.sr_domain.proofs.SameLemmas.{is_eq-true}
 use Rattle.sr_domain.proofs.DeterminedLists.{sorted-one}
 use Rattle.sr_domain.proofs.KeyLemmas.{any-to, any-from}
 use Rattle.sr_domain.proofs.NumbersLemmas.{ascending-has, ascending-rises}
@@ -161,7 +161,7 @@ any-kept {X} {R} o exact eq ties xs sorted moved p =
     }
 
     same : (a b : X) → eq a b ≡ true → a ≡ b
-    same a b e = exact a b (is_eq-true (R a b) (sym (ties a b) ∙ e))
+    same a b e = exact a b ((Equal-is (R a b)).0 (sym (ties a b) ∙ e))
 
 -- names and notes in order of names
 exact_bool : CmpEqualImpliesEq bool_cmp

@@ -12,16 +12,16 @@ use Rattle.std.proofs.lemmas.List.Folds.{list_any_at}
 use Rattle.std.proofs.lemmas.List.Kept.{Contains-dedup, Contains-from_dedup, IsStrictlySortedBy-dedup}
 use Rattle.std.proofs.lemmas.List.Sorted.{searchable_from_sorted, IsPermutation-sym, Contains-permutation}
 use Rattle.std.proofs.lemmas.Map.Keys.{Less-from_sorted}
+use Rattle.std.specs.Cmp.{Equal-is}
 use Rattle.sr_model.specs.declared.name.LinkKey.{LinkKey}
 use Rattle.sr_model.specs.KeyOrder.{key_cmp, same_key}
 use Rattle.sr_model.proofs.KeyOrderLemmas.{key_total, key-from_cmp}
 use Rattle.sr_domain.specs.declared.announced.Announcement.{Announcement}
 use Rattle.sr_domain.specs.Announced.{AreKeysOf, is_announced, announced_key}
-use Rattle.sr_domain.proofs.SameLemmas.{is_eq-true}
 use Rattle.sr_domain.proofs.MemberLemmas.{here, later, mapped-to, mapped-from}
 
 same-from : (a b : LinkKey) → same_key a b ≡ true → a ≡ b
-same-from a b e = key-from_cmp a b (is_eq-true (key_cmp a b) e)
+same-from a b e = key-from_cmp a b ((Equal-is (key_cmp a b)).0 e)
 
 same-itself : (a : LinkKey) → same_key a a ≡ true
 same-itself a = ap is_eq (tied_itself key_total a)

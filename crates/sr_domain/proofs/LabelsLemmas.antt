@@ -4,16 +4,16 @@ use Rattle.std.specs.Prelude.{Contains}
 use Rattle.std.specs.Option.{unwrap_or}
 use Rattle.std.specs.List.Sorted.{IsStrictlyIncreasing}
 use Rattle.std.proofs.lemmas.List.{take_more, length-append, take_all, map-append}
+use Rattle.std.proofs.lemmas.Option.{same_Some}
 use Rattle.sr_model.specs.declared.label.Range.{Range}
 use Rattle.sr_model.specs.declared.rule.DomainRule.TheVariants.{NoSrgb, SrgbBad as BadSrgb}
 use Rattle.sr_model.specs.Label.{Labels, IsSrgb}
 use Rattle.sr_labels.specs.declared.srgb.SrgbBad.{SrgbBad}
 use Rattle.sr_labels.specs.declared.srgb.SrgbBad.TheVariants.{Bad}
-use Rattle.sr_labels.specs.Ranges.{IsRefusal}
+use Rattle.sr_labels.specs.Ranges.{IsSrgbRefusal}
 use Rattle.sr_lsdb.specs.declared.facts.Facts.{Facts}
 use Rattle.sr_domain.specs.Nodes.{nodes_of, srgb_of, ranges_of, labels_of, labels_with, node_sid_of}
-use Rattle.sr_domain.specs.Rules.{AreKept, IsFirstBroken, LacksSrgb, HasBadSrgb, HoldsNowhere, IsLeastNode}
-use Rattle.sr_domain.proofs.SameLemmas.{some_same}
+use Rattle.sr_domain.specs.Rules.{AreKept, IsFirstBrokenRule, LacksSrgb, HasBadSrgb, HoldsNowhere, IsLeastNode}
 use Rattle.sr_domain.proofs.LeastLemmas.{NoneBelow, none-yet, none-more, none-all, least-at}
 use Rattle.sr_domain.proofs.KeptLemmas.{kept-nothing, kept-more}
 
@@ -47,7 +47,7 @@ ranges-more facts nodes i node ranges out out' within is before found pushed = r
 pub ranges-kept : (facts : Facts) (nodes : List ℕ) (count : ℕ) (out : List (List Range)) → nodes ≡ nodes_of facts → length nodes ≤ count → RangesMade facts nodes count out → AreKept facts 1
 ranges-kept facts nodes count out are all made = kept-more facts 0 (NoSrgb 0) refl (kept-nothing facts) (subst (λ (l : List ℕ). HoldsNowhere l (LacksSrgb facts)) are (none-all nodes (LacksSrgb facts) count all made.none))
 
-pub srgb-lacks : (facts : Facts) (nodes : List ℕ) (i node : ℕ) (out : List (List Range)) → nodes ≡ nodes_of facts → IsStrictlyIncreasing nodes → i < length nodes → node ≡ get_or nodes i node → RangesMade facts nodes i out → None ≡ srgb_of facts node → IsFirstBroken facts (NoSrgb node)
+pub srgb-lacks : (facts : Facts) (nodes : List ℕ) (i node : ℕ) (out : List (List Range)) → nodes ≡ nodes_of facts → IsStrictlyIncreasing nodes → i < length nodes → node ≡ get_or nodes i node → RangesMade facts nodes i out → None ≡ srgb_of facts node → IsFirstBrokenRule facts (NoSrgb node)
 srgb-lacks facts nodes i node out are up within is made lacks = record {
   broken = subst (λ (l : List ℕ). IsLeastNode l (LacksSrgb facts) node) are (least-at nodes (LacksSrgb facts) i node up within is made.none (sym lacks));
   earlier = kept-nothing facts;
@@ -58,7 +58,7 @@ srgb-some_by : (o : Option (List Range)) (ranges : List Range) → (o ≡ None �
 srgb-some_by None ranges not e = absurd (not refl)
 srgb-some_by (Some other) ranges not e = ap Some (sym e)
 
-not-srgb : (ranges : List Range) (fault : SrgbBad) → IsRefusal ranges fault → IsSrgb ranges → ⊥
+not-srgb : (ranges : List Range) (fault : SrgbBad) → IsSrgbRefusal ranges fault → IsSrgb ranges → ⊥
 not-srgb ranges (Bad k) refused good = ⊎_elim
     (λ empty. let some : 0 < length ranges = good.some in let none : length ranges ≡ 0 = ap length empty.0 in omega arith)
     (λ bad. bad.2 (good.each k bad.0))
@@ -76,7 +76,7 @@ module _ (facts : Facts) (nodes : List ℕ) (are : nodes ≡ nodes_of facts) (ke
       let none : HoldsNowhere nodes (LacksSrgb facts) = subst (λ (l : List ℕ). HoldsNowhere l (LacksSrgb facts)) (sym are) (kept (NoSrgb 0) (omega arith)) in
       srgb-some_by (srgb_of facts node) ranges (λ lacks. none node there lacks) e
 
-  pub labels-bad : (out : List Labels) (node : ℕ) (ranges : List Range) (left : List (List Range)) (fault : SrgbBad) → IsStrictlyIncreasing nodes → LabelsMade facts nodes out (ranges ∷ left) → node ≡ get_or nodes (length out) node → IsRefusal ranges fault → IsFirstBroken facts (BadSrgb node)
+  pub labels-bad : (out : List Labels) (node : ℕ) (ranges : List Range) (left : List (List Range)) (fault : SrgbBad) → IsStrictlyIncreasing nodes → LabelsMade facts nodes out (ranges ∷ left) → node ≡ get_or nodes (length out) node → IsSrgbRefusal ranges fault → IsFirstBrokenRule facts (BadSrgb node)
   labels-bad out node ranges left fault up made is refused =
       let here = left-first (ranges_of facts) nodes (length out) node ranges left made.left_are in
       let within : length out < length nodes = here.0 in
@@ -97,7 +97,7 @@ module _ (facts : Facts) (nodes : List ℕ) (are : nodes ≡ nodes_of facts) (ke
         made = mapped-more (labels_of facts) nodes (length out) node (labels_with srgb (node_sid_of facts node)) out out' within is made.made (ap (λ r. labels_with r (node_sid_of facts node)) its) pushed ∙ ap (λ n. map (labels_of facts) (take n nodes)) (sym more);
         left_are = here.2 ∙ ap (λ n. map (ranges_of facts) (drop n nodes)) (sym more');
         none = subst (λ n. NoneBelow nodes (HasBadSrgb facts) n) (sym more) (none-more nodes (HasBadSrgb facts) (length out) node within is made.none
-            (λ bad. bad.2 (subst (λ (r : List Range). IsSrgb r) (some_same srgb bad.0 (sym (srgb-some node srgb (length out, within, sym is) its) ∙ bad.1)) good)));
+            (λ bad. bad.2 (subst (λ (r : List Range). IsSrgb r) (same_Some srgb bad.0 (sym (srgb-some node srgb (length out, within, sym is) its) ∙ bad.1)) good)));
       }
 
   pub labels-kept : (out : List Labels) (left : List (List Range)) → LabelsMade facts nodes out left → length left ≡ 0 → (out ≡ map (labels_of facts) nodes) × AreKept facts 2

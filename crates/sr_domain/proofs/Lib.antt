@@ -1,4 +1,3 @@
-pub mod SameLemmas
 pub mod AnnouncedLemmas
 pub mod NodesLemmas
 pub mod NumbersLemmas

@@ -6,6 +6,8 @@ use Rattle.std.specs.List.{filter_map, cons_option, list_any}
 use Rattle.std.specs.List.Sorted.{IsPermutation, IsStrictlyIncreasing}
 use Rattle.std.specs.Ordering.{is_eq}
 use Rattle.std.specs.declared.cmp.Ordering.TheVariants.{Less}
+use Rattle.std.specs.Cmp.{Equal-is}
+use Rattle.std.proofs.lemmas.Option.{same_Some}
 use Rattle.sr_model.specs.declared.rule.DomainRule.TheVariants.{DuplicateIndex, IndexOutside, AdjLabelClash}
 use Rattle.std.proofs.lemmas.Cmp.{tied_itself}
 use Rattle.std.proofs.lemmas.List.{length-map, get_or_default}
@@ -30,7 +32,6 @@ use Rattle.sr_domain.specs.Links.{links_of, link_by, link_of, is_in_use, labelle
 use Rattle.sr_domain.specs.Rules.{AreKept}
 use Rattle.sr_domain.specs.Steps.{IsGraphOf}
 use Rattle.sr_domain.specs.Net.{IsNetOf}
-use Rattle.sr_domain.proofs.SameLemmas.{is_eq-true, some_same}
 use Rattle.sr_domain.proofs.MemberLemmas.{here, later, picked-from}
 use Rattle.sr_domain.proofs.PlacesLemmas.{place-at}
 use Rattle.sr_domain.proofs.AdjLemmas.{clash-moved}
@@ -75,12 +76,12 @@ key-there [] key e = absurd (cc)
 key-there (k ∷ ks) key e = by (λ h. key-there ks key h) (same_key key k) refl e
   where
     by : (list_any (same_key key) ks ≡ true → (i : ℕ) × (slice_get ks i ≡ Some key)) → (b : Bool) → same_key key k ≡ b → (b || list_any (same_key key) ks) ≡ true → (i : ℕ) × (slice_get (k ∷ ks) i ≡ Some key)
-    by rest true same h = (0, ap Some (sym (key-from_cmp key k (is_eq-true (key_cmp key k) same))))
+    by rest true same h = (0, ap Some (sym (key-from_cmp key k ((Equal-is (key_cmp key k)).0 same))))
     by rest false same h = let r = rest h in (suc r.0, r.1)
 
 slice-at : (keys : List LinkKey) (i : ℕ) (a : LinkKey) → slice_get keys i ≡ Some a → (i < length keys) × (get_or keys i a ≡ a)
 slice-at [] i a e = absurd (cc)
-slice-at (k ∷ ks) zero a e = (omega arith, some_same k a e)
+slice-at (k ∷ ks) zero a e = (omega arith, same_Some k a e)
 slice-at (k ∷ ks) (suc i) a e = let r = slice-at ks i a e in (let lt : i < length ks = r.0 in omega arith, r.1)
 
 link-announced : (facts : Facts) (x : FoundLink) → Contains (links_of facts) x → is_announced (two_way_of facts) x.key ≡ true
@@ -91,7 +92,7 @@ link-announced facts x c =
     list_any_at (λ (a : Announcement). same_key x.key a.key) (two_way_of facts) r.1.0 r.0 r.1.1 (ap (λ (a : Announcement). same_key x.key a.key) at ∙ ap (same_key x.key) key ∙ ap is_eq (tied_itself key_total x.key))
   where
     same : (a : Announcement) (b : Bool) → cond b (Some (link_of facts a)) None ≡ Some x → a.key ≡ x.key
-    same a true h = ap (λ (l : FoundLink). l.key) (some_same (link_of facts a) x h)
+    same a true h = ap (λ (l : FoundLink). l.key) (same_Some (link_of facts a) x h)
     same a false h = absurd (cc)
 
 module _ (facts : Facts) (links : List FoundLink) (g : Graph) (is : IsGraphOf facts (nodes_of facts) links g) (moved : IsPermutation (links_of facts) links) (kept : AreKept facts 10) where

@@ -38,12 +38,9 @@ put-all P n (x ∷ xs) now all = by (put-all P n xs now all.1) (ltb n x) (eqb n 
     by rest false true = all
     by rest false false = (all.0, rest)
 
-below : (n x : ℕ) → n < x → nat_cmp n x ≡ Less
-below n x lt = sym (nat_cmp_is n x Less lt)
-
 all-above : (n x : ℕ) (xs : List ℕ) → n < x → AllByRecursion (λ y. nat_cmp x y ≡ Less) xs → AllByRecursion (λ y. nat_cmp n y ≡ Less) xs
 all-above n x [] lt all = tt
-all-above n x (y ∷ ys) lt all = (nat_cmp_total.trans n x y (below n x lt) all.0, all-above n x ys lt all.1)
+all-above n x (y ∷ ys) lt all = (nat_cmp_total.trans n x y (sym (nat_cmp_is n x Less lt)) all.0, all-above n x ys lt all.1)
 
 put-rises : (n : ℕ) (xs : List ℕ) → IsStrictlySortedBy nat_cmp xs → IsStrictlySortedBy nat_cmp (put n xs)
 unfolding IsStrictlySortedBy
@@ -51,12 +48,12 @@ put-rises n [] up = (tt, tt)
 put-rises n (x ∷ xs) up = by (put-rises n xs up.1) (ltb n x) (eqb n x) refl refl
   where
     by : IsStrictlySortedBy nat_cmp (put n xs) → (less same : Bool) → ltb n x ≡ less → eqb n x ≡ same → IsStrictlySortedBy nat_cmp (cond less (n ∷ x ∷ xs) (cond same (x ∷ xs) (x ∷ put n xs)))
-    by rest true same e f = ((below n x (ltb-true n x e), all-above n x xs (ltb-true n x e) up.0), up)
+    by rest true same e f = ((sym (nat_cmp_is n x Less (ltb-true n x e)), all-above n x xs (ltb-true n x e) up.0), up)
     by rest false true e f = up
     by rest false false e f =
         let apart : n ≡ x → ⊥ = eqb-false n x f in
         let no_less : x ≤ n = ltb-false n x e in
-        (put-all (λ y. nat_cmp x y ≡ Less) n xs (below x n (omega arith)) up.0, rest)
+        (put-all (λ y. nat_cmp x y ≡ Less) n xs (sym (nat_cmp_is x n Less (omega arith))) up.0, rest)
 
 pub ascending-has : (v : ℕ) (ns : List ℕ) → list_any (same_number v) (ascending ns) ≡ list_any (same_number v) ns
 ascending-has v [] = refl

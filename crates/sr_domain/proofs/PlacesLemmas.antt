@@ -4,12 +4,7 @@ use Rattle.std.specs.Prelude.{◌==◌}
 use Rattle.std.proofs.lemmas.Bool.Decides.{nat_tests}
 use Rattle.std.specs.List.Sorted.{IsStrictlyIncreasing}
 use Rattle.std.proofs.lemmas.Map.Keys.{sorted_from_strictly_increasing, below_from_sorted}
-use Rattle.std.specs.Ordering.{nat_cmp}
-use Rattle.std.specs.declared.cmp.Ordering.TheVariants.{Equal}
 use Rattle.sr_domain.specs.Links.{place_in}
-
-pub cmp-same : (a b : ℕ) → nat_cmp a b ≡ Equal → a ≡ b
-cmp-same a b e = grind (arith, nat_tests)
 
 place-here : (x node : ℕ) (rest : ℕ) → x ≡ node → cond (x == node) 0 rest ≡ 0
 place-here x node rest e = grind (arith, nat_tests)

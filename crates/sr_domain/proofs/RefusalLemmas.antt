@@ -5,7 +5,7 @@ use Rattle.sr_graph.specs.declared.draft.DraftLink.{DraftLink}
 use Rattle.sr_graph.specs.declared.fault.GraphFault.{GraphFault}
 use Rattle.sr_model.specs.declared.rule.DomainRule.TheVariants.{ZeroMetric as Zero, DuplicateLink as Twice, TooManyNodes as ManyNodes, TooManyLinks as ManyLinks}
 use Rattle.sr_graph.specs.declared.fault.GraphFault.TheVariants.{ZeroMetric, DuplicateLink, TooManyNodes, TooManyLinks, Memory}
-use Rattle.sr_graph.specs.Draft.{HasZero, IsTwice, NoZero, NoneTwice, IsAccepted, IsRefusal}
+use Rattle.sr_graph.specs.Draft.{HasZero, IsTwice, NoZero, NoneTwice, IsAcceptedDraft, IsRefusal}
 use Rattle.sr_lsdb.specs.declared.facts.Facts.{Facts}
 use Rattle.sr_domain.specs.declared.links.FoundLink.{FoundLink}
 use Rattle.sr_model.specs.declared.name.PairKey.{PairKey}
@@ -27,7 +27,7 @@ module _ (facts : Facts) (m : PairKey → List ℕ) (nodes : List ℕ) (links : 
   few : NoZero drafts → NoneTwice drafts → length nodes ≤ 256 → AreKept facts 8
   few none once le = kept-more facts 7 (ManyNodes 0) refl (none-twice none once) (subst (λ (l : List ℕ). length l ≤ 256) its le)
 
-  pub accepted : IsAccepted nodes drafts → AreKept facts 9
+  pub accepted : IsAcceptedDraft nodes drafts → AreKept facts 9
   accepted a = kept-more facts 8 (ManyLinks 0) refl (few a.metrics a.keys a.few_nodes) (subst (λ n. n ≤ 2048) (length-same m (links_of facts) links drafts moved are) a.few_links)
 
   pub refused : (fault : GraphFault) → IsRefusal nodes drafts fault → IsDomainFault facts (domain_fault fault)

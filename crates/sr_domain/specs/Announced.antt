@@ -99,17 +99,25 @@ adj_label sids = option_or (least (adj_sid_labels false sids)) (least (adj_sid_l
 
 -- what a node announces of a link
 abbrev pub announcement_of : ℕ → ReachPart → Announcement
-announcement_of node reach = record { key = record { from = node; to = reach.neighbour; ident = ident_of reach }; metric = reach.metric; label = adj_label reach.adj; ids = reach.ids }
+announcement_of node reach = record {
+  key = record { from = node; to = reach.neighbour; ident = ident_of reach };
+  metric = reach.metric;
+  label = adj_label reach.adj;
+  ids = reach.ids;
+}
 
 -- an announcement of a pseudonode or of oneself is set aside
 abbrev pub announced_by : ℕ → Part → Option Announcement
-announced_by node (Reach reach) = if (reach.pseudonode == 0) && not (reach.neighbour == node) then Some (announcement_of node reach) else None
+announced_by node (Reach reach) =
+    if (reach.pseudonode == 0) && not (reach.neighbour == node) then Some (announcement_of node reach) else None
 announced_by node _ = None
 
 -- what the live LSPs of present nodes among these announce, in order of LSP id and place
 abbrev pub announced_in : Facts → List (LspId × Stored) → List Announcement
 announced_in facts [] = []
-announced_in facts (entry ∷ entries) = (if counts facts entry.0 then filter_map (announced_by entry.0.system) (parts_of entry.1.live) else []) ++ announced_in facts entries
+announced_in facts (entry ∷ entries) =
+    (if counts facts entry.0 then filter_map (announced_by entry.0.system) (parts_of entry.1.live) else [])
+    ++ announced_in facts entries
 
 -- all announcements of present nodes
 abbrev pub announcements_of : Facts → List Announcement

@@ -3,7 +3,7 @@ use Rattle.std.specs.Prelude.{◌≡◌}
 use Rattle.sr_model.specs.declared.rule.DomainRule.{DomainRule}
 use Rattle.sr_model.specs.Label.{Net}
 use Rattle.sr_lsdb.specs.declared.facts.Facts.{Facts}
-use Rattle.sr_domain.specs.Rules.{IsFirstBroken}
+use Rattle.sr_domain.specs.Rules.{IsFirstBrokenRule}
 use Rattle.sr_domain.specs.Net.{IsNetOf}
 
 -- facts have at most one net
@@ -12,8 +12,9 @@ FactsHaveOneNet = (facts : Facts) (a b : Net) → IsNetOf facts a → IsNetOf fa
 
 -- facts have at most one first broken rule, with one least that breaks it
 abbrev pub FactsHaveOneFault : Type 0
-FactsHaveOneFault = (facts : Facts) (a b : DomainRule) → IsFirstBroken facts a → IsFirstBroken facts b → a ≡ b
+FactsHaveOneFault = (facts : Facts) (a b : DomainRule) → IsFirstBrokenRule facts a → IsFirstBrokenRule facts b → a ≡ b
 
 -- facts that break a rule have no net
 abbrev pub BrokenFactsHaveNoNet : Type 0
-BrokenFactsHaveNoNet = (facts : Facts) (rule : DomainRule) (net : Net) → IsFirstBroken facts rule → IsNetOf facts net → ⊥
+BrokenFactsHaveNoNet =
+    (facts : Facts) (rule : DomainRule) (net : Net) → IsFirstBrokenRule facts rule → IsNetOf facts net → ⊥

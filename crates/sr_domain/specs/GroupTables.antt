@@ -51,7 +51,9 @@ named pair (Some name) = record { pair = pair; name = name } ∷ []
 
 -- the names of an announcement, with its pair
 abbrev pub pair_names : Announcement → List PairName
-pair_names announcement = named (pair_of announcement.key) (numbered_name announcement) ++ named (pair_of announcement.key) (unnumbered_name announcement)
+pair_names announcement =
+    named (pair_of announcement.key) (numbered_name announcement)
+    ++ named (pair_of announcement.key) (unnumbered_name announcement)
 
 -- the names of these announcements, with their pairs
 abbrev pub names_from : List Announcement → List PairName
@@ -104,7 +106,8 @@ pub record IsRiskTable (table : RiskTable) : Type 0 where
 
 -- each pair has by these lists its groups
 abbrev pub GivesGroups : (PairKey → List ℕ) → List Announcement → List RiskNote → Type 0
-GivesGroups groups announcements notes = (pair : PairKey) (g : ℕ) → list_any (same_number g) (groups pair) ≡ is_group_of announcements notes pair g
+GivesGroups groups announcements notes =
+    (pair : PairKey) (g : ℕ) → list_any (same_number g) (groups pair) ≡ is_group_of announcements notes pair g
 
 -- the link as a graph takes it, with the groups of its pair
 abbrev pub draft_link : (PairKey → List ℕ) → FoundLink → DraftLink

@@ -41,11 +41,19 @@ same_number = eq_by_cmp nat_cmp
 
 -- the name by which a shared-risk part of a node speaks of a link (RFC 5307, 1.4)
 abbrev pub name_of : ℕ → RiskPart → RiskName
-name_of node risk = record { from = node; to = risk.neighbour; numbered = risk.numbered; local = risk.local; remote = risk.remote }
+name_of node risk = record {
+  from = node;
+  to = risk.neighbour;
+  numbered = risk.numbered;
+  local = risk.local;
+  remote = risk.remote;
+}
 
 -- what the part says: one note a group; a part of a link to a pseudonode says nothing
 abbrev pub notes_by : ℕ → Part → List RiskNote
-notes_by node (Risk risk) = if risk.pseudonode == 0 then map (λ (group : ℕ). record { name = name_of node risk; group = group }) risk.groups else []
+notes_by node (Risk risk) =
+    if risk.pseudonode == 0 then map (λ (group : ℕ). record { name = name_of node risk; group = group }) risk.groups
+    else []
 notes_by node _ = []
 
 -- what the parts say
@@ -56,7 +64,8 @@ notes_from node (part ∷ parts) = notes_by node part ++ notes_from node parts
 -- what the live LSPs of present nodes among these say
 abbrev pub notes_in : Facts → List (LspId × Stored) → List RiskNote
 notes_in facts [] = []
-notes_in facts (entry ∷ entries) = (if counts facts entry.0 then notes_from entry.0.system (parts_of entry.1.live) else []) ++ notes_in facts entries
+notes_in facts (entry ∷ entries) =
+    (if counts facts entry.0 then notes_from entry.0.system (parts_of entry.1.live) else []) ++ notes_in facts entries
 
 -- what all present nodes say
 abbrev pub notes_of : Facts → List RiskNote
@@ -65,13 +74,15 @@ notes_of facts = notes_in facts facts.database
 -- the name by addresses, of an identity that has them
 abbrev pub address_name : LinkKey → Ident → Option RiskName
 address_name key NoIdent = None
-address_name key (Addr local remote) = Some (record { from = key.from; to = key.to; numbered = true; local = local; remote = remote })
+address_name key (Addr local remote) =
+    Some (record { from = key.from; to = key.to; numbered = true; local = local; remote = remote })
 address_name key (Link local remote) = None
 
 -- the name by link identifiers, of a link that has them
 abbrev pub ids_name : LinkKey → Option LinkIds → Option RiskName
 ids_name key None = None
-ids_name key (Some ids) = Some (record { from = key.from; to = key.to; numbered = false; local = ids.local; remote = ids.remote })
+ids_name key (Some ids) =
+    Some (record { from = key.from; to = key.to; numbered = false; local = ids.local; remote = ids.remote })
 
 -- the name of a numbered link
 abbrev pub numbered_name : Announcement → Option RiskName
@@ -88,14 +99,18 @@ is_name name (Some other) = same_name other name
 
 -- the note names the announcement, by its addresses or by its identifiers
 abbrev pub speaks_of : RiskNote → Announcement → Bool
-speaks_of note announcement = is_name note.name (numbered_name announcement) || is_name note.name (unnumbered_name announcement)
+speaks_of note announcement =
+    is_name note.name (numbered_name announcement) || is_name note.name (unnumbered_name announcement)
 
 -- some announcement of the pair is in the group by some note that names it
 abbrev pub is_group_of : List Announcement → List RiskNote → PairKey → ℕ → Bool
-is_group_of announcements notes pair group = list_any (λ (a : Announcement). same_pair pair (pair_of a.key) && list_any (λ (n : RiskNote). same_number group n.group && speaks_of n a) notes) announcements
+is_group_of announcements notes pair group =
+    list_any (λ (a : Announcement). same_pair pair (pair_of a.key)
+    && list_any (λ (n : RiskNote). same_number group n.group && speaks_of n a) notes) announcements
 
 -- the groups of a pair, ascending: those that some note of the facts gives to an announcement of the pair, of either
 -- end
 pub record AreGroupsOf (facts : Facts) (pair : PairKey) (groups : List ℕ) : Type 0 where
   pub ascending : IsStrictlyIncreasing groups
-  pub each : (group : ℕ) → list_any (same_number group) groups ≡ is_group_of (announcements_of facts) (notes_of facts) pair group
+  pub each : (group : ℕ)
+      → list_any (same_number group) groups ≡ is_group_of (announcements_of facts) (notes_of facts) pair group

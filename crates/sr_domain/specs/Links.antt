@@ -24,11 +24,16 @@ effective_metric facts announcement = unwrap_or (metric_at facts.costs announcem
 -- neither the maximum metric (RFC 5305, 3: it isn't considered in the computation) nor a pair that is down
 abbrev pub is_in_use : Facts → Announcement → Bool
 is_in_use facts announcement =
-    not (effective_metric facts announcement == MAXIMUM_METRIC) && not (is_down facts.downs (pair_of announcement.key))
+    not (effective_metric facts announcement == MAXIMUM_METRIC)
+    && not (is_down facts.downs (pair_of announcement.key))
 
 -- the link of an announcement
 abbrev pub link_of : Facts → Announcement → FoundLink
-link_of facts announcement = record { key = announcement.key; metric = effective_metric facts announcement; label = announcement.label }
+link_of facts announcement = record {
+  key = announcement.key;
+  metric = effective_metric facts announcement;
+  label = announcement.label;
+}
 
 -- the same where it is in use
 abbrev pub link_by : Facts → Announcement → Option FoundLink
@@ -45,7 +50,8 @@ place_in (first ∷ nodes) node = if first == node then 0 else place_in nodes no
 
 -- the adjacency label of a link, with the place of the node at which it begins
 abbrev pub adj_label_by : List ℕ → FoundLink → Option AdjLabel
-adj_label_by nodes link = option_map (λ (label : ℕ). record { node = place_in nodes link.key.from; label = label }) link.label
+adj_label_by nodes link =
+    option_map (λ (label : ℕ). record { node = place_in nodes link.key.from; label = label }) link.label
 
 -- the adjacency labels of the links, with repeats
 abbrev pub found_adj_labels : Facts → List AdjLabel
@@ -55,7 +61,8 @@ found_adj_labels facts = filter_map (adj_label_by (nodes_of facts)) (links_of fa
 abbrev pub labelled : List Link → List (Option ℕ) → List FoundLink
 labelled [] labels = []
 labelled (link ∷ links) [] = []
-labelled (link ∷ links) (label ∷ labels) = record { key = link.key; metric = link.metric; label = label } ∷ labelled links labels
+labelled (link ∷ links) (label ∷ labels) =
+    record { key = link.key; metric = link.metric; label = label } ∷ labelled links labels
 
 -- the key of a link
 abbrev pub link_key : FoundLink → LinkKey
@@ -63,7 +70,9 @@ link_key link = link.key
 
 -- the key of each link is below that of the next
 abbrev pub KeysAscend : List FoundLink → Type 0
-KeysAscend links = (k : ℕ) (d : FoundLink) → k + 1 < length links → key_cmp (slice_index_or links k d).key (slice_index_or links (k + 1) d).key ≡ Less
+KeysAscend links =
+    (k : ℕ) (d : FoundLink) → k + 1 < length links
+    → key_cmp (slice_index_or links k d).key (slice_index_or links (k + 1) d).key ≡ Less
 
 -- the adjacency label of a link
 abbrev pub link_label : FoundLink → Option ℕ

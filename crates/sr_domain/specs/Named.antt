@@ -17,9 +17,12 @@ ArePlacesWithin count (ClashAtPlace label node) = node < count
 
 -- the rule is the same, with the nodes at these places
 abbrev pub Names : List ℕ → LabelRule → DomainRule → Type 0
-Names nodes (ByPlaces index low high) rule = (a : ℕ) × (b : ℕ) × (rule ≡ DuplicateIndex index a b) × (slice_get nodes low ≡ Some a) × (slice_get nodes high ≡ Some b)
+Names nodes (ByPlaces index low high) rule =
+    (a : ℕ) × (b : ℕ) × (rule ≡ DuplicateIndex index a b) × (slice_get nodes low ≡ Some a)
+    × (slice_get nodes high ≡ Some b)
 Names nodes (AtPlace index node) rule = (a : ℕ) × (rule ≡ IndexOutside index a) × (slice_get nodes node ≡ Some a)
-Names nodes (ClashAtPlace label node) rule = (a : ℕ) × (rule ≡ AdjLabelClash label a) × (slice_get nodes node ≡ Some a)
+Names nodes (ClashAtPlace label node) rule =
+    (a : ℕ) × (rule ≡ AdjLabelClash label a) × (slice_get nodes node ≡ Some a)
 
 -- why a graph is refused, as a rule of the profile
 abbrev pub domain_fault : GraphFault → DomainFault

@@ -22,6 +22,7 @@ pub record IsNetOf (facts : Facts) (net : Net) : Type 0 where
   pub overloaded : net.graph.overloaded ≡ []
   pub labels : net.labels ≡ all_labels facts
   pub links : IsPermutation (links_of facts) (labelled net.graph.links net.adj)
-  pub groups : (l : ℕ) → l < link_count net.graph → AreGroupsOf facts (pair_of (link_at net.graph l).key) (groups_at net.graph l)
+  pub groups : (l : ℕ) → l < link_count net.graph
+      → AreGroupsOf facts (pair_of (link_at net.graph l).key) (groups_at net.graph l)
   pub announced : AreKeysOf (two_way_of facts) net.announced
   pub depth : net.depth ≡ facts.depth

@@ -22,7 +22,8 @@ use Rattle.sr_domain.specs.declared.nodes.NodeSid.{NodeSid}
 
 -- the node of a live LSP with pseudonode 0 and fragment 0
 abbrev pub node_by : (LspId × Stored) → Option ℕ
-node_by entry = if (entry.0.pseudonode == 0) && (entry.0.fragment == 0) && is_some entry.1.live then Some entry.0.system else None
+node_by entry =
+    if (entry.0.pseudonode == 0) && (entry.0.fragment == 0) && is_some entry.1.live then Some entry.0.system else None
 
 -- the present nodes, in order of LSP id, which is that of system ids
 abbrev pub nodes_of : Facts → List ℕ
@@ -126,7 +127,13 @@ index_of sid = option_map (λ (s : NodeSid). s.index) sid
 
 -- what a node with these ranges and this index announces; maximum SID depths (MSD) aren't taken
 abbrev pub labels_with : List Range → Option NodeSid → Labels
-labels_with ranges sid = record { srgb = ranges; index = index_of sid; keep = keeps sid; explicit = keeps_explicit sid; imposes = None }
+labels_with ranges sid = record {
+  srgb = ranges;
+  index = index_of sid;
+  keep = keeps sid;
+  explicit = keeps_explicit sid;
+  imposes = None;
+}
 
 -- the label ranges of a node, or none
 abbrev pub ranges_of : Facts → ℕ → List Range

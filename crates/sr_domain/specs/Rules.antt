@@ -10,7 +10,7 @@ use Rattle.sr_model.specs.Label.{IsSrgb}
 use Rattle.sr_model.specs.Rule.{IsLeastDuplicate, IsLeastOutside, IsLeastClash, NoDuplicate, NoOutside, NoAdjClash}
 use Rattle.sr_graph.specs.Draft.{AreLeast}
 use Rattle.sr_lsdb.specs.declared.facts.Facts.{Facts}
-use Rattle.sr_domain.specs.declared.limits.TheConstants.{MOST_LINKS, MOST_NODES}
+use Rattle.sr_model.specs.declared.link.TheConstants.{MOST_LINKS, MOST_NODES}
 use Rattle.sr_domain.specs.declared.links.FoundLink.{FoundLink}
 use Rattle.sr_domain.specs.declared.fault.DomainFault.{DomainFault}
 use Rattle.sr_domain.specs.declared.fault.DomainFault.TheVariants.{Rule, Memory}
@@ -115,16 +115,16 @@ Keeps facts (TooManyNodes count) = length (nodes_of facts) ≤ MOST_NODES
 Keeps facts (TooManyLinks count) = length (links_of facts) ≤ MOST_LINKS
 Keeps facts (Overload node) = HoldsNowhere (nodes_of facts) (IsOverloaded facts)
 
--- that many of the ten rules are kept, the first ones
+-- the first `count` of the ten rules are kept
 abbrev pub AreKept : Facts → ℕ → Type 0
 AreKept facts count = (rule : DomainRule) → rank rule < count → Keeps facts rule
 
 -- the rule is broken, and all earlier ones are kept
-pub record IsFirstBroken (facts : Facts) (rule : DomainRule) : Type 0 where
+pub record IsFirstBrokenRule (facts : Facts) (rule : DomainRule) : Type 0 where
   pub broken : IsRuleBroken facts rule
   pub earlier : AreKept facts (rank rule)
 
--- why the facts give no net: the first broken rule; memory may be wanting at any time
+-- why the facts give no net: the first broken rule; memory may run out at any time
 abbrev pub IsDomainFault : Facts → DomainFault → Type 0
-IsDomainFault facts (Rule rule) = IsFirstBroken facts rule
+IsDomainFault facts (Rule rule) = IsFirstBrokenRule facts rule
 IsDomainFault facts (Memory fault) = Unit {0}

@@ -3,10 +3,9 @@ ghost use Rattle.std.specs.Prelude.{◌≡◌, ◌++◌, IfOk, OnOk};
 ghost use Rattle.std.specs.List.{filter_map};
 ghost use Rattle.sr_domain.specs.Announced.{first_id, is_present as is_present_in, ident_by_ids, ident_of, adj_sid_label, adj_label, least, adj_sid_labels, lesser, announced_by, announcements_of};
 
-use crate::limits::MOST_LINKS;
 use sr_lsdb::Facts;
 use sr_lsp::{LspId, Part, Reach};
-use sr_model::{Ident, LinkKey, SystemId};
+use sr_model::{Ident, LinkKey, MOST_LINKS, SystemId};
 use sr_subtlv::{AdjSid, LinkIds, Sid};
 use sr_wire::registry::{ADJ_SID_BACKUP, ADJ_SID_IPV6, ADJ_SID_SET};
 use std::alloc::{AllocError, Global};
@@ -156,7 +155,8 @@ fn add_announced(
     parts: &[Part],
     out: &mut Vec<Announcement>,
 ) -> Result<(), AllocError>
-    ensures { OnOk result (out.new.items ≡ out.old.items ++ filter_map (announced_by node) parts.now) }
+    ensures { OnOk result
+        (out.new.items ≡ out.old.items ++ filter_map (announced_by node) parts.now) }
 {
     for part in parts {
         match announced_by(node, part) {

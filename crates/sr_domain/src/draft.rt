@@ -6,17 +6,17 @@ ghost use Rattle.sr_graph.specs.declared.draft.DraftLink.{DraftLink as Drafted};
 ghost use Rattle.sr_domain.specs.Announced.{announcements_of};
 ghost use Rattle.sr_domain.specs.Groups.{notes_of};
 ghost use Rattle.sr_domain.specs.GroupTables.{GivesGroups, IsRiskTable, draft_link, groups_in};
-ghost use Rattle.sr_domain.specs.declared.limits.TheConstants.{MOST_LINKS};
+ghost use Rattle.sr_model.specs.declared.link.TheConstants.{MOST_LINKS};
 ghost use Rattle.sr_domain.specs.Links.{KeysAscend, link_key, link_label};
 
 use crate::announced::Announcement;
 use crate::groups::{RiskTable, by_name, groups_of};
-use crate::limits::MOST_LINKS;
 use crate::links::FoundLink;
 use crate::names::names_of;
 use crate::risks::notes;
 use sr_graph::DraftLink;
 use sr_lsdb::Facts;
+use sr_model::MOST_LINKS;
 use sr_seq::Seq;
 use std::alloc::{AllocError, Global};
 use std::cmp::Ordering;
@@ -96,7 +96,8 @@ pub(crate) fn draft_links(
 ) -> Result<Vec<DraftLink>, AllocError>
     requires { IsRiskTable table.now }
     ensures links { IfOk result (λ v. v.items ≡ map (draft_link (groups_in table.now)) links.now) }
-    ensures groups { IfOk result (λ v. All (λ (d : Drafted). IsStrictlyIncreasing d.groups) v.items) }
+    ensures groups { IfOk result
+        (λ v. All (λ (d : Drafted). IsStrictlyIncreasing d.groups) v.items) }
 {
     let mut out = Vec::with_capacity(alloc, links.len())?;
     for link in links {

@@ -21,7 +21,7 @@ pub(crate) struct Gathered {
 }
 
 /// What there is to gather of the facts.
-pub(crate) fn gather(alloc: Global, facts: &Facts) -> Result<Gathered, AllocError>
+pub(crate) fn gather_facts(alloc: Global, facts: &Facts) -> Result<Gathered, AllocError>
     requires { AreInRange facts.now }
     ensures { IfOk result (AreGathered facts.now) }
 {

@@ -9,7 +9,6 @@ mod gathered;
 mod groups;
 mod labels;
 mod laws;
-mod limits;
 mod links;
 mod names;
 mod net;

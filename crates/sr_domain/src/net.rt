@@ -10,7 +10,7 @@ use crate::announced::Announcement;
 use crate::clash::check_labels;
 use crate::draft::{label_list, risk_table, sort_links};
 use crate::fault::DomainFault;
-use crate::gathered::{Gathered, gather};
+use crate::gathered::{Gathered, gather_facts};
 use crate::labels::node_labels;
 use crate::links::FoundLink;
 use crate::overload::first_overloaded;
@@ -76,7 +76,7 @@ pub fn net_of(alloc: Global, facts: &Facts) -> Result<Net, DomainFault>
     ensures net { IfOk result (IsNetOf facts.now) }
     ensures fault { IfErr result (IsDomainFault facts.now) }
 {
-    let gathered = gather(alloc, facts)?;
+    let gathered = gather_facts(alloc, facts)?;
     let labels = node_labels(alloc, facts, &gathered.nodes)?;
     check_labels(alloc, facts, &gathered.nodes, &labels, &gathered.links)?;
     net_with(alloc, facts, gathered, labels)

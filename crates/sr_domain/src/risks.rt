@@ -3,10 +3,9 @@ ghost use Rattle.std.specs.Prelude.{◌≡◌, ℕ, ◌++◌, map, IfOk, OnOk};
 ghost use Rattle.sr_domain.specs.Groups.{notes_by, notes_from, notes_of, numbered_name, unnumbered_name};
 
 use crate::announced::{Announcement, is_present};
-use crate::limits::MOST_LINKS;
 use sr_lsdb::Facts;
 use sr_lsp::Part;
-use sr_model::{Ident, SystemId};
+use sr_model::{Ident, MOST_LINKS, SystemId};
 use std::alloc::{AllocError, Global};
 
 /// A link as a node names it where it speaks of risks: by addresses where it is numbered, else by link identifiers

@@ -2,7 +2,7 @@
 use Rattle.std.proofs.Common.{◌≡◌, ℕ, ◌+◌, ◌<◌, ◌≤◌, ⊎_elim, List, [], ◌∷◌, ◌++◌, length, get_or, take, map, All, refl, arith, ap, sym, ◌∙◌, subst, zero, suc, append_assoc, append-nil, Some, None}
 use Rattle.std.proofs.lemmas.Bool.{cases_lt}
 use Rattle.std.specs.Prelude.{slice_get, option_map}
-use Rattle.std.proofs.lemmas.Option.{slice_get_within, slice_get-map, slice_get-get_or, get_or_from_slice_get}
+use Rattle.std.proofs.lemmas.Option.{slice_get_within, slice_get-map, slice_get-get_or, get_or_from_slice_get, same_Some}
 use Rattle.std.proofs.lemmas.List.{map-append, take_more, length-map}
 use Rattle.std.proofs.lemmas.List.Elements.{All-nil, All-push, All-get_or}
 use Rattle.sr_model.specs.declared.link.LinkNo.{LinkNo}
@@ -13,9 +13,6 @@ use Rattle.sr_model.specs.Label.{Net, labels_at}
 use Rattle.sr_model.specs.Table.{IsOut}
 use Rattle.sr_spf.specs.Hops.{AreNextHops}
 use Rattle.sr_fib.specs.Tables.{AreAdded}
-
-some_inj : {A : Type 0} {a b : A} → Some a ≡ Some b → a ≡ b
-some_inj e = cc
 
 -- the link of a hop
 abbrev pub link_of : LinkNo × Out → LinkNo
@@ -101,7 +98,7 @@ hops-added n u b ls old new graph are h =
             let within : at.0 < length ls = slice_get_within ls at.0 at.1 at.2 in
             let x : LinkNo × Out = get_or h.added at.0 (at.1, Pop) in
             let is : slice_get h.added at.0 ≡ Some x = slice_get-get_or h.added at.0 (at.1, Pop) (omega arith) in
-            let same : x.0 ≡ at.1 = some_inj (sym (read at.0 x is) ∙ at.2) in
+            let same : x.0 ≡ at.1 = same_Some _ _ (sym (read at.0 x is) ∙ at.2) in
             (at.0, x, is, ap (λ (k : LinkNo). k.0) same ∙ at.3);
       };
     }

@@ -14,9 +14,6 @@ use Rattle.sr_fib.specs.declared.sorted.LabelledLink.{LabelledLink}
 use Rattle.sr_fib.specs.Sorted.{node_entry, link_entry, HaveOwnIndices, HaveOwnLabels}
 use Rattle.sr_fib.specs.Tables.{AreIndices, AreAdjacencies}
 
-some_inj : {A : Type 0} {a b : A} → Some a ≡ Some b → a ≡ b
-some_inj e = cc
-
 -- the list has the numbers from `first` to below m that have a value, with it, ascending
 pub record AreListed {X : Type 0} (default : X) (number value : X → ℕ) (has : ℕ → Option ℕ) (list : List X) (first m : ℕ) : Type 0 where
   pub each : (i : ℕ) → i < length list → (first ≤ number (get_or list i default)) × (number (get_or list i default) < m) × (has (number (get_or list i default)) ≡ Some (value (get_or list i default)))

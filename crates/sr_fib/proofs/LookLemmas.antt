@@ -1,6 +1,6 @@
 -- What the tables of a net say of a label.
 use Rattle.std.proofs.Common.{◌≡◌, ◌≢◌, ℕ, ◌<◌, ⊎_elim, List, [], length, arith, sym, ap, ◌∙◌, subst, Option, Some, None}
-use Rattle.std.proofs.lemmas.Option.{slice_get_past}
+use Rattle.std.proofs.lemmas.Option.{slice_get_past, same_Some}
 use Rattle.std.specs.Prelude.{slice_get, MatchOption}
 use Rattle.sr_model.specs.declared.link.LinkNo.{LinkNo}
 use Rattle.sr_model.specs.declared.link.NodeNo.{NodeNo}
@@ -15,10 +15,7 @@ use Rattle.sr_model.specs.Table.{AreHops, HasNoStep}
 use Rattle.sr_laws.proofs.Delivery.{same_node, not_null, not_adj}
 use Rattle.sr_fib.specs.Sorted.{node_entry, HasNode, NoNode, NoLink}
 use Rattle.sr_fib.specs.Entries.{IsNodeOf}
-use Rattle.sr_fib.specs.Tables.{Tables, NodeTable, table_count, table_at, hops_to, IsTable, IsFib}
-
-some_inj : {A : Type 0} {a b : A} → Some a ≡ Some b → a ≡ b
-some_inj e = cc
+use Rattle.sr_fib.specs.Tables.{Tables, NodeTable, table_count, table_at, table_hops, IsTable, IsFib}
 
 no_hop : (n : Net) (u b : ℕ) (hops : List (LinkNo × Out)) → length hops ≡ 0 → AreHops n u b hops → (l : ℕ) → IsNextHop n.graph [] u b l → ⊥
 no_hop n u b hops none are l hop =
@@ -55,7 +52,7 @@ module _ (n : Net) (r : IsNet n) (f : Tables) (are : IsFib n f) (u t : ℕ) (wit
       let same : is.0 ≡ i = r.own_label u is.0 i t is.3 (sym (at-index i) ∙ index) in
       let at = are.indices.all b is.0 is.1 is.2 in
       let e = are.indices.each at.0 at.1 in
-      none at.0 at.1 (some_inj (sym e.1 ∙ ap (λ k. (labels_at n k).index) at.2 ∙ is.2) ∙ same)
+      none at.0 at.1 (same_Some _ _ (sym e.1 ∙ ap (λ k. (labels_at n k).index) at.2 ∙ is.2) ∙ same)
   owner-at i (Some b) index has =
       let e = are.indices.each has.0 has.1 in
       let same : (node_entry f.indices has.0).node ≡ b = has.3 in
@@ -68,7 +65,7 @@ module _ (n : Net) (r : IsNet n) (f : Tables) (are : IsFib n f) (u t : ℕ) (wit
   owner-outside index b is = index is.0 (at-index is.0 ∙ is.3)
 
   -- the label of another node leads to its hops
-  pub hops-entry : (b : NodeNo) (hops : List (LinkNo × Out)) → IsLabel n u b.0 t → b.0 ≢ u → hops ≡ hops_to table b.0 → AreHops n u b.0 hops
+  pub hops-entry : (b : NodeNo) (hops : List (LinkNo × Out)) → IsLabel n u b.0 t → b.0 ≢ u → hops ≡ table_hops table b.0 → AreHops n u b.0 hops
   hops-entry b hops is ne same = subst (λ hs. AreHops n u b.0 hs) (sym same) (is-table.hops b.0 is.0 is.1 ne is.2)
 
   -- a label that isn't explicit null, no node's and no adjacency's does nothing
@@ -78,6 +75,6 @@ module _ (n : Net) (r : IsNet n) (f : Tables) (are : IsFib n f) (u t : ℕ) (wit
       (λ is.
       let at = is-table.adjacencies.all l.0 t s.0 s.2 is.0 in
       let e = is-table.adjacencies.each at.0 at.1 in
-      missing at.0 at.1 (some_inj (sym e.2 ∙ ap (adj_at n) at.2 ∙ is.0)))
+      missing at.0 at.1 (same_Some _ _ (sym e.2 ∙ ap (adj_at n) at.2 ∙ is.0)))
       (λ node. none node.0 node.1)
       s.4

@@ -31,15 +31,17 @@ HaveOwnLabels list = (i j : ℕ) → i < j → j < length list → (link_entry l
 
 -- the node stands in the list with the index
 abbrev pub HasNode : List IndexedNode → ℕ → NodeNo → Type 0
-HasNode list index node = (i : ℕ) × (i < length list) × ((node_entry list i).index ≡ index) × ((node_entry list i).node ≡ node)
+HasNode list index node =
+    (i : ℕ) × (i < length list) × ((node_entry list i).index ≡ index) × ((node_entry list i).node ≡ node)
 
 -- the index is no node's in the list
 abbrev pub NoNode : List IndexedNode → ℕ → Type 0
 NoNode list index = (i : ℕ) → i < length list → (node_entry list i).index ≢ index
 
 -- the link stands in the list with the label
-abbrev pub HasLink : List LabelledLink → ℕ → LinkNo → Type 0
-HasLink list label link = (i : ℕ) × (i < length list) × ((link_entry list i).label ≡ label) × ((link_entry list i).link ≡ link)
+abbrev pub HasLinkUnder : List LabelledLink → ℕ → LinkNo → Type 0
+HasLinkUnder list label link =
+    (i : ℕ) × (i < length list) × ((link_entry list i).label ≡ label) × ((link_entry list i).link ≡ link)
 
 -- the label is no link's in the list
 abbrev pub NoLink : List LabelledLink → ℕ → Type 0

@@ -92,7 +92,8 @@ pub(crate) fn crossings_from(
 ) -> Result<Crossings, AllocError>
     requires trees { AreTrees net.now.graph trees.now }
     requires from { from.0 < node_count net.now.graph }
-    ensures { IfOk result (λ made. AreCrossings net.now from.0 made.starts.items made.hops.items (node_count net.now.graph)) }
+    ensures { IfOk result (λ made.
+        AreCrossings net.now from.0 made.starts.items made.hops.items (node_count net.now.graph)) }
 {
     let count = net.graph().node_count();
     let mut starts = Vec::with_capacity(alloc, count as usize + 1)?;

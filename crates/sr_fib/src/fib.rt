@@ -84,7 +84,8 @@ impl Fib {
     fn towards(&self, node: NodeNo, end: NodeNo) -> Option<Entry<'_>>
         requires node { node.0 < table_count self.now }
         requires end { end.0 < table_count self.now }
-        ensures { (n : Labelled) (label : ℕ) → IsNet n → IsFib n self.now → IsLabel n node.0 end.0 label → IsLookup n node.0 label (found_of result) }
+        ensures { (n : Labelled) (label : ℕ) → IsNet n → IsFib n self.now → IsLabel n node.0 end.0 label
+            → IsLookup n node.0 label (found_of result) }
     {
         if end.0 == node.0 {
             return Some(Entry::Own);

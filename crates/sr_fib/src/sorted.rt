@@ -1,6 +1,6 @@
 //! Nodes in order of index, and links in order of label.
 ghost use Rattle.std.specs.Prelude.{MatchOption, IsPermutation};
-ghost use Rattle.sr_fib.specs.Sorted.{AscendByIndex, AscendByLabel, HaveOwnIndices, HaveOwnLabels, HasNode, NoNode, HasLink, NoLink};
+ghost use Rattle.sr_fib.specs.Sorted.{AscendByIndex, AscendByLabel, HaveOwnIndices, HaveOwnLabels, HasNode, NoNode, HasLinkUnder, NoLink};
 
 use sr_model::{LinkNo, NodeNo};
 
@@ -32,7 +32,7 @@ pub(crate) fn node_of_index(list: &[IndexedNode], index: u32) -> Option<NodeNo>
 /// The link that has the label.
 pub(crate) fn link_of_label(list: &[LabelledLink], label: u32) -> Option<LinkNo>
     requires { AscendByLabel list.now }
-    ensures { MatchOption result (NoLink list.now label) (HasLink list.now label) }
+    ensures { MatchOption result (NoLink list.now label) (HasLinkUnder list.now label) }
 {
     match list.binary_search_by_key(&label, |entry| entry.label) {
         Ok(place) => Some(list[place].link),

@@ -1,10 +1,10 @@
 //! The label table of one node.
 ghost use Rattle.std.specs.Prelude.{◌≡◌, ◌+◌, ◌<◌, length, IfOk, MatchOption};
 ghost use Rattle.sr_model.specs.Label.{IsIndexOf};
-ghost use Rattle.sr_fib.specs.Sorted.{HasLink, NoLink};
+ghost use Rattle.sr_fib.specs.Sorted.{HasLinkUnder, NoLink};
 ghost use Rattle.sr_model.specs.Graph.{node_count};
 ghost use Rattle.sr_spf.specs.Trees.{AreTrees};
-ghost use Rattle.sr_fib.specs.Tables.{NodeTable, IsTable, hops_to};
+ghost use Rattle.sr_fib.specs.Tables.{NodeTable, IsTable, table_hops};
 
 use crate::crossings::{Crossings, crossings_from};
 use crate::listed::adjacencies;
@@ -32,7 +32,8 @@ impl Model for Table {
 
     ghost view = { λ a. record { srgb = a.srgb; adj = a.adj.items; starts = a.starts.items; hops = a.hops.items } };
 
-    ghost invariant = { λ a. IsOrdered (record { srgb = a.srgb; adj = a.adj.items; starts = a.starts.items; hops = a.hops.items }) };
+    ghost invariant = { λ a. IsOrdered
+        (record { srgb = a.srgb; adj = a.adj.items; starts = a.starts.items; hops = a.hops.items }) };
 }
 
 impl Table {
@@ -68,7 +69,7 @@ impl Table {
 
     /// The link of the node that has the label.
     pub(crate) fn link(&self, label: u32) -> Option<LinkNo>
-        ensures { MatchOption result (NoLink self.now.adj label) (HasLink self.now.adj label) }
+        ensures { MatchOption result (NoLink self.now.adj label) (HasLinkUnder self.now.adj label) }
     {
         link_of_label(&self.adj, label)
     }
@@ -76,7 +77,7 @@ impl Table {
     /// The next hops towards the node.
     pub(crate) fn towards(&self, node: NodeNo) -> &[(LinkNo, Out)]
         requires { node.0 + 1 < length self.now.starts }
-        ensures { result.now ≡ hops_to self.now node.0 }
+        ensures { result.now ≡ table_hops self.now node.0 }
     {
         let from = self.starts[node.0 as usize] as usize;
         let end = self.starts[node.0 as usize + 1] as usize;

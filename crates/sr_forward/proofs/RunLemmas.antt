@@ -14,7 +14,7 @@ use Rattle.sr_laws.proofs.Arrivals.{packet-arrives, sound-arrives}
 use Rattle.sr_fib.specs.Entries.{numbers}
 use Rattle.sr_forward.specs.Runs.{IsMove, PacketArrives, RepairArrives}
 
--- the packet took so many steps by the choice number, crossed these links, and is at node v with the stack `after`
+-- the packet took `turn` steps by the choice number, crossed these links, and is at node v with the stack `after`
 pub record IsUnderWay (n : Net) (closed : List Bool) (choice u : ℕ) (stack : List ℕ) (turn : ℕ) (links : List ℕ) (v : ℕ) (after : List ℕ) : Type 0 where
   pub moves : List Move
   pub run : RunBy n closed choice u stack moves v after

@@ -9,14 +9,14 @@ use Rattle.sr_model.specs.Forward.{Step, StepBy}
 use Rattle.sr_model.specs.Table.{leaves}
 
 -- the node after a move from u: u itself, or the end of the link that is crossed
-abbrev pub end_of : Net → ℕ → Move → ℕ
-end_of n u Popped = u
-end_of n u (Crossed l) = head n.graph l.0
+abbrev pub node_after : Net → ℕ → Move → ℕ
+node_after n u Popped = u
+node_after n u (Crossed l) = head n.graph l.0
 
 -- with this label on top, over any rest, the step of the choice number is this move, and it leaves the label so
 abbrev pub IsAction : Net → List Bool → ℕ → ℕ → ℕ → Move × Out → Type 0
 IsAction n closed choice u label a =
-    (rest : List ℕ) → StepBy n closed choice u (label ∷ rest) a.0 (end_of n u a.0) (leaves a.1 rest)
+    (rest : List ℕ) → StepBy n closed choice u (label ∷ rest) a.0 (node_after n u a.0) (leaves a.1 rest)
 
 -- with this label on top no step is lawful
 abbrev pub HasNoAction : Net → List Bool → ℕ → ℕ → Type 0

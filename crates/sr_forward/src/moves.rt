@@ -4,7 +4,7 @@ ghost use Rattle.sr_model.specs.Graph.{node_count};
 ghost use Rattle.sr_model.specs.Forward.{Step, StepBy};
 ghost use Rattle.sr_model.specs.Table.{leaves};
 ghost use Rattle.sr_fib.specs.Tables.{IsFib};
-ghost use Rattle.sr_forward.specs.Steps.{end_of, IsAction, HasNoAction};
+ghost use Rattle.sr_forward.specs.Steps.{node_after, IsAction, HasNoAction};
 
 use crate::hops::chosen;
 use sr_fib::{Entry, Fib};
@@ -79,7 +79,7 @@ pub fn step(
     requires fib { IsFib net.now fib.now }
     requires node { node.0 < node_count net.now.graph }
     ensures step { IfSome result (λ m. StepBy net.now closed.now choice node.0
-        (reverse stack.old.items) m (end_of net.now node.0 m) (reverse stack.new.items)) }
+        (reverse stack.old.items) m (node_after net.now node.0 m) (reverse stack.new.items)) }
     ensures none { IfNone result ((m : Move) (v : ℕ) (after : List ℕ) →
         Step net.now closed.now node.0 (reverse stack.old.items) m v after → ⊥) }
     ensures stays { IfNone result (stack.new.items ≡ stack.old.items) }

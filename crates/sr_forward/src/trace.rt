@@ -1,7 +1,7 @@
-//! What a walk of a packet came to.
+//! Where a packet's walk ended.
 use sr_model::{LinkNo, NodeNo};
 
-/// Where a packet came to, by which links, and with what on its stack.
+/// The node that a packet reached, by which links, and with what on its stack.
 #[derive(Debug, Drop)]
 pub struct Walk {
     /// The links that it crossed, in order.

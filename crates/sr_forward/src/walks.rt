@@ -4,7 +4,7 @@ ghost use Rattle.sr_model.specs.declared.link.LinkNo.{LinkNo as Number};
 ghost use Rattle.sr_model.specs.Graph.{node_count, link_count};
 ghost use Rattle.sr_model.specs.Forward.{crossed, IsWalked};
 ghost use Rattle.sr_fib.specs.Tables.{IsFib};
-ghost use Rattle.sr_forward.specs.Steps.{end_of};
+ghost use Rattle.sr_forward.specs.Steps.{node_after};
 ghost use Rattle.sr_fib.specs.Entries.{numbers};
 ghost use Rattle.sr_forward.specs.Runs.{IsMove, PacketArrives, RepairArrives};
 
@@ -25,7 +25,7 @@ fn advance(
 ) -> Result<(), AllocError>
     requires end { end.old.0 < node_count net.now.graph }
     requires moved { IsMove net.now moved }
-    ensures end { OnOk result (end.new.0 ≡ end_of net.now end.old.0 moved) }
+    ensures end { OnOk result (end.new.0 ≡ node_after net.now end.old.0 moved) }
     ensures within { OnOk result (end.new.0 < node_count net.now.graph) }
     ensures links { OnOk result
         (numbers links.new.items ≡ numbers links.old.items ++ crossed (moved ∷ [])) }

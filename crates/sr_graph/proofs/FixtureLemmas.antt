@@ -52,6 +52,7 @@ seven k lt = absurd (omega arith)
 nothing : IsStrictlyIncreasing []
 nothing k lt = absurd (omega arith)
 
+-- the link has the groups that the fixture gives to both links of its pair
 abbrev AreShared : DraftLink → Type 0
 AreShared link = link.groups ≡ risks (link.key.from + link.key.to)
 

@@ -19,7 +19,7 @@ use Rattle.sr_graph.specs.declared.draft.DraftLink.{DraftLink}
 use Rattle.sr_graph.specs.declared.draft.Draft.{Draft}
 use Rattle.sr_graph.specs.declared.fault.GraphFault.{GraphFault}
 use Rattle.sr_graph.specs.declared.fault.GraphFault.TheVariants.{ZeroMetric, DuplicateLink, TooManyNodes, TooManyLinks, Memory}
-use Rattle.sr_graph.specs.Draft.{IsDraft, HasEnds, HasZero, IsTwice, AreLeast, NoZero, NoneTwice, AreSorted, IsAccepted, IsRefusal, key_of}
+use Rattle.sr_graph.specs.Draft.{IsDraft, HasEnds, HasZero, IsTwice, AreLeast, NoZero, NoneTwice, AreSorted, IsAcceptedDraft, IsRefusal, key_of}
 use Rattle.sr_graph.specs.declared.edges.Edge.{Edge}
 use Rattle.sr_graph.specs.Numbers.{IsNumbered}
 use Rattle.sr_graph.specs.Edges.{edge_of}
@@ -58,7 +58,7 @@ drafted-numbered nodes (y ∷ ys) (k ∷ ks) a =
     same : record { key = k.key; metric = k.metric; groups = y.groups } ≡ y
     same = ap (λ key. link_made key k.metric y.groups) a.0.key ∙ ap (λ metric. link_made y.key metric y.groups) a.0.metric
 
-module _ (nodes : List ℕ) (ys : List DraftLink) (ks : List Link) (d : IsDraft (draft_of nodes ys)) (accepted : IsAccepted nodes ys) (sorted : AreSorted ys) (numbered : AllZip (IsNumbered nodes) ys ks) where
+module _ (nodes : List ℕ) (ys : List DraftLink) (ks : List Link) (d : IsDraft (draft_of nodes ys)) (accepted : IsAcceptedDraft nodes ys) (sorted : AreSorted ys) (numbered : AllZip (IsNumbered nodes) ys ks) where
   long : length ks ≡ length ys
   long = zip-length (IsNumbered nodes) ys ks numbered
 
@@ -172,7 +172,7 @@ module _ (nodes : List ℕ) (ys : List DraftLink) (ks : List Link) (d : IsDraft 
         sharing = at_sets;
       }
 
-  -- groups are listed for at most so many links
+  -- groups are listed for at most 2,048 links
   pub few_groups : (groups : List (List ℕ)) → groups ≡ map groups_in ys → length groups ≤ 2048
   few_groups groups is = rw (is, length-map) accepted.few_links
 
@@ -226,7 +226,7 @@ module _ (nodes : List ℕ) (xs ys : List DraftLink) (same : IsPermutation xs ys
     is = record { holds = forth l.key l.is.holds; least = λ other q. l.is.least other (backwards other q) };
   }
 
-  pub accepted-moved : IsAccepted nodes ys → IsAccepted nodes xs
+  pub accepted-moved : IsAcceptedDraft nodes ys → IsAcceptedDraft nodes xs
   accepted-moved a = record {
     metrics = no_zero-moved a.metrics;
     keys = none_twice-moved a.keys;

@@ -11,7 +11,7 @@ use Rattle.sr_model.specs.declared.name.LinkKey.{LinkKey}
 use Rattle.sr_model.specs.KeyOrder.{key_cmp}
 use Rattle.sr_model.proofs.KeyOrderLemmas.{key_total}
 use Rattle.sr_graph.specs.declared.draft.DraftLink.{DraftLink}
-use Rattle.sr_graph.specs.Draft.{EndsLe, IsLeast, HasZero, IsTwice, NoZero, NoneTwice, AreSorted, key_of}
+use Rattle.sr_graph.specs.Draft.{EndsLe, IsLeastKey, HasZero, IsTwice, NoZero, NoneTwice, AreSorted, key_of}
 use Rattle.sr_graph.proofs.OrderLemmas.{Up, twice-at, not_below, once-each, up-from_once}
 
 -- what isn't below by the key isn't below by the ends
@@ -29,13 +29,13 @@ ends-le : (a b : LinkKey) → is_lt (key_cmp b a) ≡ false → EndsLe a b
 ends-le a b h = ends_by b.from a.from b.to a.to _ h
 
 -- the first neighbour that isn't above the one before
-pub duplicate-at : (links : List DraftLink) (i : ℕ) (d : DraftLink) → AreSorted links → i < length links → Up key_total key_of links i → 0 < i → key_cmp (get_or links (i - 1) d).key (get_or links i d).key ≢ Less → IsLeast (IsTwice links) (get_or links i d).key
+pub duplicate-at : (links : List DraftLink) (i : ℕ) (d : DraftLink) → AreSorted links → i < length links → Up key_total key_of links i → 0 < i → key_cmp (get_or links (i - 1) d).key (get_or links i d).key ≢ Less → IsLeastKey (IsTwice links) (get_or links i d).key
 duplicate-at links i d sorted within up more differ =
     let t = twice-at key_total key_of links sorted i d within up (i - 1) (omega arith) differ in
     record { holds = t.0; least = λ q two. ends-le (get_or links i d).key q (t.1 q two) }
 
 -- the first link of metric 0
-pub zero-at : (links : List DraftLink) (i : ℕ) (d : DraftLink) → AreSorted links → i < length links → ((k : ℕ) (e : DraftLink) → k < i → (get_or links k e).metric ≢ 0) → (get_or links i d).metric ≡ 0 → IsLeast (HasZero links) (get_or links i d).key
+pub zero-at : (links : List DraftLink) (i : ℕ) (d : DraftLink) → AreSorted links → i < length links → ((k : ℕ) (e : DraftLink) → k < i → (get_or links k e).metric ≢ 0) → (get_or links i d).metric ≡ 0 → IsLeastKey (HasZero links) (get_or links i d).key
 zero-at links i d sorted within none here = record {
   holds = (get_or links i d, Contains-get_or links i d within, refl, here);
   least = λ q zero.
@@ -85,18 +85,18 @@ pub ascend-from_once : (links : List DraftLink) → AreSorted links → NoneTwic
 ascend-from_once links sorted none = record { at = up-from_once key_total key_of links sorted none }
 
 -- the same of elements that were read
-pub zero-read : (links : List DraftLink) (i : ℕ) (x : DraftLink) → AreSorted links → i < length links → x ≡ get_or links i x → ((k : ℕ) (e : DraftLink) → k < i → (get_or links k e).metric ≢ 0) → x.metric ≡ 0 → IsLeast (HasZero links) x.key
+pub zero-read : (links : List DraftLink) (i : ℕ) (x : DraftLink) → AreSorted links → i < length links → x ≡ get_or links i x → ((k : ℕ) (e : DraftLink) → k < i → (get_or links k e).metric ≢ 0) → x.metric ≡ 0 → IsLeastKey (HasZero links) x.key
 zero-read links i x sorted within is none here =
-    let P : DraftLink → Type 0 = λ l. IsLeast (HasZero links) l.key in
+    let P : DraftLink → Type 0 = λ l. IsLeastKey (HasZero links) l.key in
     subst P (sym is) (zero-at links i x sorted within none (ap (λ (l : DraftLink). l.metric) (sym is) ∙ here))
 
 module _ (links : List DraftLink) (i : ℕ) (a b : DraftLink) (within : i < length links) (more : 0 < i) where
   cmp-read : key_cmp (get_or links (i - 1) b).key (get_or links i b).key ≡ key_cmp (get_or links (i - 1) a).key (get_or links i b).key
   cmp-read = ap (λ (l : DraftLink). key_cmp l.key (get_or links i b).key) (get_or_default links (i - 1) b a (omega arith))
 
-  pub duplicate-read : (d : DraftLink) → AreSorted links → AscendBelow links i → (key_cmp (get_or links (i - 1) a).key (get_or links i b).key ≢ Less) → IsLeast (IsTwice links) (get_or links i d).key
+  pub duplicate-read : (d : DraftLink) → AreSorted links → AscendBelow links i → (key_cmp (get_or links (i - 1) a).key (get_or links i b).key ≢ Less) → IsLeastKey (IsTwice links) (get_or links i d).key
   duplicate-read d sorted up differ =
-      let P : DraftLink → Type 0 = λ l. IsLeast (IsTwice links) l.key in
+      let P : DraftLink → Type 0 = λ l. IsLeastKey (IsTwice links) l.key in
       subst P (get_or_default links i b d within) (duplicate-at links i b sorted within up.at more (λ e. differ (sym cmp-read ∙ e)))
 
   pub ascend-read : AscendBelow links i → key_cmp (get_or links (i - 1) a).key (get_or links i b).key ≡ Less → AscendBelow links (i + 1)

@@ -27,6 +27,7 @@ module _ {X K : Type 0} {R : K → K → Ordering} (o : IsTotalOrder R) (key : X
   abbrev pub times : K → List X → ℕ
   times q xs = count_by (λ (x : X). eq_by_cmp R q (key x)) xs
 
+  -- the keys of the first n items ascend
   abbrev pub Up : List X → ℕ → Type 0
   Up xs n = (k : ℕ) (d : X) → k + 1 < n → R (key (get_or xs k d)) (key (get_or xs (k + 1) d)) ≡ Less
 

@@ -15,7 +15,8 @@ use Rattle.sr_graph.specs.Edges.{edge_of}
 abbrev pub drafted : List Link → List (List ℕ) → List DraftLink
 drafted [] groups = []
 drafted (link ∷ links) [] = []
-drafted (link ∷ links) (listed ∷ groups) = record { key = link.key; metric = link.metric; groups = listed } ∷ drafted links groups
+drafted (link ∷ links) (listed ∷ groups) =
+    record { key = link.key; metric = link.metric; groups = listed } ∷ drafted links groups
 
 -- the draft's nodes and links, in order; no node is overloaded
 pub record IsBuilt (draft : Draft) (g : Graph) : Type 0 where
@@ -27,7 +28,8 @@ pub record IsBuilt (draft : Draft) (g : Graph) : Type 0 where
   pub grouped : IsGrouped g
 
 -- what every graph of the program keeps
-pub record IsLaidOut (g : Graph) (listed : List Edge) (places : List ℕ) (lists : List (List LinkNo)) (sets : List (List ℕ)) : Type 0 where
+pub record IsLaidOut (g : Graph) (listed : List Edge) (places : List ℕ) (lists : List (List LinkNo))
+    (sets : List (List ℕ)) : Type 0 where
   pub graph : IsGraph g
   pub named : IsNamed g
   pub grouped : IsGrouped g

@@ -14,7 +14,7 @@ HaveCommon one other = (r : ℕ) × Contains one r × Contains other r
 abbrev pub AddsNothing : Graph → ℕ → ℕ → Type 0
 AddsNothing g p l = ShareGroup g l p → IsSamePair (key_at g l) (key_at g p)
 
--- the case is of kind risk, and fails with the links of the case of kind link that protects the same link
+-- it is an SRLG case, in which the links fail that fail in the link case of the same protected link
 pub record FailsAsLink (g : Graph) (case : Case) : Type 0 where
   pub risk : case.kind ≡ RiskKind
   pub same : (l : ℕ) → l < link_count g → FailsWith g case.kind case.link.0 l ↔ FailsWith g LinkKind case.link.0 l

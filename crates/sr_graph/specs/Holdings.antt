@@ -27,8 +27,10 @@ holder_at list k = (holding_at list k).link.0
 
 -- the list has the groups of the first n links
 pub record AreHoldings (groups : List (List ℕ)) (n : ℕ) (list : List Holding) : Type 0 where
-  pub each : (k : ℕ) → k < length list → (holder_at list k < n) × Contains (slice_index_or groups (holder_at list k) []) (group_at list k)
-  pub all : (l r : ℕ) → l < n → Contains (slice_index_or groups l []) r → (k : ℕ) × (k < length list) × (holder_at list k ≡ l) × (group_at list k ≡ r)
+  pub each : (k : ℕ) → k < length list → (holder_at list k < n)
+      × Contains (slice_index_or groups (holder_at list k) []) (group_at list k)
+  pub all : (l r : ℕ) → l < n → Contains (slice_index_or groups l []) r
+      → (k : ℕ) × (k < length list) × (holder_at list k ≡ l) × (group_at list k ≡ r)
 
 -- from place i to below place j stands the group that stands at place i, and later ones from there on
 pub record IsGroupRun (list : List Holding) (i j : ℕ) : Type 0 where

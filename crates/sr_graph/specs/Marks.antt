@@ -13,4 +13,5 @@ pub record IsMarked (before : Graph) (overloaded : List ℕ) (after : Graph) : T
   pub links : after.links ≡ before.links
   pub groups : after.groups ≡ before.groups
   pub long : length after.overloaded ≡ node_count before
-  pub each : (v : ℕ) → v < node_count before → (is_overloaded after v ≡ true) ↔ Contains overloaded (system_at before v)
+  pub each : (v : ℕ) → v < node_count before → (is_overloaded after v ≡ true)
+      ↔ Contains overloaded (system_at before v)

@@ -6,7 +6,7 @@ use Rattle.sr_model.specs.Graph.{no_link}
 use Rattle.sr_graph.specs.declared.draft.DraftLink.{DraftLink}
 
 -- the system id stands at place n
-pub record IsPlace (systems : List ℕ) (n system : ℕ) : Type 0 where
+pub record IsNodeNumber (systems : List ℕ) (n system : ℕ) : Type 0 where
   pub within : n < length systems
   pub there : slice_index systems n ≡ system
 
@@ -14,9 +14,11 @@ pub record IsPlace (systems : List ℕ) (n system : ℕ) : Type 0 where
 pub record IsNumbered (systems : List ℕ) (drafted : DraftLink) (link : Link) : Type 0 where
   pub key : link.key ≡ drafted.key
   pub metric : link.metric ≡ drafted.metric
-  pub from : IsPlace systems link.from.0 drafted.key.from
-  pub to : IsPlace systems link.to.0 drafted.key.to
+  pub from : IsNodeNumber systems link.from.0 drafted.key.from
+  pub to : IsNodeNumber systems link.to.0 drafted.key.to
 
 -- each key is below those of all later links
 abbrev pub AscendByKey : List Link → Type 0
-AscendByKey links = (k l : ℕ) → k < l → l < length links → KeyLt (slice_index_or links k no_link).key (slice_index_or links l no_link).key
+AscendByKey links =
+    (k l : ℕ) → k < l → l < length links
+    → KeyLt (slice_index_or links k no_link).key (slice_index_or links l no_link).key

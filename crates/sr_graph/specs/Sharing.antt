@@ -9,4 +9,5 @@ set_at sets p = slice_index_or sets p []
 
 -- the set of each link has the links that share a group with it
 pub record AreSharing (groups sets : List (List ℕ)) : Type 0 where
-  pub each : (p l : ℕ) → p < length groups → l < length groups → IsIn (set_at sets p) l ↔ HaveCommon (slice_index_or groups l []) (slice_index_or groups p [])
+  pub each : (p l : ℕ) → p < length groups → l < length groups
+      → IsIn (set_at sets p) l ↔ HaveCommon (slice_index_or groups l []) (slice_index_or groups p [])

@@ -31,7 +31,8 @@ impl Graph {
         requires long { length set.old ≡ link_count self.now }
         requires within { range.end ≤ link_count self.now }
         requires protected { protected.0 < link_count self.now }
-        ensures { OnOk result (IsWidened set.old (λ l. IsInRange range.first range.end l × ShareGroup self.now l protected.0) set.new) }
+        ensures { OnOk result (IsWidened set.old
+            (λ l. IsInRange range.first range.end l × ShareGroup self.now l protected.0) set.new) }
     {
         for link in range.first..range.end {
             if self.shares(LinkNo(link), protected) {
@@ -51,7 +52,8 @@ impl Graph {
         requires long { length set.old ≡ link_count self.now }
         requires within { (i : ℕ) → i < length links.now → number_at links.now i < link_count self.now }
         requires protected { protected.0 < link_count self.now }
-        ensures { OnOk result (IsWidened set.old (λ l. IsListed links.now l × ShareGroup self.now l protected.0) set.new) }
+        ensures { OnOk result (IsWidened set.old
+            (λ l. IsListed links.now l × ShareGroup self.now l protected.0) set.new) }
     {
         for link in links {
             if self.shares(*link, protected) {
@@ -105,10 +107,10 @@ impl Graph {
         Ok(set)
     }
 
-    /// The links that fail in the case (this project's rule): of kind link, the links of the protected pair; of kind
-    /// node, the links that begin or end at its end; of kind risk, the links of the protected pair and of each pair with
-    /// an end at its beginning that shares a group with it. Its memory is a test for each link of the graph, and a
-    /// number for each link that fails.
+    /// The links that fail in the case (this project's rule). In a link case they are the links of the protected
+    /// pair; in a node case the links that begin or end at its end; in an SRLG case the links of the protected pair and
+    /// of each pair with an end at its beginning that shares a group with it. Its memory is a test for each link of the
+    /// graph, and a number for each link that fails.
     pub fn failed(&self, alloc: Global, case: Case) -> Result<LinkSet, AllocError>
         requires { IsCase self.now case }
         ensures { IfOk result (IsFailedSet self.now case) }
@@ -157,8 +159,7 @@ impl Graph {
         true
     }
 
-    /// Whether the case is of kind risk and fails with just the links of the case of kind link that protects the same
-    /// link.
+    /// Whether this is an SRLG case in which just the links fail that fail in the link case of the same protected link.
     pub fn fails_as_link(&self, case: Case) -> bool
         requires { IsCase self.now case }
         ensures { IsTrue result ↔ FailsAsLink self.now case }

@@ -13,6 +13,6 @@ pub enum GraphFault {
     TooManyNodes { count: u64 },
     /// More than 2,048 directed links.
     TooManyLinks { count: u64 },
-    /// Memory is wanting.
+    /// Out of memory.
     Memory(AllocError),
 }

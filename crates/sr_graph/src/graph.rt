@@ -4,7 +4,7 @@ ghost use Rattle.sr_model.specs.declared.link.NodeNo.{NodeNo as Node};
 ghost use Rattle.sr_model.specs.declared.link.LinkNo.{LinkNo as Number};
 ghost use Rattle.sr_model.specs.Graph.{node_count, link_count, link_at, tail, head, metric, system_at, groups_at, is_overloaded, carries, IsGraph, IsNamed, IsGrouped};
 ghost use Rattle.sr_model.specs.Case.{ShareGroup};
-ghost use Rattle.sr_graph.specs.Draft.{IsDraft, AreSorted, IsAccepted, IsRefusal};
+ghost use Rattle.sr_graph.specs.Draft.{IsDraft, AreSorted, IsAcceptedDraft, IsRefusal};
 ghost use Rattle.sr_graph.specs.Built.{IsBuilt};
 ghost use Rattle.sr_graph.specs.Ranges.{HoldsLinks, EndAt};
 
@@ -14,7 +14,7 @@ use crate::fault::GraphFault;
 use crate::incoming::lists_by_end;
 use crate::link_bits::LinkBits;
 use crate::link_set::LinkSet;
-use crate::numbers::{find, number_all, place};
+use crate::numbers::{find, node_number, number_all};
 use crate::order::{refusal, sort};
 use crate::ranges::{LinkRange, starts};
 use crate::sharing::sharing;
@@ -42,9 +42,12 @@ impl Model for Graph {
 
     ghost Value = { Topology };
 
-    ghost view = { λ a. record { systems = a.systems.items; links = a.links.items; groups = a.groups.items; overloaded = a.overloaded.items } };
+    ghost view = { λ a.
+        record { systems = a.systems.items; links = a.links.items; groups = a.groups.items; overloaded = a.overloaded.items } };
 
-    ghost invariant = { λ a. IsLaidOut (record { systems = a.systems.items; links = a.links.items; groups = a.groups.items; overloaded = a.overloaded.items }) a.edges.items a.starts.items a.incoming.items a.sharing.items };
+    ghost invariant = { λ a.
+        IsLaidOut (record { systems = a.systems.items; links = a.links.items; groups = a.groups.items; overloaded = a.overloaded.items })
+        a.edges.items a.starts.items a.incoming.items a.sharing.items };
 }
 
 impl Graph {
@@ -55,7 +58,7 @@ impl Graph {
     pub fn build(alloc: Global, draft: Draft) -> Result<Graph, GraphFault>
         requires { IsDraft draft }
         ensures built { IfOk result (IsBuilt draft) }
-        ensures accepted { IfOk result (λ _. IsAccepted draft.nodes draft.links) }
+        ensures accepted { IfOk result (λ _. IsAcceptedDraft draft.nodes draft.links) }
         ensures refused { IfErr result (IsRefusal draft.nodes draft.links) }
     {
         let Draft { nodes, links } = draft;
@@ -78,7 +81,7 @@ impl Graph {
         links: Vec<DraftLink>,
     ) -> Result<Graph, AllocError>
         requires draft { IsDraft (record { nodes = systems.items; links = links.items }) }
-        requires accepted { IsAccepted systems.items links.items }
+        requires accepted { IsAcceptedDraft systems.items links.items }
         requires sorted { AreSorted links.items }
         ensures { IfOk result (IsBuilt (record { nodes = systems.items; links = links.items })) }
     {
@@ -170,16 +173,18 @@ impl Graph {
 
     /// The node of this system id. None exactly where the graph has none.
     pub fn node(&self, system: SystemId) -> Option<NodeNo>
-        ensures found { IfSome result (λ (node : Node). (node.0 < node_count self.now) × (system_at self.now node.0 ≡ system)) }
+        ensures found { IfSome result (λ (node : Node).
+            (node.0 < node_count self.now) × (system_at self.now node.0 ≡ system)) }
         ensures none { IfNone result ((v : ℕ) → v < node_count self.now → system_at self.now v ≢ system) }
         ensures named { IsNamed self.now }
     {
-        place(&self.systems, system)
+        node_number(&self.systems, system)
     }
 
     /// The link of this key. None exactly where the graph has none.
     pub fn find(&self, key: &LinkKey) -> Option<LinkNo>
-        ensures found { IfSome result (λ (link : Number). (link.0 < link_count self.now) × ((link_at self.now link.0).key ≡ key.now)) }
+        ensures found { IfSome result (λ (link : Number).
+            (link.0 < link_count self.now) × ((link_at self.now link.0).key ≡ key.now)) }
         ensures none { IfNone result ((l : ℕ) → l < link_count self.now → (link_at self.now l).key ≢ key.now) }
         ensures named { IsNamed self.now }
     {

@@ -1,6 +1,7 @@
 //! The links that end at each node.
 ghost use Rattle.std.specs.Prelude.{◌≡◌, ◌<◌, ◌≤◌, [], ℕ, length, replicate, IfOk};
 ghost use Rattle.sr_graph.specs.Ranges.{end_in, AreListedByEnd};
+ghost use Rattle.sr_model.specs.declared.link.TheConstants.{MOST_LINKS};
 
 use crate::edges::Edge;
 use sr_model::LinkNo;
@@ -24,7 +25,7 @@ pub(crate) fn lists_by_end(
     edges: &[Edge],
     nodes: usize,
 ) -> Result<Vec<Seq<LinkNo>>, AllocError>
-    requires few_links { length edges.now ≤ 2048 }
+    requires few_links { length edges.now ≤ MOST_LINKS }
     requires ends { (l : ℕ) → l < length edges.now → end_in edges.now l < nodes }
     ensures { IfOk result (λ lists. AreListedByEnd edges.now (length edges.now) nodes lists.items) }
 {

@@ -38,7 +38,7 @@ impl LinkSet {
         }
     }
 
-    /// The empty set of links of a graph that has so many, with room for some of them.
+    /// The empty set of links of a graph that has `link_count` links, with room for `room` of them.
     pub(crate) fn with_room(
         alloc: Global,
         link_count: usize,

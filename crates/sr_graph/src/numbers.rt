@@ -7,7 +7,8 @@ ghost use Rattle.sr_model.specs.declared.link.LinkNo.{LinkNo as Found};
 ghost use Rattle.sr_model.specs.Graph.{no_link};
 ghost use Rattle.sr_graph.specs.declared.draft.DraftLink.{DraftLink as Drafted};
 ghost use Rattle.sr_graph.specs.Draft.{HasEnds};
-ghost use Rattle.sr_graph.specs.Numbers.{IsPlace, IsNumbered, AscendByKey};
+ghost use Rattle.sr_graph.specs.Numbers.{IsNodeNumber, IsNumbered, AscendByKey};
+ghost use Rattle.sr_model.specs.declared.link.TheConstants.{MOST_LINKS, MOST_NODES};
 
 use crate::draft::DraftLink;
 use sr_model::{Link, LinkKey, LinkNo, NodeNo, SystemId};
@@ -15,10 +16,10 @@ use sr_seq::Seq;
 use std::alloc::{AllocError, Global};
 
 /// The number of the node of this system id, if there is one.
-pub(crate) fn place(systems: &[SystemId], system: SystemId) -> Option<NodeNo>
+pub(crate) fn node_number(systems: &[SystemId], system: SystemId) -> Option<NodeNo>
     requires ascending { IsStrictlyIncreasing systems.now }
-    requires few { length systems.now ≤ 256 }
-    ensures found { IfSome result (λ (node : Number). IsPlace systems.now node.0 system) }
+    requires few { length systems.now ≤ MOST_NODES }
+    ensures found { IfSome result (λ (node : Number). IsNodeNumber systems.now node.0 system) }
     ensures none { IfNone result ((v : ℕ) → v < length systems.now → slice_index systems.now v ≢ system) }
 {
     match systems.binary_search(&system) {
@@ -30,19 +31,19 @@ pub(crate) fn place(systems: &[SystemId], system: SystemId) -> Option<NodeNo>
 /// The number of a node that there is.
 fn number(systems: &[SystemId], system: SystemId) -> NodeNo
     requires ascending { IsStrictlyIncreasing systems.now }
-    requires few { length systems.now ≤ 256 }
+    requires few { length systems.now ≤ MOST_NODES }
     requires there { Contains systems.now system }
-    ensures { IsPlace systems.now result.0 system }
+    ensures { IsNodeNumber systems.now result.0 system }
 {
-    place(systems, system).unwrap()
+    node_number(systems, system).unwrap()
 }
 
 /// The number of a node that there is. It is sought only where it isn't `near`.
 fn number_near(systems: &[SystemId], near: NodeNo, system: SystemId) -> NodeNo
     requires ascending { IsStrictlyIncreasing systems.now }
-    requires few { length systems.now ≤ 256 }
+    requires few { length systems.now ≤ MOST_NODES }
     requires there { Contains systems.now system }
-    ensures { IsPlace systems.now result.0 system }
+    ensures { IsNodeNumber systems.now result.0 system }
 {
     let at = near.0 as usize;
     if at < systems.len() && systems[at] == system {
@@ -62,9 +63,10 @@ fn place_of(links: &[Link], key: &LinkKey) -> usize
 
 /// The number of the link of this key, if there is one.
 pub(crate) fn find(links: &[Link], key: &LinkKey) -> Option<LinkNo>
-    requires few { length links.now ≤ 2048 }
+    requires few { length links.now ≤ MOST_LINKS }
     requires ascending { AscendByKey links.now }
-    ensures found { IfSome result (λ (link : Found). (link.0 < length links.now) × ((slice_index_or links.now link.0 no_link).key ≡ key.now)) }
+    ensures found { IfSome result (λ (link : Found).
+        (link.0 < length links.now) × ((slice_index_or links.now link.0 no_link).key ≡ key.now)) }
     ensures none { IfNone result ((l : ℕ) → l < length links.now → (slice_index_or links.now l no_link).key ≢ key.now) }
 {
     let at = place_of(links, key);
@@ -89,10 +91,11 @@ pub(crate) fn number_all(
     drafted: Vec<DraftLink>,
 ) -> Result<Numbered, AllocError>
     requires ascending { IsStrictlyIncreasing systems.now }
-    requires few { length systems.now ≤ 256 }
+    requires few { length systems.now ≤ MOST_NODES }
     requires ends { All (HasEnds systems.now) drafted.items }
     ensures links { IfOk result (λ numbered. AllZip (IsNumbered systems.now) drafted.items numbered.links.items) }
-    ensures groups { IfOk result (λ numbered. numbered.groups.items ≡ map (λ (link : Drafted). link.groups) drafted.items) }
+    ensures groups { IfOk result (λ numbered.
+        numbered.groups.items ≡ map (λ (link : Drafted). link.groups) drafted.items) }
 {
     let mut links = Vec::with_capacity(alloc, drafted.len())?;
     let mut groups = Vec::with_capacity(alloc, drafted.len())?;

@@ -1,17 +1,11 @@
 //! The order of a draft's links, and the reasons to refuse a draft that it shows.
 ghost use Rattle.std.specs.Prelude.{◌≡◌, IsPermutation, MatchOption};
-ghost use Rattle.sr_graph.specs.Draft.{AreSorted, HasZero, IsTwice, IsLeast, NoZero, NoneTwice, IsAccepted, IsRefusal};
+ghost use Rattle.sr_graph.specs.Draft.{AreSorted, HasZero, IsTwice, IsLeastKey, NoZero, NoneTwice, IsAcceptedDraft, IsRefusal};
 
 use crate::draft::DraftLink;
 use crate::fault::GraphFault;
-use sr_model::{LinkKey, SystemId};
+use sr_model::{LinkKey, MOST_LINKS, MOST_NODES, SystemId};
 use std::cmp::Ordering;
-
-/// The most nodes that a graph has.
-const MOST_NODES: usize = 256;
-
-/// The most directed links that a graph has.
-const MOST_LINKS: usize = 2048;
 
 /// Sorts the links by key.
 pub(crate) fn sort(links: &mut [DraftLink])
@@ -24,7 +18,7 @@ pub(crate) fn sort(links: &mut [DraftLink])
 /// The first key of a link of metric 0.
 fn first_zero(links: &[DraftLink]) -> Option<LinkKey>
     requires { AreSorted links.now }
-    ensures { MatchOption result (NoZero links.now) (IsLeast (HasZero links.now)) }
+    ensures { MatchOption result (NoZero links.now) (IsLeastKey (HasZero links.now)) }
 {
     for link in links {
         if link.metric == 0 {
@@ -37,7 +31,7 @@ fn first_zero(links: &[DraftLink]) -> Option<LinkKey>
 /// The first key that two of the links have.
 fn first_duplicate(links: &[DraftLink]) -> Option<LinkKey>
     requires { AreSorted links.now }
-    ensures { MatchOption result (NoneTwice links.now) (IsLeast (IsTwice links.now)) }
+    ensures { MatchOption result (NoneTwice links.now) (IsLeastKey (IsTwice links.now)) }
 {
     for i in 1..links.len() {
         match links[i - 1].key.cmp(&links[i].key) {
@@ -51,7 +45,7 @@ fn first_duplicate(links: &[DraftLink]) -> Option<LinkKey>
 /// The first reason to refuse these nodes and sorted links.
 pub(crate) fn refusal(systems: &[SystemId], links: &[DraftLink]) -> Option<GraphFault>
     requires { AreSorted links.now }
-    ensures { MatchOption result (IsAccepted systems.now links.now) (IsRefusal systems.now links.now) }
+    ensures { MatchOption result (IsAcceptedDraft systems.now links.now) (IsRefusal systems.now links.now) }
 {
     if let Some(key) = first_zero(links) {
         return Some(GraphFault::ZeroMetric {

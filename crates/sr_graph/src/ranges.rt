@@ -1,6 +1,7 @@
 //! The links of each node: those that begin at one node stand together.
 ghost use Rattle.std.specs.Prelude.{◌≡◌, ℕ, ◌+◌, ◌<◌, ◌≤◌, length, IfOk};
 ghost use Rattle.sr_graph.specs.Ranges.{tail_in, AreByTail, AreStarts};
+ghost use Rattle.sr_model.specs.declared.link.TheConstants.{MOST_LINKS, MOST_NODES};
 
 use sr_model::Link;
 use std::alloc::{AllocError, Global};
@@ -32,8 +33,8 @@ fn skip(links: &[Link], place: usize, node: usize) -> usize
 
 /// For each node, and once more for the end, the first place whose link begins there or later.
 pub(crate) fn starts(alloc: Global, links: &[Link], nodes: usize) -> Result<Vec<u16>, AllocError>
-    requires few_nodes { nodes ≤ 256 }
-    requires few_links { length links.now ≤ 2048 }
+    requires few_nodes { nodes ≤ MOST_NODES }
+    requires few_links { length links.now ≤ MOST_LINKS }
     requires by_tail { AreByTail links.now }
     ensures { IfOk result (λ starts. AreStarts nodes links.now starts.items) }
 {

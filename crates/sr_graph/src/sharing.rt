@@ -3,7 +3,7 @@ ghost use Rattle.std.specs.Prelude.{◌≡◌, ◌↔◌, ℕ, ◌<◌, ◌≤�
 ghost use Rattle.std.specs.List.Sorted.{IsPermutation, IsNonDecreasingBy};
 ghost use Rattle.sr_graph.specs.Bits.{IsIn};
 ghost use Rattle.sr_graph.specs.Sharing.{set_at, AreSharing};
-ghost use Rattle.sr_graph.specs.declared.order.TheConstants.{MOST_LINKS};
+ghost use Rattle.sr_model.specs.declared.link.TheConstants.{MOST_LINKS};
 ghost use Rattle.sr_graph.specs.Holdings.{held_by, group_of, holder_at, AreHoldings, IsGroupRun, HasHolder, AreJoined};
 
 use crate::link_bits::LinkBits;
@@ -91,7 +91,8 @@ fn add_to_each(
     requires ordered { start ≤ end }
     requires inside { end ≤ length list.now }
     requires room { (k : ℕ) → k < length list.now → holder_at list.now k < length sets.old }
-    ensures { OnOk result ((p l : ℕ) → IsIn (set_at sets.new p) l ↔ (IsIn (set_at sets.old p) l ⊎ (HasHolder list.now start end p × IsIn links.now l))) }
+    ensures { OnOk result ((p l : ℕ) → IsIn (set_at sets.new p) l
+        ↔ (IsIn (set_at sets.old p) l ⊎ (HasHolder list.now start end p × IsIn links.now l))) }
 {
     for place in start..end {
         let set = &mut sets[list[place].link.0 as usize];
@@ -100,7 +101,7 @@ fn add_to_each(
     Ok(())
 }
 
-/// So many empty sets.
+/// As many empty sets as `count` says.
 fn empty_sets(alloc: Global, count: usize) -> Result<Vec<LinkBits>, AllocError>
     ensures { IfOk result (λ sets. sets.items ≡ replicate count []) }
 {

@@ -38,7 +38,8 @@ fn plain(alloc: Global, from: u64, to: u64) -> DraftLink
 fn risky(alloc: Global, from: u64, to: u64, number: u32) -> Result<DraftLink, AllocError>
     requires from { from < 256 }
     requires to { to < 256 }
-    ensures { IfOk result (λ link. link ≡ record { key = record { from = from; to = to; ident = LinkIdent number number }; metric = 1; groups = 7 ∷ [] }) }
+    ensures { IfOk result (λ link.
+        link ≡ record { key = record { from = from; to = to; ident = LinkIdent number number }; metric = 1; groups = 7 ∷ [] }) }
 {
     let groups = vec![in alloc; 7]?;
     Ok(DraftLink {

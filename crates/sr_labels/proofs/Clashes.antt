@@ -11,7 +11,7 @@ use Rattle.sr_model.specs.declared.label.AdjLabel.{AdjLabel}
 use Rattle.sr_model.specs.Label.{Labels, label_of}
 use Rattle.sr_model.specs.Rule.{node_at, adj_label_at, IsClashAt, IsNoLater, IsLeastClash, NoAdjClash}
 use Rattle.sr_labels.specs.Rules.{AreOfNodes}
-use Rattle.sr_labels.specs.Adjacencies.{AreInOrder, IsTaken, IsRepeated}
+use Rattle.sr_labels.specs.Adjacencies.{AreInOrder, IsTakenLabel, IsRepeated}
 use Rattle.sr_labels.proofs.Places.{stands-moved, apart-moved, not_less}
 
 abbrev no_label : AdjLabel
@@ -54,7 +54,7 @@ least-moved nodes xs ys a p h = record {
 -- ---- the first in order
 -- none before place k is taken or repeated
 abbrev pub ArePassed : List Labels → List AdjLabel → ℕ → Type 0
-ArePassed nodes list k = (j : ℕ) → j < k → (IsTaken nodes (adj_label_at list j) → ⊥) × (IsRepeated list j → ⊥)
+ArePassed nodes list k = (j : ℕ) → j < k → (IsTakenLabel nodes (adj_label_at list j) → ⊥) × (IsRepeated list j → ⊥)
 
 -- of two places with one label, the next after the first has it too
 repeats : (list : List AdjLabel) → AreInOrder list → (j k : ℕ) → j < k → k < length list → (adj_label_at list k).node ≡ (adj_label_at list j).node → (adj_label_at list k).label ≡ (adj_label_at list j).label → IsRepeated list j
@@ -92,7 +92,7 @@ least_by nodes list k up passed clash = record {
   least = λ j c. ⊎_elim (λ early. absurd (not_before nodes list k up passed j early c)) (λ ge. up k j ge c.within) (cases_lt j k);
 }
 
-pub least_taken : (nodes : List Labels) (list : List AdjLabel) (k : ℕ) → AreInOrder list → ArePassed nodes list k → k < length list → IsTaken nodes (adj_label_at list k) → IsLeastClash nodes list (adj_label_at list k)
+pub least_taken : (nodes : List Labels) (list : List AdjLabel) (k : ℕ) → AreInOrder list → ArePassed nodes list k → k < length list → IsTakenLabel nodes (adj_label_at list k) → IsLeastClash nodes list (adj_label_at list k)
 least_taken nodes list k up passed w taken = least_by nodes list k up passed (record { within = w; clash = ⊎_elim (λ low. inl low) (λ own. inr (inl own)) taken })
 
 pub least_repeated : (nodes : List Labels) (list : List AdjLabel) (k : ℕ) → AreInOrder list → ArePassed nodes list k → k < length list → IsRepeated list k → IsLeastClash nodes list (adj_label_at list k)

@@ -1,15 +1,13 @@
 -- Lists of the indices that nodes announce.
 use Rattle.std.proofs.Common.{◌≡◌, ◌≢◌, ℕ, zero, suc, ◌+◌, ◌<◌, ◌≤◌, ◌⊎◌, ⊎_elim, inl, inr, List, [], ◌∷◌, ◌++◌, length, refl, arith, ap, sym, ◌∙◌, subst, Some, None}
 use Rattle.std.proofs.lemmas.Bool.{cases_eq, cases_lt}
+use Rattle.std.proofs.lemmas.Option.{same_Some}
 use Rattle.sr_model.specs.declared.label.Range.{Range}
 use Rattle.sr_model.specs.Label.{Labels, label_of, sizes}
 use Rattle.sr_model.specs.Rule.{node_at}
 use Rattle.sr_laws.proofs.Ranges.{label-some}
 use Rattle.sr_labels.specs.declared.indices.NodeIndex.{NodeIndex}
-use Rattle.sr_labels.specs.Indices.{entry_at, IsListed, AreByNode}
-
-some_inj : {A : Type 0} {a b : A} → Some a ≡ Some b → a ≡ b
-some_inj e = cc
+use Rattle.sr_labels.specs.Indices.{entry_at, IsIndexEntry, AreByNode}
 
 -- each node has a label for the index
 abbrev pub IsInside : List Labels → ℕ → Type 0
@@ -20,8 +18,8 @@ labelled rs i h e = let s : (t : ℕ) × (label_of rs i ≡ Some t) = label-some
 
 -- the list holds what the nodes below n announce, in order of node
 pub record AreListedBelow (nodes : List Labels) (list : List NodeIndex) (n : ℕ) : Type 0 where
-  pub each : (k : ℕ) → k < length list → IsListed nodes (entry_at list k) × ((entry_at list k).node < n)
-  pub all : (entry : NodeIndex) → IsListed nodes entry → entry.node < n → (k : ℕ) × (k < length list) × (entry_at list k ≡ entry)
+  pub each : (k : ℕ) → k < length list → IsIndexEntry nodes (entry_at list k) × ((entry_at list k).node < n)
+  pub all : (entry : NodeIndex) → IsIndexEntry nodes entry → entry.node < n → (k : ℕ) × (k < length list) × (entry_at list k ≡ entry)
   pub ascending : (j k : ℕ) → j < k → k < length list → (entry_at list j).node < (entry_at list k).node
 
 pub below-none : (nodes : List Labels) → AreListedBelow nodes [] 0
@@ -80,13 +78,13 @@ module _ (nodes : List Labels) (list : List NodeIndex) (n i : ℕ) (within : n <
       record {
         each = λ k lt.
             ⊎_elim
-            (λ old. let e = h.each k old.0 in let P : NodeIndex → Type 0 = λ a. IsListed nodes a × (a.node < n + 1) in subst P (sym old.1) (e.0, (let w : (entry_at list k).node < n = e.1 in omega arith)))
-            (λ last. let P : NodeIndex → Type 0 = λ a. IsListed nodes a × (a.node < n + 1) in subst P (sym last.1) ((within, is), omega arith))
+            (λ old. let e = h.each k old.0 in let P : NodeIndex → Type 0 = λ a. IsIndexEntry nodes a × (a.node < n + 1) in subst P (sym old.1) (e.0, (let w : (entry_at list k).node < n = e.1 in omega arith)))
+            (λ last. let P : NodeIndex → Type 0 = λ a. IsIndexEntry nodes a × (a.node < n + 1) in subst P (sym last.1) ((within, is), omega arith))
             (at-place k (omega arith));
         all = λ entry l lt.
             ⊎_elim
             (λ (same : entry.node ≡ n).
-            let ei : entry.index ≡ i = some_inj (sym l.1 ∙ ap (λ v. (node_at nodes v).index) same ∙ is) in
+            let ei : entry.index ≡ i = same_Some _ _ (sym l.1 ∙ ap (λ v. (node_at nodes v).index) same ∙ is) in
             (length list, omega arith, entry-new list new ∙ sym (entry_is entry new ei same)))
             (λ (ne : entry.node ≢ n).
             let p = h.all entry l (omega arith) in

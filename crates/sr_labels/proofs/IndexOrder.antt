@@ -14,7 +14,7 @@ use Rattle.sr_model.specs.Rule.{IsFirstBroken, node_at, IsDuplicate, IsLeastDupl
 use Rattle.sr_labels.specs.declared.indices.NodeIndex.{NodeIndex}
 use Rattle.sr_labels.specs.contracts.indices.NodeIndexOrd.TheImpl as node_index
 use Rattle.sr_labels.specs.contracts.indices.NodeIndexOrd.TheImpl.Laws.{total-law}
-use Rattle.sr_labels.specs.Indices.{entry_at, IsListed, AreByNode, EntryLt, AreByIndex, IsTwin, NoTwins, IsFirstTwin, IsFirstWithout, AreAtLeast}
+use Rattle.sr_labels.specs.Indices.{entry_at, IsIndexEntry, AreByNode, EntryLt, AreByIndex, IsTwin, NoTwins, IsFirstTwin, IsFirstWithout, AreAtLeast}
 use Rattle.sr_labels.proofs.IndexLists.{IsInside, labelled}
 use Rattle.sr_labels.proofs.Places.{stands-moved, apart-moved, not_less}
 
@@ -39,7 +39,7 @@ pub in-order : (nodes : List Labels) (xs ys : List NodeIndex) → AreByNode node
 in-order nodes xs ys h p sorted =
     let back : IsPermutation ys xs = IsPermutation-sym xs ys p in (
       (
-        (λ k w. let m = stands-moved no_entry ys xs back k w in subst (IsListed nodes) m.2 (h.0.0 m.0 m.1)),
+        (λ k w. let m = stands-moved no_entry ys xs back k w in subst (IsIndexEntry nodes) m.2 (h.0.0 m.0 m.1)),
         (λ entry l. let at = h.0.1 entry l in let m = stands-moved no_entry xs ys p at.0 at.1 in (m.0, m.1, m.2 ∙ at.2)),
       ),
       (λ j k lt w. ⊎_elim

@@ -34,6 +34,7 @@ module _ {X : Type 0} (e : X → Bool) where
   keep-none (x ∷ xs) zero h = rw (h 0 x (omega arith)) refl
   keep-none (x ∷ xs) (suc n) h = keep-none xs n (λ i d lt. h (suc i) d (omega arith))
 
+  -- after an item for which e doesn't hold, it holds for no later one
   abbrev Falls : List X → Type 0
   Falls xs = (i j : ℕ) (d : X) → i < j → j < length xs → e (get_or xs i d) ≡ false → e (get_or xs j d) ≡ false
 

@@ -1,13 +1,11 @@
 -- Steps of the loops over the ranges of an SRGB.
 use Rattle.std.proofs.Common.{◌≡◌, ◌≢◌, ℕ, ◌+◌, ◌-◌, ◌<◌, ◌≤◌, ◌⊎◌, ⊎_elim, List, [], ◌∷◌, length, refl, arith, ap, sym, ◌∙◌, Some, None, drop}
 use Rattle.std.proofs.lemmas.Bool.{cases_lt}
+use Rattle.std.proofs.lemmas.Option.{same_Some}
 use Rattle.std.proofs.lemmas.List.{drop_more, drop_all}
 use Rattle.sr_model.specs.declared.label.Range.{Range}
 use Rattle.sr_model.specs.Label.{label_of, range_at, no_range, IsWithin, IsSrgb, sizes}
 use Rattle.sr_laws.proofs.Ranges.{label-here, label-later, label-none}
-
-some_inj : {A : Type 0} {a b : A} → Some a ≡ Some b → a ≡ b
-some_inj e = cc
 
 pub split : (rs : List Range) (k : ℕ) → k < length rs → drop k rs ≡ range_at rs k ∷ drop (k + 1) rs
 split rs k h = drop_more rs k no_range h
@@ -18,7 +16,7 @@ within-at rs k s h = (s.each k h).within
 pub sizes-split : (rs : List Range) (k : ℕ) → k < length rs → sizes (drop k rs) ≡ (range_at rs k).size + sizes (drop (k + 1) rs)
 sizes-split rs k h = rw (split rs k h) refl
 
--- the loop that looks for the label of index i came to range k with so much left
+-- the loop that looks for the label of index i reached range k with `left` of the index left
 pub record IsLeft (rs : List Range) (i k left : ℕ) : Type 0 where
   pub same : label_of (drop k rs) left ≡ label_of rs i
   pub sum : left + sizes rs ≡ i + sizes (drop k rs)
@@ -45,7 +43,7 @@ left-none rs i k left h a =
     let s : left + sizes rs ≡ i + 0 = rw e at a.sum in
     (rw e at a.same, omega arith)
 
--- the loop that looks for the index of label t came to range k, and so many indices are below
+-- the loop that looks for the index of label t reached range k, and `below` indices are below
 pub record IsBelow (rs : List Range) (t k below : ℕ) : Type 0 where
   pub sum : below + sizes (drop k rs) ≡ sizes rs
   pub later : (j : ℕ) → label_of rs (below + j) ≡ label_of (drop k rs) j
@@ -75,7 +73,7 @@ below-goes_on rs t k below h a out =
           let e : below + (i - below) ≡ i = omega arith in
           let short : i - below < (range_at rs k).size = omega arith in
           let was : label_of (range_at rs k ∷ drop (k + 1) rs) (i - below) ≡ Some t = sym (here (i - below)) ∙ ap (label_of rs) e ∙ is in
-          let at : (range_at rs k).first + (i - below) ≡ t = some_inj (sym (label-here (range_at rs k) (drop (k + 1) rs) (i - below) short) ∙ was) in
+          let at : (range_at rs k).first + (i - below) ≡ t = same_Some _ _ (sym (label-here (range_at rs k) (drop (k + 1) rs) (i - below) short) ∙ was) in
           ⊎_elim (λ (before : t < (range_at rs k).first). omega arith) (λ (after : (range_at rs k).first + (range_at rs k).size ≤ t). omega arith) out)
           (cases_lt i below);
     }

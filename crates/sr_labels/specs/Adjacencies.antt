@@ -9,9 +9,12 @@ abbrev pub AreInOrder : List AdjLabel → Type 0
 AreInOrder list = (j k : ℕ) → j ≤ k → k < length list → IsNoLater (adj_label_at list j) (adj_label_at list k)
 
 -- the label is reserved, or in the ranges of its node
-abbrev pub IsTaken : List Labels → AdjLabel → Type 0
-IsTaken nodes this = (this.label < 16) ⊎ ((i : ℕ) × (label_of (node_at nodes this.node).srgb i ≡ Some this.label))
+abbrev pub IsTakenLabel : List Labels → AdjLabel → Type 0
+IsTakenLabel nodes this =
+    (this.label < 16) ⊎ ((i : ℕ) × (label_of (node_at nodes this.node).srgb i ≡ Some this.label))
 
 -- the label at the next place is the same, and of the same node
 abbrev pub IsRepeated : List AdjLabel → ℕ → Type 0
-IsRepeated list k = (k + 1 < length list) × ((adj_label_at list (k + 1)).node ≡ (adj_label_at list k).node) × ((adj_label_at list (k + 1)).label ≡ (adj_label_at list k).label)
+IsRepeated list k =
+    (k + 1 < length list) × ((adj_label_at list (k + 1)).node ≡ (adj_label_at list k).node)
+    × ((adj_label_at list (k + 1)).label ≡ (adj_label_at list k).label)

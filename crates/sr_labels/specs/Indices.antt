@@ -9,18 +9,19 @@ abbrev pub entry_at : List NodeIndex → ℕ → NodeIndex
 entry_at list k = slice_index_or list k (record { index = 0; node = 0 })
 
 -- the node announces the index
-abbrev pub IsListed : List Labels → NodeIndex → Type 0
-IsListed nodes entry = (entry.node < length nodes) × ((node_at nodes entry.node).index ≡ Some entry.index)
+abbrev pub IsIndexEntry : List Labels → NodeIndex → Type 0
+IsIndexEntry nodes entry = (entry.node < length nodes) × ((node_at nodes entry.node).index ≡ Some entry.index)
 
 -- the list holds what the nodes announce, and nothing else
 abbrev pub HoldsAll : List Labels → List NodeIndex → Type 0
 HoldsAll nodes list =
-    ((k : ℕ) → k < length list → IsListed nodes (entry_at list k))
-    × ((entry : NodeIndex) → IsListed nodes entry → (k : ℕ) × (k < length list) × (entry_at list k ≡ entry))
+    ((k : ℕ) → k < length list → IsIndexEntry nodes (entry_at list k))
+    × ((entry : NodeIndex) → IsIndexEntry nodes entry → (k : ℕ) × (k < length list) × (entry_at list k ≡ entry))
 
 -- the list holds all, in order of node
 abbrev pub AreByNode : List Labels → List NodeIndex → Type 0
-AreByNode nodes list = HoldsAll nodes list × ((j k : ℕ) → j < k → k < length list → (entry_at list j).node < (entry_at list k).node)
+AreByNode nodes list =
+    HoldsAll nodes list × ((j k : ℕ) → j < k → k < length list → (entry_at list j).node < (entry_at list k).node)
 
 -- by index, then by node
 abbrev pub EntryLt : NodeIndex → NodeIndex → Type 0
@@ -28,7 +29,8 @@ EntryLt a b = (a.index < b.index) ⊎ ((a.index ≡ b.index) × (a.node < b.node
 
 -- the list holds all, in order of index and then of node
 abbrev pub AreByIndex : List Labels → List NodeIndex → Type 0
-AreByIndex nodes list = HoldsAll nodes list × ((j k : ℕ) → j < k → k < length list → EntryLt (entry_at list j) (entry_at list k))
+AreByIndex nodes list =
+    HoldsAll nodes list × ((j k : ℕ) → j < k → k < length list → EntryLt (entry_at list j) (entry_at list k))
 
 -- entry k and the one before have one index
 abbrev pub IsTwin : List NodeIndex → ℕ → Type 0
@@ -42,11 +44,13 @@ NoTwins list = (k : ℕ) → IsTwin list k → ⊥
 abbrev pub IsFirstTwin : List NodeIndex → ℕ → Type 0
 IsFirstTwin list k = IsTwin list k × ((j : ℕ) → j < k → IsTwin list j → ⊥)
 
--- each node has at least so many labels
+-- each node has at least this number of labels
 abbrev pub AreAtLeast : List Labels → ℕ → Type 0
 AreAtLeast nodes least = (v : ℕ) → v < length nodes → least ≤ sizes (node_at nodes v).srgb
 
 -- the first node that has no label for the index, or none where each has one
 abbrev pub IsFirstWithout : List Labels → ℕ → Option ℕ → Type 0
 IsFirstWithout nodes i None = (v : ℕ) → v < length nodes → label_of (node_at nodes v).srgb i ≢ None
-IsFirstWithout nodes i (Some v) = (v < length nodes) × (label_of (node_at nodes v).srgb i ≡ None) × ((w : ℕ) → w < v → label_of (node_at nodes w).srgb i ≢ None)
+IsFirstWithout nodes i (Some v) =
+    (v < length nodes) × (label_of (node_at nodes v).srgb i ≡ None)
+    × ((w : ℕ) → w < v → label_of (node_at nodes w).srgb i ≢ None)

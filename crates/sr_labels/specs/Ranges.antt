@@ -6,5 +6,5 @@ use Rattle.sr_labels.specs.declared.srgb.SrgbBad.{SrgbBad}
 use Rattle.sr_labels.specs.declared.srgb.SrgbBad.TheVariants.{Bad}
 
 -- the ranges are refused by the first that isn't good
-abbrev pub IsRefusal : List Range → SrgbBad → Type 0
-IsRefusal ranges (Bad range) = IsFirstBad ranges range
+abbrev pub IsSrgbRefusal : List Range → SrgbBad → Type 0
+IsSrgbRefusal ranges (Bad range) = IsFirstBad ranges range

@@ -8,6 +8,6 @@ use Rattle.sr_model.specs.Rule.{node_at, adj_label_at}
 abbrev pub HaveSrgbs : List Labels → Type 0
 HaveSrgbs nodes = (v : ℕ) → v < length nodes → IsSrgb (node_at nodes v).srgb
 
--- the node of each adjacency label is one of so many
+-- the node of each adjacency label is one of the first `count` nodes
 abbrev pub AreOfNodes : ℕ → List AdjLabel → Type 0
 AreOfNodes count adj = (k : ℕ) → k < length adj → (adj_label_at adj k).node < count

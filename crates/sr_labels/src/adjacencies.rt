@@ -2,7 +2,7 @@
 ghost use Rattle.std.specs.Prelude.{◌<◌, ◌↔◌, length, IsPermutation, IsTrue, IfOk, MatchOption};
 ghost use Rattle.sr_model.specs.Rule.{NoAdjClash, IsLeastClash};
 ghost use Rattle.sr_labels.specs.Rules.{AreOfNodes};
-ghost use Rattle.sr_labels.specs.Adjacencies.{AreInOrder, IsTaken, IsRepeated};
+ghost use Rattle.sr_labels.specs.Adjacencies.{AreInOrder, IsTakenLabel, IsRepeated};
 
 use crate::node::NodeLabels;
 use crate::srgb::FIRST_FREE;
@@ -12,7 +12,7 @@ use std::alloc::{AllocError, Global};
 /// Whether the label is reserved, or in the ranges of its node.
 fn is_taken(nodes: &[NodeLabels], this: AdjLabel) -> bool
     requires { this.node < length nodes.now }
-    ensures { IsTrue result ↔ IsTaken nodes.now this }
+    ensures { IsTrue result ↔ IsTakenLabel nodes.now this }
 {
     if this.label < FIRST_FREE {
         return true;

@@ -5,7 +5,7 @@ ghost use Rattle.sr_model.specs.Rule.{node_at, NoOutside, IsLeastOutside};
 ghost use Rattle.sr_labels.specs.declared.indices.NodeIndex.{NodeIndex as Entry};
 ghost use Rattle.sr_labels.specs.declared.indices.Outside.{Outside as Found};
 ghost use Rattle.sr_labels.specs.Rules.{HaveSrgbs};
-ghost use Rattle.sr_labels.specs.Indices.{IsListed, AreByNode, AreByIndex, NoTwins, IsFirstTwin, AreAtLeast, IsFirstWithout};
+ghost use Rattle.sr_labels.specs.Indices.{IsIndexEntry, AreByNode, AreByIndex, NoTwins, IsFirstTwin, AreAtLeast, IsFirstWithout};
 
 use crate::node::NodeLabels;
 use std::alloc::{AllocError, Global};
@@ -110,7 +110,8 @@ fn first_without(nodes: &[NodeLabels], index: u32) -> Option<usize>
 pub(crate) fn first_outside(nodes: &[NodeLabels], list: &[NodeIndex], least: u32) -> Option<Outside>
     requires list { AreByIndex nodes.now list.now }
     requires least { AreAtLeast nodes.now least }
-    ensures { MatchOption result (NoOutside nodes.now) (λ (found : Found). IsLeastOutside nodes.now found.index found.node) }
+    ensures { MatchOption result (NoOutside nodes.now)
+        (λ (found : Found). IsLeastOutside nodes.now found.index found.node) }
 {
     for entry in list {
         let index = entry.index;

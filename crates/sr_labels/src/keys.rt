@@ -26,7 +26,8 @@ fn start(keys: &[LinkKey], from: SystemId, to: SystemId) -> usize
     requires { Ascend keys.now }
     ensures within { result ≤ length keys.now }
     ensures before { (k : ℕ) (d : Key) → k < result → is_before from to (slice_index_or keys.now k d) ≡ true }
-    ensures after { (k : ℕ) (d : Key) → result ≤ k → k < length keys.now → is_before from to (slice_index_or keys.now k d) ≡ false }
+    ensures after { (k : ℕ) (d : Key) → result ≤ k → k < length keys.now
+        → is_before from to (slice_index_or keys.now k d) ≡ false }
 {
     keys.partition_point(|key| is_before(key, from, to))
 }

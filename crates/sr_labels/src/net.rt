@@ -13,7 +13,7 @@ use sr_model::{LinkKey, LinkNo, NodeNo, SystemId};
 use std::marker::Model;
 
 /// A graph with what its nodes announce, the adjacency label of each link, the keys of all two-way announcements, and how
-/// many segments a list may have where its node announces no imposition depth. It breaks no rule on labels.
+/// many segments a list may have where its node announces no MSD (maximum SID depth). It breaks no rule on labels.
 #[derive(Debug, Drop)]
 pub struct Net {
     graph: Graph,
@@ -29,9 +29,11 @@ impl Model for Net {
 
     ghost Value = { Labelled };
 
-    ghost view = { λ a. record { graph = a.graph; labels = a.nodes.items; adj = a.adj.items; announced = a.announced.items; depth = a.depth } };
+    ghost view = { λ a.
+        record { graph = a.graph; labels = a.nodes.items; adj = a.adj.items; announced = a.announced.items; depth = a.depth } };
 
-    ghost invariant = { λ a. IsAccepted (record { graph = a.graph; labels = a.nodes.items; adj = a.adj.items; announced = a.announced.items; depth = a.depth }) };
+    ghost invariant = { λ a. IsAccepted
+        (record { graph = a.graph; labels = a.nodes.items; adj = a.adj.items; announced = a.announced.items; depth = a.depth }) };
 }
 
 impl Net {
@@ -45,8 +47,10 @@ impl Net {
         announced: Vec<LinkKey>,
         depth: u8,
     ) -> Net
-        requires { IsAccepted (record { graph = graph; labels = nodes.items; adj = adj.items; announced = announced.items; depth = depth }) }
-        ensures { result ≡ record { graph = graph; labels = nodes.items; adj = adj.items; announced = announced.items; depth = depth } }
+        requires { IsAccepted
+            (record { graph = graph; labels = nodes.items; adj = adj.items; announced = announced.items; depth = depth }) }
+        ensures { result
+            ≡ record { graph = graph; labels = nodes.items; adj = adj.items; announced = announced.items; depth = depth } }
     {
         Net {
             graph,
@@ -88,7 +92,7 @@ impl Net {
         self.adj[link.0 as usize]
     }
 
-    /// How many segments a list may have where its node announces no imposition depth.
+    /// How many segments a list may have where its node announces no MSD (maximum SID depth).
     pub fn depth(&self) -> u8
         ensures value { result ≡ self.now.depth }
         ensures accepted { IsAccepted self.now }

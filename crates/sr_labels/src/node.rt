@@ -34,7 +34,8 @@ impl NodeLabels {
         explicit: bool,
         imposes: Option<u8>,
     ) -> NodeLabels
-        ensures { result ≡ record { srgb = srgb; index = index; keep = keep; explicit = keep && explicit; imposes = imposes } }
+        ensures { result
+            ≡ record { srgb = srgb; index = index; keep = keep; explicit = keep && explicit; imposes = imposes } }
     {
         NodeLabels {
             srgb,

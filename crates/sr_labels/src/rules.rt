@@ -14,7 +14,8 @@ use std::alloc::{AllocError, Global};
 /// The rule that the entry at this place and the one before it break.
 fn duplicate(list: &[NodeIndex], place: usize) -> LabelRule
     requires { IsTwin list.now place }
-    ensures { result ≡ DuplicateIndex (entry_at list.now place).index (entry_at list.now (place - 1)).node (entry_at list.now place).node }
+    ensures { result ≡ DuplicateIndex (entry_at list.now place).index
+        (entry_at list.now (place - 1)).node (entry_at list.now place).node }
 {
     LabelRule::DuplicateIndex {
         index: list[place].index,

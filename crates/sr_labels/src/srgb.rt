@@ -1,7 +1,7 @@
 //! The SRGB of a node: label ranges, and the way between indices and labels.
 ghost use Rattle.std.specs.Prelude.{◌≡◌, ℕ, ◌<◌, ◌↔◌, length, IfOk, IfErr, IsTrue};
 ghost use Rattle.sr_model.specs.Label.{label_of, sizes, IsIndexOf, IsWithin, AreApart, IsGoodAt, IsSrgb};
-ghost use Rattle.sr_labels.specs.Ranges.{IsRefusal};
+ghost use Rattle.sr_labels.specs.Ranges.{IsSrgbRefusal};
 
 use sr_model::Range;
 use std::alloc::{AllocError, Global};
@@ -92,7 +92,7 @@ impl Srgb {
     pub fn new(ranges: Vec<Range>) -> Result<Srgb, SrgbBad>
         ensures value { IfOk result (λ srgb. srgb ≡ ranges.items) }
         ensures good { IfOk result (λ srgb. IsSrgb srgb) }
-        ensures bad { IfErr result (IsRefusal ranges.items) }
+        ensures bad { IfErr result (IsSrgbRefusal ranges.items) }
     {
         if ranges.is_empty() {
             return Err(SrgbBad::Bad { range: 0 });

@@ -17,7 +17,11 @@ opening = record { accepted = no_facts; tentative = no_facts; staged = 0 }
 
 -- an edit is staged: it reaches the tentative facts alone
 abbrev pub with_edit : Edit → Editing → Editing
-with_edit edit editing = record { accepted = editing.accepted; tentative = apply edit editing.tentative; staged = editing.staged + 1 }
+with_edit edit editing = record {
+  accepted = editing.accepted;
+  tentative = apply edit editing.tentative;
+  staged = editing.staged + 1;
+}
 
 -- the tentative facts are accepted
 abbrev pub with_accepted : Editing → Editing

@@ -7,6 +7,7 @@ use Rattle.sr_lsp.specs.declared.lsp.Lsp.{Lsp}
 use Rattle.sr_lsp.specs.InRange.{FitsLsp}
 use Rattle.sr_lsdb.specs.declared.facts.Stored.{Stored}
 use Rattle.sr_lsdb.specs.declared.facts.Facts.{Facts}
+use Rattle.sr_lsdb.specs.declared.limits.TheConstants.{MOST_SEGMENTS}
 use Rattle.sr_lsdb.specs.Tables.{stored_at}
 
 -- what is stored under an id
@@ -17,7 +18,9 @@ stored_under facts id = stored_at facts.database id
 -- equal, its lifetime is 0 and the stored one is live (ISO 10589, 7.3.16)
 abbrev pub IsTaken : Option Stored → Lsp → Type 0
 IsTaken None lsp = Unit {0}
-IsTaken (Some stored) lsp = (stored.sequence < lsp.sequence) ⊎ ((lsp.sequence ≡ stored.sequence) × (lsp.lifetime ≡ 0) × (is_some stored.live ≡ true))
+IsTaken (Some stored) lsp =
+    (stored.sequence < lsp.sequence)
+    ⊎ ((lsp.sequence ≡ stored.sequence) × (lsp.lifetime ≡ 0) × (is_some stored.live ≡ true))
 
 -- what is stored of a PDU that is taken: its number, and the PDU unless its lifetime is 0
 abbrev pub stored_of : Lsp → Stored
@@ -35,8 +38,8 @@ IsStoredWell entry = IfSome entry.1.live (λ lsp. FitsLsp lsp × (lsp.id ≡ ent
 abbrev pub IsCost : (LinkKey × ℕ) → Type 0
 IsCost entry = (0 < entry.1) × (entry.1 < MAXIMUM_METRIC)
 
--- facts in range: the live PDUs, the metrics, and at most 12 segments
+-- facts in range: the live PDUs, the metrics, and at most `MOST_SEGMENTS` segments
 pub record AreInRange (facts : Facts) : Type 0 where
   pub database : All IsStoredWell facts.database
   pub costs : All IsCost facts.costs
-  pub depth : facts.depth ≤ 12
+  pub depth : facts.depth ≤ MOST_SEGMENTS

@@ -22,7 +22,8 @@ IdLt a b = (a.system < b.system) ⊎ ((a.system ≡ b.system) × PairLt a.pseudo
 
 -- by the lower end, then the higher end, then the identity
 abbrev pub PairKeyLt : PairKey → PairKey → Type 0
-PairKeyLt a b = (a.low < b.low) ⊎ ((a.low ≡ b.low) × ((a.high < b.high) ⊎ ((a.high ≡ b.high) × IdentLt a.ident b.ident)))
+PairKeyLt a b =
+    (a.low < b.low) ⊎ ((a.low ≡ b.low) × ((a.high < b.high) ⊎ ((a.high ≡ b.high) × IdentLt a.ident b.ident)))
 
 -- `cmp` of two ids answers that the first is less exactly where it comes before the second
 abbrev pub IdsAreOrdered : Type 0

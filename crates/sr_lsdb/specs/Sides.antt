@@ -15,7 +15,12 @@ latest false sides = sides.back
 
 -- the facts with this stored under an id
 abbrev pub with_stored : LspId → Stored → Facts → Facts
-with_stored id stored facts = record { database = insert_entry id_cmp facts.database id stored; costs = facts.costs; downs = facts.downs; depth = facts.depth }
+with_stored id stored facts = record {
+  database = insert_entry id_cmp facts.database id stored;
+  costs = facts.costs;
+  downs = facts.downs;
+  depth = facts.depth;
+}
 
 -- the two sides agree beyond what is noted as touched
 abbrev pub IsNoted : Sides → Type 0
@@ -23,7 +28,8 @@ IsNoted sides = Agree sides.touched.items sides.front sides.back
 
 -- the draft is now these facts, or memory ran out and the latest facts stayed; the accepted facts stay, and what
 -- differs is noted
-pub record Drafts {E : Type 0} (idle : Bool) (facts : Facts) (old new : Sides) (result : Result (Unit {0}) E) : Type 0 where
+pub record Drafts {E : Type 0} (idle : Bool) (facts : Facts) (old new : Sides)
+    (result : Result (Unit {0}) E) : Type 0 where
   pub accepted : new.front ≡ old.front
   pub noted : IsNoted new
   pub ok : OnOk result (new.back ≡ facts)

@@ -32,8 +32,10 @@ IsStale (Some stored) lsp number own = ¬ IsTaken (Some stored) lsp × (number �
 -- a PDU is staged where it is taken; else it is stale, or the count stands at its limit, or memory ran out, and
 -- nothing changed
 abbrev pub StagesLsp : Lsp → Editing → Editing → Result ℕ StageFault → Type 0
-StagesLsp lsp old new (Ok count) = IsTaken (stored_under old.tentative lsp.id) lsp × IsStaged (Announce lsp) old new count
-StagesLsp lsp old new (Err (Stale number own)) = IsStale (stored_under old.tentative lsp.id) lsp number own × (new ≡ old)
+StagesLsp lsp old new (Ok count) =
+    IsTaken (stored_under old.tentative lsp.id) lsp × IsStaged (Announce lsp) old new count
+StagesLsp lsp old new (Err (Stale number own)) =
+    IsStale (stored_under old.tentative lsp.id) lsp number own × (new ≡ old)
 StagesLsp lsp old new (Err Full) =
     IsTaken (stored_under old.tentative lsp.id) lsp × (old.staged ≡ MOST_STAGED) × (new ≡ old)
 StagesLsp lsp old new (Err (Memory error)) = new ≡ old

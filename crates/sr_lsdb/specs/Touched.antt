@@ -32,13 +32,17 @@ names_pair (Pair pair) other = is_at (pair_cmp pair) other
 
 -- the tables of two facts agree beyond what is named
 pub record Agree (touched : List Touched) (one other : Facts) : Type 0 where
-  pub database : AgreeBeyond (λ id. list_any (λ name. names_lsp name id) touched) (stored_at one.database) (stored_at other.database)
-  pub costs : AgreeBeyond (λ key. list_any (λ name. names_cost name key) touched) (metric_at one.costs) (metric_at other.costs)
-  pub downs : AgreeBeyond (λ pair. list_any (λ name. names_pair name pair) touched) (is_down one.downs) (is_down other.downs)
+  pub database : AgreeBeyond (λ id. list_any (λ name. names_lsp name id) touched) (stored_at one.database)
+      (stored_at other.database)
+  pub costs : AgreeBeyond (λ key. list_any (λ name. names_cost name key) touched) (metric_at one.costs)
+      (metric_at other.costs)
+  pub downs : AgreeBeyond (λ pair. list_any (λ name. names_pair name pair) touched) (is_down one.downs)
+      (is_down other.downs)
 
 -- the tables of the new facts are those of the source at what is named, and the old ones elsewhere
 pub record Follows (name : Touched) (source old new : Facts) : Type 0 where
-  pub database : TakesOver (names_lsp name) (stored_at source.database) (stored_at old.database) (stored_at new.database)
+  pub database : TakesOver (names_lsp name) (stored_at source.database) (stored_at old.database)
+      (stored_at new.database)
   pub costs : TakesOver (names_cost name) (metric_at source.costs) (metric_at old.costs) (metric_at new.costs)
   pub downs : TakesOver (names_pair name) (is_down source.downs) (is_down old.downs) (is_down new.downs)
 

@@ -91,7 +91,8 @@ impl Sides {
     /// Stores under an id in the draft.
     pub(crate) fn store(&mut self, idle: bool, id: &LspId, stored: Stored) -> Result<(), AllocError>
         requires { IsNoted self.old }
-        ensures { Drafts idle (with_stored id.now stored (latest idle self.old)) self.old self.new result }
+        ensures { Drafts idle
+            (with_stored id.now stored (latest idle self.old)) self.old self.new result }
     {
         self.start(idle, Touched::Lsp(*id))?;
         self.back.database.insert(*id, stored)
@@ -115,7 +116,8 @@ impl Sides {
     /// Takes a pair down in the draft.
     pub(crate) fn take_down(&mut self, idle: bool, pair: &PairKey) -> Result<(), AllocError>
         requires { IsNoted self.old }
-        ensures { Drafts idle (apply (TakeDown pair.now) (latest idle self.old)) self.old self.new result }
+        ensures { Drafts idle
+            (apply (TakeDown pair.now) (latest idle self.old)) self.old self.new result }
     {
         self.start(idle, Touched::Pair(*pair))?;
         self.back.downs.insert(*pair)
@@ -124,7 +126,8 @@ impl Sides {
     /// Brings a pair up in the draft.
     pub(crate) fn bring_up(&mut self, idle: bool, pair: &PairKey) -> Result<(), AllocError>
         requires { IsNoted self.old }
-        ensures { Drafts idle (apply (BringUp pair.now) (latest idle self.old)) self.old self.new result }
+        ensures { Drafts idle
+            (apply (BringUp pair.now) (latest idle self.old)) self.old self.new result }
     {
         self.start(idle, Touched::Pair(*pair))?;
         self.back.downs.remove(pair);
@@ -134,7 +137,8 @@ impl Sides {
     /// Sets the depth in the draft.
     pub(crate) fn set_depth(&mut self, idle: bool, depth: u8) -> Result<(), AllocError>
         requires { IsNoted self.old }
-        ensures { Drafts idle (apply (SetDepth depth) (latest idle self.old)) self.old self.new result }
+        ensures { Drafts idle
+            (apply (SetDepth depth) (latest idle self.old)) self.old self.new result }
     {
         self.refresh(idle)?;
         self.back.depth = depth;

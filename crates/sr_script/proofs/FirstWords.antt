@@ -5,8 +5,48 @@ use Rattle.std.specs.Str.{bytes_eq}
 use Rattle.std.proofs.lemmas.Bool.{cond_both, false≢true}
 use Rattle.std.proofs.lemmas.Slice.Eq.{bytes_eq-Decides}
 use Rattle.sr_script.specs.LineSays.{BeginsCommand}
-use Rattle.sr_script.specs.Says.{example_commands, first_word}
+use Rattle.sr_script.specs.Says.{first_word}
+use Rattle.sr_model.specs.declared.case.Kind.TheVariants.{Link}
+use Rattle.sr_script.specs.declared.name.EndNames.{EndNames}
+use Rattle.sr_script.specs.declared.name.LinkName.{LinkName}
+use Rattle.sr_script.specs.declared.name.RepairName.{RepairName}
 use Rattle.sr_script.specs.declared.command.Command.{Command}
+use Rattle.sr_script.specs.declared.command.Command.TheVariants.{Lsp, Cost, Down, Up, Depth, Commit, DropStaged, Dist, Next, Label, Spaces, Repair, Walk, Audit, Hold, Watch, Join, Show}
+
+-- two nodes of an example
+abbrev pub example_ends : EndNames
+example_ends = record { from = 0; to = 0 }
+
+-- a link of an example
+abbrev pub example_link : LinkName
+example_link = record { from = 0; to = 0; n = 1 }
+
+-- a failure and a destination of an example
+abbrev pub example_repair : RepairName
+example_repair = record { kind = Link; link = example_link; dest = 0 }
+
+-- an example of a command for each first word
+abbrev pub example_commands : List Command
+example_commands =
+    Lsp []
+    ∷ Cost example_link 1
+    ∷ Down example_link
+    ∷ Up example_link
+    ∷ Depth 0
+    ∷ Commit
+    ∷ DropStaged
+    ∷ Dist example_ends
+    ∷ Next example_ends
+    ∷ Label 0 0
+    ∷ Spaces example_repair
+    ∷ Repair example_repair
+    ∷ Walk example_ends 0
+    ∷ Audit
+    ∷ Hold
+    ∷ Watch 1 1
+    ∷ Join
+    ∷ Show
+    ∷ []
 
 -- one of the commands begins with the word
 abbrev pub begins_one : List Command → List ℕ → Bool

@@ -114,7 +114,7 @@ whole-text text octets rest n r w len fits answer = go r answer
         front ∙ ap (prepend (take n octets)) (ok_elsewhere _ _ rest (same_elsewhere 0 (2 * n) (drop (2 * n) text)) (sym left ∙ e)) ∙ ap Ok (sym put)
     go false e = subst IsErr (sym front) (err_elsewhere _ _ (take n octets) (same_elsewhere 0 (2 * n) (drop (2 * n) text)) (subst IsErr left e))
 
--- a text of which some byte is no digit
+-- a text with a byte that is no digit
 pub no-digits : (text : List ℕ) → (AllPass is_hex_digit text → ⊥) → IsErr (decode_of text)
 no-digits text bad = go (decode_of text) refl
   where

@@ -23,7 +23,7 @@ unfolding words pieces
 nothing-there [] e = refl
 nothing-there (x ∷ xs) e = absurd (omega arith)
 
--- a text of blanks has no word
+-- where all bytes are blanks there is no word
 pub no-word : (xs from : List ℕ) (b : ℕ) → b ≤ length xs → ((j : ℕ) → j < b → is_blank (get_or xs j 0) ≡ true) → from ≡ drop b xs → length from ≡ 0 → words xs ≡ []
 no-word xs from b l blank is none = blanks-skip xs b l blank ∙ ap words (sym is) ∙ nothing-there from none
 

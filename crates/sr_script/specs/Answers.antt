@@ -6,7 +6,7 @@ use Rattle.hex.specs.Hex.{decode_of}
 use Rattle.sr_script.specs.Words.{word_at}
 use Rattle.sr_script.specs.Says.{SaysCommand, first_word, kind_word}
 use Rattle.sr_script.specs.Number.{number_in}
-use Rattle.sr_script.specs.declared.name.TheConstants.{MOST_LINKS}
+use Rattle.sr_script.specs.declared.name.TheConstants.{MOST_LINK_NUMBER}
 use Rattle.sr_model.specs.declared.case.Kind.{Kind}
 use Rattle.sr_model.specs.SystemText.{system_read}
 use Rattle.sr_script.specs.LineSays.{BeginsCommand}
@@ -24,7 +24,7 @@ NamesNoEnds ws i = (system_read (word_at ws i) ≡ None) ⊎ (system_read (word_
 
 -- one of the three words from place i on is no system id, or no place of a link
 abbrev pub NamesNoLink : List (List ℕ) → ℕ → Type 0
-NamesNoLink ws i = NamesNoEnds ws i ⊎ (number_in 1 MOST_LINKS (word_at ws (i + 2)) ≡ None)
+NamesNoLink ws i = NamesNoEnds ws i ⊎ (number_in 1 MOST_LINK_NUMBER (word_at ws (i + 2)) ≡ None)
 
 -- one of the five words from place i on isn't of a failure's kind, a link and a destination
 abbrev pub NamesNoRepair : List (List ℕ) → ℕ → Type 0

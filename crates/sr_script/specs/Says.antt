@@ -6,8 +6,9 @@ use Rattle.sr_model.specs.declared.case.Kind.TheVariants.{Link, Node, Risk}
 use Rattle.sr_model.specs.SystemText.{system_read}
 use Rattle.sr_script.specs.Number.{number_in}
 use Rattle.sr_script.specs.Words.{word_at}
-use Rattle.sr_script.specs.declared.command.TheConstants.{MOST_METRIC, MOST_DEPTH, MOST_LABEL, MOST_CHOICE, MOST_WATCHERS, MOST_ROUNDS}
-use Rattle.sr_script.specs.declared.name.TheConstants.{MOST_LINKS}
+use Rattle.sr_model.specs.declared.link.TheConstants.{MOST_METRIC}
+use Rattle.sr_script.specs.declared.command.TheConstants.{MOST_DEPTH, MOST_LABEL, MOST_CHOICE, MOST_WATCHERS, MOST_ROUNDS}
+use Rattle.sr_script.specs.declared.name.TheConstants.{MOST_LINK_NUMBER}
 use Rattle.sr_script.specs.declared.name.EndNames.{EndNames}
 use Rattle.sr_script.specs.declared.name.LinkName.{LinkName}
 use Rattle.sr_script.specs.declared.name.RepairName.{RepairName}
@@ -47,7 +48,7 @@ ends_arguments ends = System ends.from ∷ System ends.to ∷ []
 
 -- a link: its ends, and its place from 1 among those between them
 abbrev pub link_arguments : LinkName → List Argument
-link_arguments link = System link.from ∷ System link.to ∷ Number 1 MOST_LINKS link.n ∷ []
+link_arguments link = System link.from ∷ System link.to ∷ Number 1 MOST_LINK_NUMBER link.n ∷ []
 
 -- a failure by its kind and the protected link, and a destination
 abbrev pub repair_arguments : RepairName → List Argument
@@ -75,41 +76,6 @@ form Hold = (codes "hold", [])
 form (Watch watchers rounds) = (codes "watch", Number 1 MOST_WATCHERS watchers ∷ Number 1 MOST_ROUNDS rounds ∷ [])
 form Join = (codes "join", [])
 form Show = (codes "show", [])
-
--- two nodes of an example
-abbrev pub example_ends : EndNames
-example_ends = record { from = 0; to = 0 }
-
--- a link of an example
-abbrev pub example_link : LinkName
-example_link = record { from = 0; to = 0; n = 1 }
-
--- a failure and a destination of an example
-abbrev pub example_repair : RepairName
-example_repair = record { kind = Link; link = example_link; dest = 0 }
-
--- an example of a command for each first word
-abbrev pub example_commands : List Command
-example_commands =
-    Lsp []
-    ∷ Cost example_link 1
-    ∷ Down example_link
-    ∷ Up example_link
-    ∷ Depth 0
-    ∷ Commit
-    ∷ DropStaged
-    ∷ Dist example_ends
-    ∷ Next example_ends
-    ∷ Label 0 0
-    ∷ Spaces example_repair
-    ∷ Repair example_repair
-    ∷ Walk example_ends 0
-    ∷ Audit
-    ∷ Hold
-    ∷ Watch 1 1
-    ∷ Join
-    ∷ Show
-    ∷ []
 
 -- the word with which a command begins
 abbrev pub first_word : Command → List ℕ

@@ -7,7 +7,7 @@ ghost use Rattle.sr_script.specs.Number.{number_in as number_within};
 ghost use Rattle.sr_script.specs.Says.{AreGiven, kind_word, ends_arguments, link_arguments, repair_arguments};
 ghost use Rattle.sr_script.specs.Answers.{NamesNoKind, NamesNoEnds, NamesNoLink, NamesNoRepair};
 
-use crate::name::{EndNames, LinkName, MOST_LINKS, RepairName};
+use crate::name::{EndNames, LinkName, MOST_LINK_NUMBER, RepairName};
 use crate::number::number_in;
 use crate::words::{KEPT, Words};
 use sr_model::{Kind, SystemId};
@@ -51,7 +51,8 @@ fn kind_argument(words: &Words<'_>, place: usize) -> Option<Kind>
 /// The ends that are named from a place on.
 pub(crate) fn ends_argument(words: &Words<'_>, place: usize) -> Option<EndNames>
     requires { place + 1 < KEPT }
-    ensures { MatchOption result (NamesNoEnds words.now place) (λ ends. AreGiven words.now place (ends_arguments ends)) }
+    ensures { MatchOption result (NamesNoEnds words.now place)
+        (λ ends. AreGiven words.now place (ends_arguments ends)) }
 {
     let from = system_argument(words, place)?;
     let to = system_argument(words, place + 1)?;
@@ -61,17 +62,19 @@ pub(crate) fn ends_argument(words: &Words<'_>, place: usize) -> Option<EndNames>
 /// The link that is named from a place on.
 pub(crate) fn link_argument(words: &Words<'_>, place: usize) -> Option<LinkName>
     requires { place + 2 < KEPT }
-    ensures { MatchOption result (NamesNoLink words.now place) (λ link. AreGiven words.now place (link_arguments link)) }
+    ensures { MatchOption result (NamesNoLink words.now place)
+        (λ link. AreGiven words.now place (link_arguments link)) }
 {
     let from = system_argument(words, place)?;
     let to = system_argument(words, place + 1)?;
-    let n = number_argument(words, place + 2, 1, MOST_LINKS)?;
+    let n = number_argument(words, place + 2, 1, MOST_LINK_NUMBER)?;
     Some(LinkName { from, to, n })
 }
 
 /// The failure and the destination that are named behind the first word.
 pub(crate) fn repair_argument(words: &Words<'_>) -> Option<RepairName>
-    ensures { MatchOption result (NamesNoRepair words.now 1) (λ repair. AreGiven words.now 1 (repair_arguments repair)) }
+    ensures { MatchOption result (NamesNoRepair words.now 1)
+        (λ repair. AreGiven words.now 1 (repair_arguments repair)) }
 {
     let kind = kind_argument(words, 1)?;
     let link = link_argument(words, 2)?;

@@ -4,9 +4,6 @@ use crate::name::{EndNames, LinkName, RepairName};
 use sr_model::SystemId;
 use sr_seq::Seq;
 
-/// The greatest metric of a link in use: the maximum link metric, one above, takes a link out of use (RFC 5305, 3).
-pub const MOST_METRIC: u32 = 16_777_214;
-
 /// The greatest depth: how many segments a repair list may have at most.
 pub const MOST_DEPTH: u32 = 12;
 

@@ -60,7 +60,8 @@ fn word_length(text: &[u8]) -> usize
 
 /// The first word of the text, and what follows it. None exactly where the text has no word.
 pub(crate) fn next_word(text: &[u8]) -> Option<NextWord<'_>>
-    ensures { MatchOption result (words text.now ≡ []) (λ next. words text.now ≡ next.word.now ∷ words next.rest.now) }
+    ensures { MatchOption result (words text.now ≡ [])
+        (λ next. words text.now ≡ next.word.now ∷ words next.rest.now) }
 {
     let (_, from_word) = text.split_at(blanks_before(text));
     if from_word.is_empty() {

@@ -12,10 +12,12 @@ pub fn line_says_one_thing(line: &[u8])
 
 /// A line that says something is refused only where memory runs out.
 pub fn said_is_not_refused(line: &[u8])
-    ensures { (said : Said) (fault : Refusal) → LineSays line.now said → IsLineFault line.now fault → IsMemory fault }
+    ensures { (said : Said) (fault : Refusal) → LineSays line.now said → IsLineFault line.now fault
+        → IsMemory fault }
 {}
 
 /// A line has at most one fault, memory aside.
 pub fn fault_is_unique(line: &[u8])
-    ensures { (a : Refusal) (b : Refusal) → IsLineFault line.now a → IsLineFault line.now b → (a ≡ b) ⊎ IsMemory a ⊎ IsMemory b }
+    ensures { (a : Refusal) (b : Refusal) → IsLineFault line.now a → IsLineFault line.now b
+        → (a ≡ b) ⊎ IsMemory a ⊎ IsMemory b }
 {}

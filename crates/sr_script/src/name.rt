@@ -2,8 +2,8 @@
 
 use sr_model::{Kind, SystemId};
 
-/// The greatest place of a link among those between its ends.
-pub const MOST_LINKS: u32 = 65_535;
+/// The greatest number of a link: its place among those between its ends.
+pub const MOST_LINK_NUMBER: u32 = 65_535;
 
 /// Two system ids: where a way begins, and where it ends.
 #[derive(Clone, Copy, Debug, PartialEq, Eq)]

@@ -11,11 +11,10 @@ ghost use Rattle.sr_script.specs.Answers.{IsCommandOf, IsReading, IsOnly};
 use crate::argument::{
     ends_argument, link_argument, number_argument, repair_argument, system_argument,
 };
-use crate::command::{
-    Command, MOST_CHOICE, MOST_DEPTH, MOST_LABEL, MOST_METRIC, MOST_ROUNDS, MOST_WATCHERS,
-};
+use crate::command::{Command, MOST_CHOICE, MOST_DEPTH, MOST_LABEL, MOST_ROUNDS, MOST_WATCHERS};
 use crate::line::LineFault;
 use crate::words::Words;
+use sr_model::MOST_METRIC;
 
 /// Returns the command of the reader whose word comes first, or that the words have a bad form.
 macro_rules! read_by_word {

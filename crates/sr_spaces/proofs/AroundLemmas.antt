@@ -1,4 +1,4 @@
--- P where just the links at one node fail: the nodes towards which no shortest walk comes to that node.
+-- P where just the links at one node fail: the nodes towards which no shortest walk reaches that node.
 use Rattle.std.proofs.Common.{◌≡◌, ◌≢◌, ℕ, ◌+◌, ◌<◌, ◌≤◌, ◌⊎◌, ⊎_elim, inl, inr, Bool, true, List, [], ◌∷◌, ◌++◌, append_assoc, refl, arith, ap, subst, sym, ◌∙◌}
 use Rattle.std.proofs.lemmas.List.{append-nil}
 use Rattle.sr_model.specs.Graph.{Graph, carries, head, tail, IsGraph, IsLink, link_at}
@@ -18,7 +18,7 @@ last_link : (g : Graph) (u l : ℕ) (p : List ℕ) (v : ℕ) → IsWalk g [] u (
 last_link g u l [] v a = ([], l, refl, a.3)
 last_link g u l (m ∷ p) v a = let r = last_link g (head g l) m p v a.3 in (l ∷ r.0, r.1, ap (λ q. l ∷ q) r.2, r.3)
 
--- a shortest walk between two nodes that comes to f holds a link that begins or ends there
+-- a shortest walk between two nodes that reaches f holds a link that begins or ends there
 touching : (g : Graph) (u v f : ℕ) → u ≢ v → (before after : List ℕ) → IsWalk g [] u before f → IsWalk g [] f after v → IsShortest g [] u (before ++ after) v → (l : ℕ) × Touches g l f × OnShortest g [] u v l
 touching g u v f apart [] [] a b s = absurd (apart (a ∙ b))
 touching g u v f apart (l ∷ p) [] a b s =
@@ -26,7 +26,7 @@ touching g u v f apart (l ∷ p) [] a b s =
     (r.1, inr r.3, record { before = r.0; after = []; shortest = subst (λ q. IsShortest g [] u q v) (append-nil (l ∷ p) ∙ r.2) s })
 touching g u v f apart before (l ∷ q) a b s = (l, inl b.2, record { before = before; after = q; shortest = s })
 
--- a shortest walk that holds such a link comes to f
+-- a shortest walk that holds such a link reaches f
 way-from_touching : (g : Graph) (u v f l : ℕ) → Touches g l f → OnShortest g [] u v l → IsOnWay g [] u v f
 way-from_touching g u v f l touch on =
     ⊎_elim
@@ -55,7 +55,7 @@ way-from_touching g u v f l touch on =
     })
     touch
 
--- where just the links at f fail and u isn't v, v is outside P of u where a shortest walk comes to f
+-- where just the links at f fail and u isn't v, v is outside P of u where a shortest walk reaches f
 pub way-outside : (g : Graph) (x : List Bool) (u v f : ℕ) → IsAround g x f → u ≢ v → IsOnWay g [] u v f → InP g x u v → ⊥
 way-outside g x u v f around apart way inside =
     let t = touching g u v f apart way.before way.after way.to way.from way.shortest in
@@ -76,7 +76,7 @@ own-inside g x u graph =
 
 -- the cells from u to f, from f to v and from u to v
 module _ (g : Graph) (u v f a b e : ℕ) (first : IsCell g [] u f a) (second : IsCell g [] f v b) (whole : IsCell g [] u v e) (near : e < FAR) where
-  -- where a shortest walk comes to f, they add up
+  -- where a shortest walk reaches f, they add up
   pub way-sum : IsOnWay g [] u v f → a + b ≡ e
   way-sum w =
       let r = shortest-cut g [] u w.before w.after v w.shortest in
@@ -104,7 +104,7 @@ module _ (g : Graph) (u v f a b e : ℕ) (first : IsCell g [] u f a) (second : I
       (passes-cases g f w.after (subst (λ k. Passes g k w.after) at pass)))
       r.3
 
-  -- where they add up and a walk may pass f, one comes to f
+  -- where they add up and a walk may pass f, one reaches f
   pub sum-way : carries g u f ≡ true → a + b ≡ e → IsOnWay g [] u v f
   sum-way carry sum =
       let near_a : a < FAR = omega arith in
@@ -119,7 +119,7 @@ module _ (g : Graph) (u v f a b e : ℕ) (first : IsCell g [] u f a) (second : I
         shortest = IsShortest-from_cost g [] u v e (to.0 ++ d.reached.0) (whole.near near) (to.3 d.reached.0 v d.reached.1) (omega (arith, cost-append g to.0 d.reached.0, to.2, d.reached.2));
       }
 
--- each walk comes to its end
+-- each walk reaches its end
 pub end-way : (g : Graph) (u v e : ℕ) → IsDistance g [] u v e → IsOnWay g [] u v v
 end-way g u v e d = record {
   before = d.reached.0;

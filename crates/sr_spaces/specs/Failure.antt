@@ -1,9 +1,10 @@
 -- A graph where links fail.
 use Rattle.std.specs.Prelude.{◌≡◌, ◌↔◌, ℕ, ◌<◌, Bool, true, List, Option, IfSome}
 use Rattle.sr_model.specs.declared.link.NodeNo.{NodeNo}
+use Rattle.sr_model.specs.declared.link.TheConstants.{FAR}
 use Rattle.sr_model.specs.Graph.{Graph, node_count, link_count, has}
 use Rattle.sr_model.specs.Case.{Touches}
-use Rattle.sr_spf.specs.Trees.{Forest, AreTrees}
+use Rattle.sr_spf.specs.Trees.{Forest, AreTrees, row_at, cell_at}
 
 -- a graph, and the links of it that fail
 pub record Failure : Type 0 where
@@ -18,3 +19,11 @@ IsAround g x f = (l : ℕ) → l < link_count g → (has x l ≡ true) ↔ Touch
 pub record AreSpaces (g : Graph) (t : Forest) (x : List Bool) (around : Option NodeNo) : Type 0 where
   pub trees : AreTrees g t
   pub node : IfSome around (λ (f : NodeNo). (f.0 < node_count g) × IsAround g x f.0)
+
+-- the trees are the graph's, the row is that of node u, and u reaches node v
+pub record IsReached (g : Graph) (t : Forest) (cells : List ℕ) (u v : ℕ) : Type 0 where
+  pub trees : AreTrees g t
+  pub row : cells ≡ row_at t.rows u
+  pub begins : u < node_count g
+  pub ends : v < node_count g
+  pub near : cell_at t u v < FAR

@@ -1,10 +1,9 @@
 //! Whether a node is in P of another: by the failed links one by one, or by the one node at which they lie.
-ghost use Rattle.std.specs.Prelude.{◌≡◌, ◌<◌, ◌↔◌, [], IsTrue};
-ghost use Rattle.sr_model.specs.declared.link.TheConstants.{FAR as Far};
+ghost use Rattle.std.specs.Prelude.{◌<◌, ◌↔◌, [], IsTrue};
 ghost use Rattle.sr_model.specs.Graph.{node_count};
 ghost use Rattle.sr_model.specs.Walk.{OnShortest, IsOnWay};
 ghost use Rattle.sr_model.specs.Space.{InP};
-ghost use Rattle.sr_spf.specs.Trees.{AreTrees, cell_at, row_at};
+ghost use Rattle.sr_spaces.specs.Failure.{IsReached};
 
 use sr_graph::{Graph, LinkSet};
 use sr_model::{LinkNo, NodeNo};
@@ -12,11 +11,7 @@ use sr_spf::Trees;
 
 /// Whether the link stands on a shortest walk from u to v, where u reaches v. `row` has the distances from u.
 fn holds(graph: &Graph, trees: &Trees, row: &[u64], u: NodeNo, v: NodeNo, link: LinkNo) -> bool
-    requires trees { AreTrees graph.now trees.now }
-    requires row { row.now ≡ row_at trees.now.rows u.0 }
-    requires u { u.0 < node_count graph.now }
-    requires v { v.0 < node_count graph.now }
-    requires near { cell_at trees.now u.0 v.0 < Far }
+    requires reached { IsReached graph.now trees.now row.now u.0 v.0 }
     ensures { IsTrue result ↔ OnShortest graph.now [] u.0 v.0 link.0 }
 {
     // A set of links knows no graph, so it may list a number past the graph's links, which stands on no walk.
@@ -46,11 +41,7 @@ pub(crate) fn avoids_links(
     v: NodeNo,
     x: &LinkSet,
 ) -> bool
-    requires trees { AreTrees graph.now trees.now }
-    requires row { row.now ≡ row_at trees.now.rows u.0 }
-    requires u { u.0 < node_count graph.now }
-    requires v { v.0 < node_count graph.now }
-    requires near { cell_at trees.now u.0 v.0 < Far }
+    requires reached { IsReached graph.now trees.now row.now u.0 v.0 }
     ensures { IsTrue result ↔ InP graph.now x.now u.0 v.0 }
 {
     for link in x.links() {
@@ -61,8 +52,8 @@ pub(crate) fn avoids_links(
     true
 }
 
-/// Whether a shortest walk from u to v comes to the node, where u reaches v. `row` has the distances from u.
-pub(crate) fn comes_to(
+/// Whether a shortest walk from u to v reaches the node, where u reaches v. `row` has the distances from u.
+pub(crate) fn reaches(
     graph: &Graph,
     trees: &Trees,
     row: &[u64],
@@ -70,12 +61,8 @@ pub(crate) fn comes_to(
     v: NodeNo,
     node: NodeNo,
 ) -> bool
-    requires trees { AreTrees graph.now trees.now }
-    requires row { row.now ≡ row_at trees.now.rows u.0 }
-    requires u { u.0 < node_count graph.now }
-    requires v { v.0 < node_count graph.now }
+    requires reached { IsReached graph.now trees.now row.now u.0 v.0 }
     requires node { node.0 < node_count graph.now }
-    requires near { cell_at trees.now u.0 v.0 < Far }
     ensures { IsTrue result ↔ IsOnWay graph.now [] u.0 v.0 node.0 }
 {
     if node.0 == v.0 {

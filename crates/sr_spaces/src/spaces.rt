@@ -6,7 +6,7 @@ ghost use Rattle.sr_model.specs.Space.{InP};
 ghost use Rattle.sr_spf.specs.Trees.{AreTrees};
 ghost use Rattle.sr_spaces.specs.Failure.{IsAround};
 
-use crate::space::{avoids_links, comes_to};
+use crate::space::{avoids_links, reaches};
 use sr_graph::{Graph, LinkSet};
 use sr_model::{FAR, NodeNo};
 use sr_spf::Trees;
@@ -107,6 +107,6 @@ impl<'a> Spaces<'a> {
         if u.0 == v.0 {
             return true;
         }
-        !comes_to(self.graph, self.trees, row, u, v, node)
+        !reaches(self.graph, self.trees, row, u, v, node)
     }
 }

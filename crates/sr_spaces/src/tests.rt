@@ -197,7 +197,7 @@ fn where_a_node_of_four_fails(rt: HostRuntime) -> Result<(), Fail> {
     let failed = graph.failed(alloc, case)?;
     let trees = trees_of(&rt, alloc, &graph)?;
     let spaces = Spaces::around(&graph, &trees, &failed, graph.edge(case.link).to);
-    // Of two equal ways from 1 to 3 one comes to node 2.
+    // Of two equal ways from 1 to 3 one reaches node 2.
     assert!(rt; are_in_p(&spaces, NodeNo(0), [true, false, false, true].as_slice()));
     assert!(rt; are_in_p(&spaces, NodeNo(1), [false, true, false, false].as_slice()));
     Ok(())

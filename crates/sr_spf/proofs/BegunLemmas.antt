@@ -21,6 +21,7 @@ use Rattle.sr_graph.specs.Members.{number_at}
 use Rattle.sr_graph.specs.Ranges.{EndAt}
 use Rattle.sr_spf.proofs.RelaxLemmas.{relaxed-IsTentative}
 
+-- the entries of the queue: distances with their nodes
 abbrev Entries : Type 0
 Entries = List (Reverse (ℕ × ℕ))
 
@@ -176,7 +177,7 @@ module _ (g : Graph) (x : List Bool) (s : ℕ) (cells a : List ℕ) (entries ent
         (cases_eq v w);
   }
 
--- the row in which a node's cell falls to what a way comes to
+-- the row in which a node's cell falls to the length of a way
 pub fallen-IsTentative : (g : Graph) (x : List Bool) (s : ℕ) (cells : List ℕ) (w c : ℕ) → IsTentative g x s cells → IsLeastWay g x s cells w c → c < get_or cells w 0 → IsTentative g x s (set cells w c)
 fallen-IsTentative g x s cells w c t least lower =
     let (l, within, outside, carry, ends, is) = least.way lower in

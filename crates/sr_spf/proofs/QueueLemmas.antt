@@ -15,6 +15,7 @@ use Rattle.sr_spf.specs.Relax.{falls, relaxed, IsTentative, near_count}
 use Rattle.sr_spf.specs.Queue.{entry, IsSettled, IsQueued}
 use Rattle.sr_spf.proofs.RelaxLemmas.{IsStableBelow, relaxed-IsTentative, relaxed-stays, IsRow-from_stable}
 
+-- the entries of the queue: distances with their nodes
 abbrev Entries : Type 0
 Entries = List (Reverse (ℕ × ℕ))
 

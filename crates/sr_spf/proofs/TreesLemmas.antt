@@ -5,7 +5,7 @@ use Rattle.sr_model.specs.Graph.{Graph, node_count, IsGraph}
 use Rattle.sr_model.specs.Walk.{IsRow}
 use Rattle.sr_spf.specs.declared.rows.Counted.{Counted}
 use Rattle.sr_spf.specs.Rows.{rows_in}
-use Rattle.sr_spf.specs.Trees.{AreRows, AreHops, AreTrees}
+use Rattle.sr_spf.specs.Trees.{AreRows, AreHopTables, AreTrees}
 use Rattle.sr_spf.specs.Hops.{HopLists, AreHopsFrom}
 use Rattle.sr_spf.proofs.OrderLemmas.{in_order}
 
@@ -23,12 +23,12 @@ rows-in_order g all graph zip =
     record { graph = graph; long = rows.0; each = rows.1 }
 
 -- the next hops of each node in order
-pub hops-in_order : (g : Graph) (hops : List HopLists) → AllZip (AreHopsFrom g) (range_with_len 0 (node_count g)) hops → AreHops g hops (node_count g)
+pub hops-in_order : (g : Graph) (hops : List HopLists) → AllZip (AreHopsFrom g) (range_with_len 0 (node_count g)) hops → AreHopTables g hops (node_count g)
 hops-in_order g hops zip =
     let lists = in_order (AreHopsFrom g) (node_count g) hops (record { starts = []; links = [] }) zip in
     record { long = lists.0; each = lists.1 }
 
-pub trees-whole : (g : Graph) (rows : List (List ℕ)) (hops : List HopLists) → AreRows g rows (node_count g) → AreHops g hops (node_count g) → AreTrees g (record { rows = rows; hops = hops })
+pub trees-whole : (g : Graph) (rows : List (List ℕ)) (hops : List HopLists) → AreRows g rows (node_count g) → AreHopTables g hops (node_count g) → AreTrees g (record { rows = rows; hops = hops })
 trees-whole g rows hops r h = record {
   graph = r.graph;
   long = r.long;

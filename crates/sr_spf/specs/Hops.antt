@@ -7,7 +7,8 @@ use Rattle.sr_model.specs.Walk.{IsNextHop}
 -- the links are the next hops of u towards v, ascending: those that begin a shortest walk from u to v
 pub record AreNextHops (g : Graph) (u v : ℕ) (links : List LinkNo) : Type 0 where
   pub each : (i : ℕ) (l : LinkNo) → slice_get links i ≡ Some l → IsNextHop g [] u v l.0
-  pub ascending : (i j : ℕ) (k l : LinkNo) → i < j → slice_get links i ≡ Some k → slice_get links j ≡ Some l → k.0 < l.0
+  pub ascending : (i j : ℕ) (k l : LinkNo) → i < j → slice_get links i ≡ Some k → slice_get links j ≡ Some l
+      → k.0 < l.0
   pub all : (l : ℕ) → IsNextHop g [] u v l → (i : ℕ) × (k : LinkNo) × (slice_get links i ≡ Some k) × (k.0 ≡ l)
 
 -- the next hops of u towards v stand behind the links that there were
@@ -16,7 +17,8 @@ pub record AddsNextHops (g : Graph) (u v : ℕ) (before after : List LinkNo) : T
   pub joined : after ≡ before ++ added
   pub hops : AreNextHops g u v added
 
--- the next hops from one node, as they are kept: those towards node v stand from the place that `starts` has for v up to the one that it has next
+-- the next hops from one node, as they are kept: those towards node v stand from the place that `starts` has for v
+-- up to the one that it has next
 pub record HopLists : Type 0 where
   pub starts : List ℕ
   pub links : List LinkNo

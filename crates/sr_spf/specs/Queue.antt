@@ -12,10 +12,13 @@ entry cell node = record { 0 = (cell, node) }
 -- no link of v that a walk from s may take would lower a cell; of node u only the links below i are meant
 abbrev pub IsSettled : Graph → List Bool → ℕ → List ℕ → ℕ → ℕ → ℕ → Type 0
 IsSettled g x s cells u i v =
-    (l : ℕ) → l < link_count g → has x l ≡ false → carries g s (tail g l) ≡ true → tail g l ≡ v → (v ≡ u → l < i) → slice_index cells (head g l) ≤ slice_index cells (tail g l) + metric g l
+    (l : ℕ) → l < link_count g → has x l ≡ false → carries g s (tail g l) ≡ true → tail g l ≡ v → (v ≡ u → l < i)
+    → slice_index cells (head g l) ≤ slice_index cells (tail g l) + metric g l
 
 -- each node that has a walk waits with its cell, or is settled
-pub record IsQueued (g : Graph) (x : List Bool) (s : ℕ) (cells : List ℕ) (entries : List (Reverse (ℕ × ℕ))) (u i : ℕ) : Type 0 where
+pub record IsQueued (g : Graph) (x : List Bool) (s : ℕ) (cells : List ℕ) (entries : List (Reverse (ℕ × ℕ)))
+    (u i : ℕ) : Type 0 where
   pub kept : IsTentative g x s cells
   pub inside : All (λ e. e.0.1 < node_count g) entries
-  pub waits : (v : ℕ) → v < node_count g → slice_index cells v < FAR → Contains entries (entry (slice_index cells v) v) ⊎ IsSettled g x s cells u i v
+  pub waits : (v : ℕ) → v < node_count g → slice_index cells v < FAR
+      → Contains entries (entry (slice_index cells v) v) ⊎ IsSettled g x s cells u i v

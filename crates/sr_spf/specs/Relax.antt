@@ -1,7 +1,7 @@
 -- What the search for distances keeps.
 use Rattle.std.specs.Prelude.{◌≡◌, ℕ, ◌+◌, ◌*◌, ◌<◌, ◌≤◌, nat_lt, Bool, List, length, count_by, slice_index, slice_set, if◌then◌else◌}
 use Rattle.sr_model.specs.Graph.{Graph, node_count, IsGraph}
-use Rattle.sr_model.specs.declared.link.TheConstants.{FAR}
+use Rattle.sr_model.specs.declared.link.TheConstants.{FAR, MOST_METRIC}
 use Rattle.sr_model.specs.Walk.{IsWalk, cost}
 
 -- the way over a link of metric m from node u to node v is shorter than the cell of v
@@ -23,5 +23,7 @@ pub record IsTentative (g : Graph) (x : List Bool) (s : ℕ) (cells : List ℕ) 
   pub source : slice_index cells s ≡ 0
   pub within : s < node_count g
   pub top : (v : ℕ) → slice_index cells v ≤ FAR
-  pub reached : (v : ℕ) → v < node_count g → slice_index cells v < FAR → (p : List ℕ) × IsWalk g x s p v × (cost g p ≡ slice_index cells v)
-  pub bound : (v : ℕ) → v < node_count g → slice_index cells v < FAR → slice_index cells v + 16777214 ≤ 16777214 * near_count cells
+  pub reached : (v : ℕ) → v < node_count g → slice_index cells v < FAR
+      → (p : List ℕ) × IsWalk g x s p v × (cost g p ≡ slice_index cells v)
+  pub bound : (v : ℕ) → v < node_count g → slice_index cells v < FAR
+      → slice_index cells v + MOST_METRIC ≤ MOST_METRIC * near_count cells

@@ -21,7 +21,7 @@ pub record AreRows (g : Graph) (rows : List (List ℕ)) (n : ℕ) : Type 0 where
   pub each : (u : ℕ) → u < n → IsRow g [] u (row_at rows u)
 
 -- the lists are those of the next hops from the nodes below n
-pub record AreHops (g : Graph) (hops : List HopLists) (n : ℕ) : Type 0 where
+pub record AreHopTables (g : Graph) (hops : List HopLists) (n : ℕ) : Type 0 where
   pub long : length hops ≡ n
   pub each : (u : ℕ) → u < n → AreHopsFrom g u (lists_at hops u)
 
@@ -47,7 +47,7 @@ abbrev pub IsSquare : List (List ℕ) → Type 0
 IsSquare rows = (u : ℕ) → u < length rows → length (row_at rows u) ≡ length rows
 
 -- each row has a cell for each node, and each node has a place for each node
-pub record IsWhole (t : Forest) : Type 0 where
+pub record IsWholeForest (t : Forest) : Type 0 where
   pub square : IsSquare t.rows
   pub long : length t.hops ≡ length t.rows
   pub places : (u : ℕ) → u < length t.rows → length (lists_at t.hops u).starts ≡ length t.rows + 1

@@ -17,8 +17,8 @@ use std::cmp::Reverse;
 use std::collections::BinaryHeap;
 use std::sync::ledger::Ledger;
 
-/// The least of the node's cell and of what the cells of other nodes and a link from there to the node come to. The sums
-/// are compared first, since few of them are less.
+/// The least of the node's cell and of the sums of another node's cell and a link from there to the node. The sums are
+/// compared first, since few of them are less.
 fn least_way(graph: &Graph, without: &LinkSet, source: NodeNo, node: NodeNo, cells: &[u64]) -> u64
     requires node { node.0 < node_count graph.now }
     requires kept { IsTentative graph.now without.now source.0 cells.now }
@@ -46,7 +46,8 @@ fn enter(
 ) -> Result<(), AllocError>
     requires begun { IsBegun graph.now without.now source.0 cells.old lost.now }
     requires empty { heap_items queue.old ≡ [] }
-    ensures queued { OnOk result (IsQueued graph.now without.now source.0 cells.new (heap_items queue.new) source.0 (link_count graph.now)) }
+    ensures queued { OnOk result
+        (IsQueued graph.now without.now source.0 cells.new (heap_items queue.new) source.0 (link_count graph.now)) }
 {
     for node in lost {
         let cell = least_way(graph, without, source, *node, cells);

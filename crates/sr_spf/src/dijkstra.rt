@@ -17,10 +17,10 @@ use std::sync::ledger::Ledger;
 
 /// A node whose distance fell, with that distance. The least distance comes first. A distance fits 32 bits: it has at most
 /// 255 links of at most 16777214 each.
-type Entry = Reverse<(u32, u16)>;
+type QueueEntry = Reverse<(u32, u16)>;
 
 /// The nodes that wait to be visited.
-pub(crate) type Queue = BinaryHeap<Entry>;
+pub(crate) type Queue = BinaryHeap<QueueEntry>;
 
 /// Lowers the cell of the link's end where the way over this link, which begins at the node, is shorter.
 fn relax(node: NodeNo, edge: Edge, cells: &mut [u64]) -> bool
@@ -51,7 +51,8 @@ fn visit(
 ) -> Result<(), AllocError>
     requires node { node.0 < node_count graph.now }
     requires queued { IsQueued graph.now without.now source.0 cells.old (heap_items queue.old) node.0 0 }
-    ensures queued { OnOk result (IsQueued graph.now without.now source.0 cells.new (heap_items queue.new) node.0 (link_count graph.now)) }
+    ensures queued { OnOk result
+        (IsQueued graph.now without.now source.0 cells.new (heap_items queue.new) node.0 (link_count graph.now)) }
     ensures work { OnOk result (2 * sum cells.new + heap_len queue.new ≤ 2 * sum cells.old + heap_len queue.old) }
 {
     if !graph.carries(source, node) {

@@ -50,13 +50,13 @@ impl HopTable {
     }
 }
 
-/// Whether the link begins a shortest walk to the node. `whole` is the distance to the node from where the link begins.
+/// Whether the link begins a shortest walk to the node. `whole` is the distance to the node from where the link begins:
+/// there is a walk.
 fn is_next_hop(graph: &Graph, rows: &[Seq<u64>], link: LinkNo, to: NodeNo, whole: u64) -> bool
     requires rows { AreRows graph.now rows.now (node_count graph.now) }
     requires link { link.0 < link_count graph.now }
     requires to { to.0 < node_count graph.now }
-    requires whole { whole ≡ slice_index (row_at rows.now (tail graph.now link.0)) to.0 }
-    requires near { whole < Far }
+    requires whole { (whole ≡ slice_index (row_at rows.now (tail graph.now link.0)) to.0) × (whole < Far) }
     ensures { IsTrue result ↔ IsNextHop graph.now [] (tail graph.now link.0) to.0 link.0 }
 {
     let edge = graph.edge(link);

@@ -3,7 +3,7 @@ ghost use Rattle.std.specs.Prelude.{◌≡◌, ◌+◌, ◌<◌, ◌≤◌, [], 
 ghost use Rattle.sr_model.specs.Graph.{Graph as Topology, node_count};
 ghost use Rattle.sr_model.specs.Walk.{Distance};
 ghost use Rattle.sr_spf.specs.Hops.{AreNextHops, AreHopsFrom};
-ghost use Rattle.sr_spf.specs.Trees.{AreTrees, AreRows, AreHops, row_at, cell_at, hops_at, lists_at, tree_count, distance_of};
+ghost use Rattle.sr_spf.specs.Trees.{AreTrees, AreRows, AreHopTables, row_at, cell_at, hops_at, lists_at, tree_count, distance_of};
 
 use crate::hops::{HopTable, hops_of};
 use crate::rows::rows_of;
@@ -32,13 +32,13 @@ pub struct Trees {
 }
 
 impl Model for Trees {
-    ghost use Rattle.sr_spf.specs.Trees.{Forest, IsWhole};
+    ghost use Rattle.sr_spf.specs.Trees.{Forest, IsWholeForest};
 
     ghost Value = { Forest };
 
     ghost view = { λ a. record { rows = a.rows.items; hops = a.hops.items } };
 
-    ghost invariant = { λ a. IsWhole (record { rows = a.rows.items; hops = a.hops.items }) };
+    ghost invariant = { λ a. IsWholeForest (record { rows = a.rows.items; hops = a.hops.items }) };
 }
 
 /// The next hops from each node, in threads where there are any.
@@ -49,7 +49,7 @@ fn hops_of_all(
     rows: &[Seq<u64>],
 ) -> Result<Vec<HopTable>, AllocError>
     requires { AreRows graph.now rows.now (node_count graph.now) }
-    ensures { IfOk result (λ hops. AreHops graph.now hops.items (node_count graph.now)) }
+    ensures { IfOk result (λ hops. AreHopTables graph.now hops.items (node_count graph.now)) }
 {
     let hops = |node: u32| -> Result<HopTable, AllocError>
         requires rows { AreRows graph.now rows.now (node_count graph.now) }

@@ -91,7 +91,7 @@ fn drawn(alloc: Global, state: &mut u32) -> Result<Draft, AllocError>
     })
 }
 
-/// What fails in a case of kind link or node. Nothing where there is no link.
+/// The links that fail in a link case or a node case. None where there is no link.
 fn drawn_failure(alloc: Global, graph: &Graph, state: &mut u32) -> Result<LinkSet, AllocError> {
     let count = graph.link_count();
     if count == 0 {
@@ -109,7 +109,8 @@ fn drawn_failure(alloc: Global, graph: &Graph, state: &mut u32) -> Result<LinkSe
 /// All nodes of the graph.
 fn all_nodes(alloc: Global, graph: &Graph) -> Result<Vec<NodeNo>, AllocError>
     ensures long { IfOk result (λ nodes. length nodes.items ≡ node_count graph.now) }
-    ensures each { IfOk result (λ nodes. (k : ℕ) → k < node_count graph.now → slice_index_or nodes.items k (record { 0 = k }) ≡ record { 0 = k }) }
+    ensures each { IfOk result (λ nodes. (k : ℕ) → k < node_count graph.now
+        → slice_index_or nodes.items k (record { 0 = k }) ≡ record { 0 = k }) }
     ensures graph { IsGraph graph.now }
 {
     let mut nodes = Vec::new(alloc);

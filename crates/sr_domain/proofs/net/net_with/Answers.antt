@@ -5,7 +5,7 @@ use Rattle.std.proofs.lemmas.List.{with_items_is}
 use Rattle.std.proofs.lemmas.List.Sorted.{All-permutation, length_permutation}
 use Rattle.sr_model.specs.declared.rule.DomainRule.TheVariants.{Overload}
 use Rattle.sr_model.specs.KeyOrder.{key_cmp}
-use Rattle.sr_domain.specs.declared.limits.TheConstants.{MOST_LINKS}
+use Rattle.sr_model.specs.declared.link.TheConstants.{MOST_LINKS}
 use Rattle.sr_domain.specs.declared.links.FoundLink.{FoundLink}
 use Rattle.sr_domain.specs.Announced.{announcements_of}
 use Rattle.sr_domain.specs.Groups.{notes_of}

@@ -10,7 +10,7 @@ returns-then-holds c = (
 
 pub returns : goal.returns
 returns c = (
-  λ yes. InP-members c.args.graph.now c.args.trees.now c.args.x.now c.links-link-items.result.now c.args.u.0 c.args.v.0 c.requires.trees c.requires.u c.requires.v c.requires.near c.links-link-items.ensures
+  λ yes. InP-members c.args.graph.now c.args.trees.now c.args.x.now c.links-link-items.result.now c.args.u.0 c.args.v.0 c.requires.reached.trees c.requires.reached.begins c.requires.reached.ends c.requires.reached.near c.links-link-items.ensures
       (λ i lt. c.loop-link.invariant i (omega (arith, c.loop-link-test.false, lt))),
   λ inside. cc,
 )

@@ -22,8 +22,7 @@ is_next_hop-requires c =
       rows = c.requires.rows;
       link = omega (arith, c.links_from-first.ensures.links.inside, c.loop-link-test.true);
       to = c.requires.to;
-      whole = cell_read _ _ c.args.from.0 _ _ _ c.requires.rows c.requires.from c.index-rows-from.is c.as_slice.ensures ∙ ap (λ k. cell_in c.args.rows.now k c.args.to.0) (sym begins);
-      near = c.if-whole-ge-FAR.false;
+      whole = (cell_read _ _ c.args.from.0 _ _ _ c.requires.rows c.requires.from c.index-rows-from.is c.as_slice.ensures ∙ ap (λ k. cell_in c.args.rows.now k c.args.to.0) (sym begins), c.if-whole-ge-FAR.false);
     }
 
 pub loop-link-init : goal.loop-link-init

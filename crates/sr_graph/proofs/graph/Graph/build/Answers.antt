@@ -3,7 +3,7 @@ use Rattle.std.specs.List.Sorted.{IsPermutation}
 use Rattle.std.specs.Vec.{with_items}
 use Rattle.std.proofs.lemmas.List.{with_items_is}
 use Rattle.std.proofs.lemmas.List.Sorted.{length_permutation}
-use Rattle.sr_graph.specs.Draft.{IsAccepted}
+use Rattle.sr_graph.specs.Draft.{IsAcceptedDraft}
 use Rattle.sr_graph.specs.Built.{IsBuilt}
 use Rattle.sr_graph.proofs.GraphLemmas.{draft_of, draft-moved, accepted-moved, refusal-moved, built-moved}
 use Rattle.sr_graph.proofs.graph.Graph.build.Goals as goal
@@ -34,5 +34,5 @@ returns-in-Ok c =
     let sorted : c.deref-2.result.now ≡ c.sort.new.links = c.deref-2.ensures.value ∙ written in
     let nodes : c.deref.result.now ≡ c.args.draft.nodes = c.deref.ensures.value ∙ c.into_vec-systems.ensures in
     let made : IsBuilt (draft_of c.args.draft.nodes c.sort.new.links) c.in-Ok.graph = rw (written, c.into_vec-systems.ensures) at c.in-Ok.ensures in
-    let accepted : IsAccepted c.args.draft.nodes c.sort.new.links = rw (nodes, sorted) at c.in_default.ensures in
+    let accepted : IsAcceptedDraft c.args.draft.nodes c.sort.new.links = rw (nodes, sorted) at c.in_default.ensures in
     record { built = built-moved _ _ _ same _ made; accepted = accepted-moved _ _ _ same accepted; refused = tt }

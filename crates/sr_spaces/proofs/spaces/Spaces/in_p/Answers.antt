@@ -27,6 +27,6 @@ returns c =
     rw (← c.self.view_is) (
       λ yes. no_way-inside c.self.inside.graph.now c.self.inside.failed.now c.args.u.0 c.args.v.0 c.in-Some.node.0 (cell_at c.self.inside.trees.now c.args.u.0 c.args.v.0) around.1
           ((tree_cell c.self.inside.graph.now c.self.inside.trees.now c.args.u.0 c.args.v.0 c.self.invariant.trees u v).near near)
-          (λ way. let both : true ≡ false = sym (c.comes_to.ensures.1 way) ∙ not-true c.comes_to.result yes in absurd (cc)),
-      λ inside. ap not (false_from_ne_true c.comes_to.result (λ comes. way-outside c.self.inside.graph.now c.self.inside.failed.now c.args.u.0 c.args.v.0 c.in-Some.node.0 around.1 c.if-u-v.false (c.comes_to.ensures.0 comes) inside)),
+          (λ way. let both : true ≡ false = sym (c.reaches.ensures.1 way) ∙ not-true c.reaches.result yes in absurd (cc)),
+      λ inside. ap not (false_from_ne_true c.reaches.result (λ comes. way-outside c.self.inside.graph.now c.self.inside.failed.now c.args.u.0 c.args.v.0 c.in-Some.node.0 around.1 c.if-u-v.false (c.reaches.ensures.0 comes) inside)),
     )

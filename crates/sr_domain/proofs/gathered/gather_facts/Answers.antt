@@ -7,7 +7,7 @@ use Rattle.sr_domain.specs.Nodes.{nodes_of}
 use Rattle.sr_domain.specs.Links.{links_of, link_by, JoinsNodes}
 use Rattle.sr_domain.specs.Steps.{IsBelowMaximum}
 use Rattle.sr_domain.proofs.GatheredLemmas.{links-ends, links-below}
-use Rattle.sr_domain.proofs.gathered.gather.Goals as goal
+use Rattle.sr_domain.proofs.gathered.gather_facts.Goals as goal
 
 pub returns : goal.returns
 returns c =
