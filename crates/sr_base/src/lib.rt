@@ -17,11 +17,13 @@ use std::alloc::AllocError;
 mod adapters;
 mod give;
 mod memory;
+mod numbered;
 mod runtime;
 mod steady;
 
 pub use adapters::{StdSink, StdSource};
 pub use memory::{MemorySink, MemorySource};
+pub use numbered::Numbered;
 pub use runtime::Runtime;
 pub use steady::{SteadySink, SteadySource};
 

@@ -3,6 +3,7 @@ use Rattle.std.proofs.Common.{◌≡◌, ℕ, List, [], ◌∷◌, ◌++◌, ref
 use Rattle.std.specs.List.{flat_map}
 use Rattle.sr_engine.specs.Lines.{Splits, IsUnbroken, AreUnbroken, with_feed}
 
+-- two lines are the same, and so is what follows them
 record Same (a b x y : List ℕ) : Type 0 where
   line : a ≡ b
   later : x ≡ y
@@ -24,7 +25,7 @@ no-feed [] x (c ∷ rest) q e = let h : c ≡ 10 = cc in q.0 h
 no-feed (c ∷ a) x [] q e = cc
 no-feed (c ∷ a) x (d ∷ rest) q e = let t : a ++ 10 ∷ x ≡ rest = cc in no-feed a x rest q.1 t
 
--- the text of lines and a rest, with its first line in front
+-- lines and a rest as one text, with the first line in front
 front : (line : List ℕ) (lines : List (List ℕ)) (rest : List ℕ) → flat_map with_feed (line ∷ lines) ++ rest ≡ line ++ 10 ∷ (flat_map with_feed lines ++ rest)
 front line lines rest = append_assoc (line ++ 10 ∷ []) (flat_map with_feed lines) rest ∙ append_assoc line (10 ∷ []) (flat_map with_feed lines ++ rest)
 

@@ -264,7 +264,8 @@ ended-broken {S} {conduct} {opening} {start} {now} {mid} {at} {script} {script'}
     let l = at-last p left n is r in
     last-broken final l.0 none (subst (λ x. Broke (ToLast conduct at.state (at.number + 1) x) mid.sink after cause) (line_is ∙ l.1) e) ending
 
--- the source is at its end, a last line and the end were answered so, and what was gathered was written, or there was a fault
+-- the source is at its end, a last line and the end were answered so, and what was gathered was written, or there was
+-- a fault
 pub ended : {S : Type 0} {conduct : Conduct S} {opening : S} {start now mid : Streams} {at : Stand S} {script script' : Held} {b : Bool} {what : Fill} {head : List ℕ} {then after : Written} {again : Bool} {end : End} {final : S}
     → Going conduct opening start now at → start.sink.gathered ≡ [] → b ≡ false → NextIs at.script script b → what ≡ fill.End → HasRead now mid script script' what
     → head ≡ script'.line → Gave (ToLast conduct at.state (at.number + 1) head) mid.sink then again final → Finishes then after (at.refused || again) end

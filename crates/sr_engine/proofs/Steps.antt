@@ -34,7 +34,7 @@ take_further xs a b within =
     ∙ ap (λ n. take (n + b) (take a xs ++ drop a xs)) (sym long)
     ∙ take-append-add (take a xs) (drop a xs) b
 
--- what of a list is still held after some more, where only so many of its first elements are
+-- the first n elements of a list and more, where the first n of the list are held and some of more are added
 pub take_grown : (n : ℕ) (rest more : List ℕ) (count : ℕ) → count ≡ min (n - length (take n rest)) (length more)
     → take n rest ++ take count more ≡ take n (rest ++ more)
 take_grown n rest more count is =

@@ -28,7 +28,9 @@ ending_of (fault.Memory e) = Memory
 
 -- all that was gathered was written and the run ends as answered whole, or there was a fault
 abbrev pub Finishes : Written → Written → Bool → End → Type 0
-Finishes before after refused end = ((end ≡ Done refused) × Flushed before after) ⊎ ((fault : SinkFault) × Breaks before after [] fault × (end ≡ ending_of fault))
+Finishes before after refused end =
+    ((end ≡ Done refused) × Flushed before after)
+    ⊎ ((fault : SinkFault) × Breaks before after [] fault × (end ≡ ending_of fault))
 
 -- the bytes that the source has left and that the sink holds, where they tell, and their counts of faults
 pub record Devices : Type 0 where
@@ -39,9 +41,15 @@ pub record Devices : Type 0 where
 
 -- what a source and a sink show
 abbrev pub devices_of : Option (List ℕ) → Option (List ℕ) → ℕ → ℕ → Devices
-devices_of left held read_faults write_faults = record { left = left; held = held; read_faults = read_faults; write_faults = write_faults }
+devices_of left held read_faults write_faults = record {
+  left = left;
+  held = held;
+  read_faults = read_faults;
+  write_faults = write_faults;
+}
 
--- the state that a run began with, the bytes that it took from the source, those that it appended to the sink, and the state that it left
+-- the state that a run began with, the bytes that it took from the source, those that it appended to the sink, and
+-- the state that it left
 pub record Course (S : Type 0) : Type 0 where
   pub opening : S
   pub taken : List ℕ
@@ -57,7 +65,8 @@ pub record BeginsAnswers {S : Type 0} (answers : Answering S) (opening : S) (tak
   pub answered : Answered answers opening front (out ++ more)
 
 -- the source was read to its end, and the output is a beginning of what the session may answer to the whole script
-pub record BeginsScript {S : Type 0} (conduct : Conduct S) (opening : S) (left : Option (List ℕ)) (taken out : List ℕ) : Type 0 where
+pub record BeginsScript {S : Type 0} (conduct : Conduct S) (opening : S) (left : Option (List ℕ)) (taken out : List ℕ)
+    : Type 0 where
   pub at_end : IsAtEnd left
   pub more : List ℕ
   pub refused : Bool
@@ -66,17 +75,20 @@ pub record BeginsScript {S : Type 0} (conduct : Conduct S) (opening : S) (left :
 
 -- the output is a beginning of what the session may answer, to some first lines or to the whole script
 abbrev pub BeginsOutput : {S : Type 0} → Conduct S → S → Option (List ℕ) → List ℕ → List ℕ → Type 0
-BeginsOutput conduct opening left taken out = BeginsAnswers conduct.answers opening taken out ⊎ BeginsScript conduct opening left taken out
+BeginsOutput conduct opening left taken out =
+    BeginsAnswers conduct.answers opening taken out ⊎ BeginsScript conduct opening left taken out
 
--- what the output is where a run took this course, and the source has so much left, and the run ended so
+-- the output of a run that took this course and ended so, where the source has these bytes left
 abbrev pub OutputIs : {S : Type 0} → Conduct S → Option (List ℕ) → Course S → End → Type 0
-OutputIs conduct left run (Done refused) = IsAtEnd left × (length run.taken ≤ most_bytes) × Script conduct run.opening run.taken run.out refused run.final
+OutputIs conduct left run (Done refused) =
+    IsAtEnd left × (length run.taken ≤ most_bytes) × Script conduct run.opening run.taken run.out refused run.final
 OutputIs conduct left run ReadFailed = Answered conduct.answers run.opening run.taken run.out
 OutputIs conduct left run WriteFailed = BeginsOutput conduct run.opening left run.taken run.out
 OutputIs conduct left run Memory = BeginsOutput conduct run.opening left run.taken run.out
-OutputIs conduct left run TooMuch = (most_bytes < length run.taken) × Answered conduct.answers run.opening (script_of run.taken) run.out
+OutputIs conduct left run TooMuch =
+    (most_bytes < length run.taken) × Answered conduct.answers run.opening (script_of run.taken) run.out
 
--- what the counts of faults of the source and the sink show where a run ended so
+-- the counts of faults of the source and the sink, before and after a run that ended so
 abbrev pub CountsShow : Devices → Devices → End → Type 0
 CountsShow old new (Done refused) = (new.read_faults ≡ old.read_faults) × (new.write_faults ≡ old.write_faults)
 CountsShow old new ReadFailed = Rose old.read_faults new.read_faults × (new.write_faults ≡ old.write_faults)
@@ -84,8 +96,10 @@ CountsShow old new WriteFailed = Rose old.write_faults new.write_faults × (new.
 CountsShow old new Memory = (new.read_faults ≡ old.read_faults) × (new.write_faults ≡ old.write_faults)
 CountsShow old new TooMuch = (new.read_faults ≡ old.read_faults) × (new.write_faults ≡ old.write_faults)
 
--- the run took these bytes from the source, none past the first one too many, appended those to the sink, and ended so; where the script was answered whole, the session is in this state, and else nothing is said of its state
-pub record Ran {S : Type 0} (conduct : Conduct S) (opening : S) (old new : Devices) (end : End) (final : S) : Type 0 where
+-- the run took these bytes from the source, none past the first one too many, appended those to the sink, and ended
+-- so; where the script was answered whole, the session is in this state, and else nothing is said of its state
+pub record Ran {S : Type 0} (conduct : Conduct S) (opening : S) (old new : Devices) (end : End) (final : S)
+    : Type 0 where
   pub taken : List ℕ
   pub took : Consumes old.left new.left taken
   pub few : length taken ≤ most_bytes + 1
@@ -98,6 +112,7 @@ abbrev pub shown : Streams → Devices
 shown streams = devices_of streams.source.left streams.sink.held streams.source.faults streams.sink.faults
 
 -- what a run's ending shows, for its clauses
-pub record Ends {S : Type 0} (conduct : Conduct S) (opening : S) (start now : Streams) (end : End) (final : S) : Type 0 where
+pub record Ends {S : Type 0} (conduct : Conduct S) (opening : S) (start now : Streams) (end : End) (final : S)
+    : Type 0 where
   pub ran : Ran conduct opening (shown start) (shown now) end final
   pub counts : CountsShow (shown start) (shown now) end

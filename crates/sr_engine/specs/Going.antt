@@ -7,18 +7,20 @@ use Rattle.sr_engine.specs.Replies.{Conduct, Replies}
 use Rattle.sr_engine.specs.Written.{Says}
 use Rattle.sr_engine.specs.Reading.{Held, Streams}
 
--- what a run holds between two steps: the reader, how many lines came, whether one was refused, and the session's state
+-- what a run holds between two steps: the reader, how many lines came, whether one was refused, and the session's
+-- state
 pub record Stand (S : Type 0) : Type 0 where
   pub script : Held
   pub number : ℕ
   pub refused : Bool
   pub state : S
 
--- the same of these parts
+-- the stand of a run with these parts
 abbrev pub stand : {S : Type 0} → Held → ℕ → Bool → S → Stand S
 stand script number refused state = record { script = script; number = number; refused = refused; state = state }
 
--- these bytes were taken without a fault; all lines that ended before those not looked at were answered, and they are as many as were counted
+-- these bytes were taken without a fault; all lines that ended before those not looked at were answered, and they are
+-- as many as were counted
 pub record Going {S : Type 0} (conduct : Conduct S) (opening : S) (start now : Streams) (at : Stand S) : Type 0 where
   pub taken : List ℕ
   pub took : Consumes start.source.left now.source.left taken

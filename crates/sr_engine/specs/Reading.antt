@@ -7,6 +7,7 @@ use Rattle.sr_base.specs.Faults.{Rose}
 use Rattle.sr_base.specs.declared.SinkFault.{SinkFault}
 use Rattle.sr_engine.specs.Written.{Written, Flushed, Breaks, written}
 use Rattle.sr_engine.specs.Lines.{IsUnbroken, head_of, most_bytes}
+use Rattle.sr_engine.specs.declared.script.TheConstants.{PIECE}
 use Rattle.sr_engine.specs.declared.script.Fill.{Fill}
 use Rattle.sr_engine.specs.declared.script.Fill.TheVariants.{More, End, Failed, TooMuch}
 
@@ -15,7 +16,7 @@ pub record Supply : Type 0 where
   pub left : Option (List ℕ)
   pub faults : ℕ
 
--- the same of these parts
+-- the supply of what the source has left and its count of faults
 abbrev pub supply : Option (List ℕ) → ℕ → Supply
 supply left faults = record { left = left; faults = faults }
 
@@ -24,11 +25,12 @@ pub record Streams : Type 0 where
   pub source : Supply
   pub sink : Written
 
--- the same of what the source and the sink show, and what is gathered
+-- the streams of what the source and the sink show, and what is gathered
 abbrev pub streams : Option (List ℕ) → ℕ → Option (List ℕ) → ℕ → List ℕ → Streams
 streams left reads held writes gathered = record { source = supply left reads; sink = written held writes gathered }
 
--- the head of the line that goes on or came last, the bytes of the script that were taken and not looked at, how many were taken, and whether the line lies in the piece still
+-- the head of the line that goes on or came last, the bytes of the script that were taken and not looked at, how many
+-- were taken, and whether the line lies in the piece still
 pub record Held : Type 0 where
   pub line : List ℕ
   pub unread : List ℕ
@@ -45,7 +47,7 @@ held_after old = record old { line = []; lent = false }
 
 -- the bytes that one read asks for
 abbrev pub piece_bytes : ℕ
-piece_bytes = 65536
+piece_bytes = PIECE
 
 -- the line that came last, where it lies in the piece, and else where it was gathered
 abbrev pub line_in : Bool → List ℕ → List ℕ → List ℕ
@@ -60,7 +62,7 @@ pub record FindsLine (old new : Held) : Type 0 where
   pub line : (rest : List ℕ) → old.line ≡ head_of rest → new.line ≡ head_of (rest ++ more)
   pub taken : new.taken ≡ old.taken
 
--- there was none: all bytes belong to the line that goes on
+-- there was no line feed: all bytes belong to the line that goes on
 pub record FindsNone (old new : Held) : Type 0 where
   pub unread : new.unread ≡ []
   pub unbroken : IsUnbroken old.unread
@@ -85,12 +87,16 @@ pub record Takes (left left' : Option (List ℕ)) (old new : Held) : Type 0 wher
   pub taken : new.taken ≡ old.taken + length bytes
   pub few : new.taken ≤ most_bytes + 1
 
--- what a read gave; past the first byte too many none is made
+-- what a read gave; past the first byte too many no read is made
 abbrev pub Fills : Supply → Supply → Held → Held → Fill → Type 0
 Fills source source' old new More = Takes source.left source'.left old new × (source'.faults ≡ source.faults)
-Fills source source' old new End = Consumes source.left source'.left [] × IsAtEnd source'.left × (old.taken ≤ most_bytes) × (source'.faults ≡ source.faults) × (new ≡ old)
-Fills source source' old new Failed = Keeps source.left source'.left × Rose source.faults source'.faults × (old.taken ≤ most_bytes) × (new ≡ old)
-Fills source source' old new TooMuch = (source'.left ≡ source.left) × (most_bytes < old.taken) × (source'.faults ≡ source.faults) × (new ≡ old)
+Fills source source' old new End =
+    Consumes source.left source'.left [] × IsAtEnd source'.left × (old.taken ≤ most_bytes)
+    × (source'.faults ≡ source.faults) × (new ≡ old)
+Fills source source' old new Failed =
+    Keeps source.left source'.left × Rose source.faults source'.faults × (old.taken ≤ most_bytes) × (new ≡ old)
+Fills source source' old new TooMuch =
+    (source'.left ≡ source.left) × (most_bytes < old.taken) × (source'.faults ≡ source.faults) × (new ≡ old)
 
 -- what was gathered was written first, and then this was read
 pub record HasRead (before after : Streams) (old new : Held) (fill : Fill) : Type 0 where
@@ -106,4 +112,5 @@ pub record HasBroken (before after : Streams) (old new : Held) (fault : SinkFaul
 
 -- all that was gathered was written, and then more was read; or the sink had a fault
 abbrev pub ReadsOn : Streams → Streams → Held → Held → Result Fill SinkFault → Type 0
-ReadsOn before after old new result = MatchResult result (HasRead before after old new) (HasBroken before after old new)
+ReadsOn before after old new result =
+    MatchResult result (HasRead before after old new) (HasBroken before after old new)

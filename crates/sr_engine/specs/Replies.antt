@@ -9,7 +9,8 @@ use Rattle.sr_engine.specs.Written.{Written, Says, Breaks}
 abbrev pub Allowed : Type 0 → Type 1
 Allowed S = List ℕ → Bool → S → Type 0
 
--- from a state, to the line of this number, so much may be answered
+-- from a state, to the line of this number, these bytes may be answered, the line refused or not, and that is the
+-- state after it
 abbrev pub Answering : Type 0 → Type 1
 Answering S = S → ℕ → List ℕ → List ℕ → Bool → S → Type 0
 
@@ -40,8 +41,10 @@ pub record Answered {S : Type 0} (answers : Answering S) (opening : S) (bytes ou
   pub last : S
   pub replies : Replies answers opening 1 lines out refused last
 
--- the answers to all lines of the script, also to a last one without a line feed, then what its end answers, and the state after it
-pub record Script {S : Type 0} (conduct : Conduct S) (opening : S) (bytes out : List ℕ) (refused : Bool) (final : S) : Type 0 where
+-- the answers to all lines of the script, also to a last one without a line feed, then what its end answers, and the
+-- state after it
+pub record Script {S : Type 0} (conduct : Conduct S) (opening : S) (bytes out : List ℕ) (refused : Bool) (final : S)
+    : Type 0 where
   pub lines : List (List ℕ)
   pub rest : List ℕ
   pub splits : Splits bytes lines rest
@@ -52,16 +55,18 @@ pub record Script {S : Type 0} (conduct : Conduct S) (opening : S) (bytes out : 
   pub end : conduct.ends last tail final
   pub whole : out ≡ said ++ tail
 
--- so much may be answered to every line with this head
+-- what may be answered to every line with this head
 abbrev pub ToHead : {S : Type 0} → Answering S → S → ℕ → List ℕ → Allowed S
-ToHead answers old number head = λ said refused new. (line : List ℕ) → head ≡ head_of line → answers old number line said refused new
+ToHead answers old number head =
+    λ said refused new. (line : List ℕ) → head ≡ head_of line → answers old number line said refused new
 
--- so much may be answered at the end of the script: it refuses nothing
+-- what may be answered at the end of the script, which refuses nothing
 abbrev pub AtEnd : {S : Type 0} → Closing S → S → Allowed S
 AtEnd ends old = λ said refused new. (refused ≡ false) × ends old said new
 
 -- first this may be answered, and then what the end of the script answers
-pub record ThenEnds {S : Type 0} (first : Allowed S) (ends : Closing S) (said : List ℕ) (refused : Bool) (new : S) : Type 0 where
+pub record ThenEnds {S : Type 0} (first : Allowed S) (ends : Closing S) (said : List ℕ) (refused : Bool) (new : S)
+    : Type 0 where
   pub front : List ℕ
   pub last : S
   pub is : first front refused last
@@ -69,7 +74,7 @@ pub record ThenEnds {S : Type 0} (first : Allowed S) (ends : Closing S) (said : 
   pub end : ends last tail new
   pub whole : said ≡ front ++ tail
 
--- so much may be answered to a last line with this head, if there is one, and to the end
+-- what may be answered to a last line with this head, if there is one, and then to the end of the script
 abbrev pub ToLast : {S : Type 0} → Conduct S → S → ℕ → List ℕ → Allowed S
 ToLast conduct old number head = λ said refused new. (rest : List ℕ) → head ≡ head_of rest
     → ThenEnds (Replies conduct.answers old number (last_line rest)) conduct.ends said refused new
@@ -94,4 +99,5 @@ pub record Broke {S : Type 0} (allowed : Allowed S) (before after : Written) (fa
 
 -- an allowed answer was answered, or at a fault a beginning of one
 abbrev pub Gives : {S : Type 0} → Allowed S → Written → Written → Result Bool SinkFault → S → Type 0
-Gives allowed before after result new = MatchResult result (λ refused. Gave allowed before after refused new) (Broke allowed before after)
+Gives allowed before after result new =
+    MatchResult result (λ refused. Gave allowed before after refused new) (Broke allowed before after)

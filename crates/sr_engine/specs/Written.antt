@@ -5,6 +5,7 @@ use Rattle.std.specs.declared.option.Option.{Option}
 use Rattle.std.specs.declared.result.Result.{Result}
 use Rattle.sr_base.specs.declared.SinkFault.{SinkFault}
 use Rattle.sr_base.specs.Writing.{CauseOf}
+use Rattle.sr_engine.specs.declared.answers.TheConstants.{GATHERED}
 
 -- what the sink holds, its count of faults, and what is gathered for it
 pub record Written : Type 0 where
@@ -12,13 +13,13 @@ pub record Written : Type 0 where
   pub faults : ℕ
   pub gathered : List ℕ
 
--- the same of these parts
+-- what was answered, of these parts
 abbrev pub written : Option (List ℕ) → ℕ → List ℕ → Written
 written held faults gathered = record { held = held; faults = faults; gathered = gathered }
 
 -- where more bytes than this are gathered, they are written
 abbrev pub most_gathered : ℕ
-most_gathered = 65536
+most_gathered = GATHERED
 
 -- exactly this text was answered: it stands behind what was gathered, in the sink or gathered still
 pub record Says (old new : Written) (text : List ℕ) : Type 0 where
@@ -44,6 +45,6 @@ pub record Flushed (old new : Written) : Type 0 where
   pub says : Says old new []
   pub none : new.gathered ≡ []
 
--- the same, or at a fault a beginning of what was gathered
+-- all that was gathered was written, or at a fault a beginning of it
 abbrev pub Flushes : Written → Written → Result (Unit {0}) SinkFault → Type 0
 Flushes old new result = MatchResult result (λ _. Flushed old new) (Breaks old new [])

@@ -38,7 +38,8 @@ impl Answers {
 
     /// Writes what is gathered. At a fault the sink was given a beginning of it.
     pub fn flush<K: Sink>(&mut self, sink: &mut K) -> Result<(), SinkFault>
-        ensures { Flushes (written (K.held sink.old) (K.faults sink.old) self.old) (written (K.held sink.new) (K.faults sink.new) self.new) result }
+        ensures { Flushes (written (K.held sink.old) (K.faults sink.old) self.old)
+            (written (K.held sink.new) (K.faults sink.new) self.new) result }
     {
         match write_all(sink, self.bytes.as_slice()) {
             Ok(()) => {
@@ -53,7 +54,8 @@ impl Answers {
     /// much more of it is held than its longest text. At a fault the sink was given a beginning of all; after one the
     /// run ends.
     pub fn put<K: Sink>(&mut self, sink: &mut K, text: &[u8]) -> Result<(), SinkFault>
-        ensures puts { Puts (written (K.held sink.old) (K.faults sink.old) self.old) (written (K.held sink.new) (K.faults sink.new) self.new) text.now result }
+        ensures puts { Puts (written (K.held sink.old) (K.faults sink.old) self.old)
+            (written (K.held sink.new) (K.faults sink.new) self.new) text.now result }
         ensures few { OnOk result (length self.new ≤ most_gathered) }
     {
         match self.bytes.extend_from_slice(text) {
@@ -66,9 +68,11 @@ impl Answers {
         self.flush(sink)
     }
 
-    /// Writes what is gathered where the script was answered whole, and says how the run ended. Was a line refused?
+    /// Writes what is gathered where the script was answered whole, and says how the run ended. `refused` tells whether a
+    /// line was refused.
     pub fn finish<K: Sink>(&mut self, sink: &mut K, refused: bool) -> End
-        ensures { Finishes (written (K.held sink.old) (K.faults sink.old) self.old) (written (K.held sink.new) (K.faults sink.new) self.new) refused result }
+        ensures { Finishes (written (K.held sink.old) (K.faults sink.old) self.old)
+            (written (K.held sink.new) (K.faults sink.new) self.new) refused result }
     {
         match self.flush(sink) {
             Ok(()) => End::Done(refused),

@@ -7,13 +7,13 @@ use sr_base::SinkFault;
 /// How a run ended.
 #[derive(Debug, Drop, Clone, Copy)]
 pub enum End {
-    /// The script was read to its end and answered whole. Was a line refused?
+    /// The script was read to its end and answered whole; true where a line was refused.
     Done(bool),
     /// A read failed.
     ReadFailed,
     /// A write failed.
     WriteFailed,
-    /// Memory was wanted.
+    /// The run was out of memory.
     Memory,
     /// The script has more than 33,554,432 bytes.
     TooMuch,
@@ -30,8 +30,8 @@ impl End {
         }
     }
 
-    /// The status that a program ends with: 0 where no line was refused, 1 where one was, 3 for a failed read, 4 for a
-    /// failed write, 5 for want of memory, 6 for too much script.
+    /// The status that a program ends with: 0 where no line was refused, 1 where one was, 3 where a read failed, 4 where
+    /// a write failed, 5 where it was out of memory, and 6 where the script was too long.
     pub fn status(self) -> u8
         ensures { result ≡ status_of self }
     {

@@ -56,14 +56,21 @@ impl Model for Script {
 
     ghost Value = { Held };
 
-    ghost view = { λ s. record { line = line_in s.lent (take (s.to - s.from) (drop s.from s.piece.items)) s.line.items; unread = take (s.end - s.at) (drop s.at s.piece.items); taken = s.taken; lent = s.lent } };
+    ghost view = { λ s. record {
+      line = line_in s.lent (take (s.to - s.from) (drop s.from s.piece.items)) s.line.items;
+      unread = take (s.end - s.at) (drop s.at s.piece.items);
+      taken = s.taken;
+      lent = s.lent;
+    } };
 
-    ghost invariant = { λ s. (s.at ≤ s.end) × (s.end ≤ vec_len s.piece) × (0 < vec_len s.piece) × (vec_len s.piece ≤ piece_bytes) × (s.from ≤ s.to) × (s.to ≤ vec_len s.piece) };
+    ghost invariant = { λ s. (s.at ≤ s.end) × (s.end ≤ vec_len s.piece) × (0 < vec_len s.piece)
+        × (vec_len s.piece ≤ piece_bytes) × (s.from ≤ s.to) × (s.to ≤ vec_len s.piece) };
 }
 
 /// Adds to what is held of a line, as far as a line that is too long shows.
 fn keep(kept: &mut Vec<u8>, more: &[u8]) -> Result<(), AllocError>
-    ensures { OnOk result ((rest : List ℕ) → kept.old.items ≡ head_of rest → kept.new.items ≡ head_of (rest ++ more.now)) }
+    ensures { OnOk result ((rest : List ℕ) → kept.old.items ≡ head_of rest
+        → kept.new.items ≡ head_of (rest ++ more.now)) }
 {
     let room = (LONGEST_LINE + 1).saturating_sub(kept.len());
     let count = room.min(more.len());
@@ -71,12 +78,15 @@ fn keep(kept: &mut Vec<u8>, more: &[u8]) -> Result<(), AllocError>
     Ok(())
 }
 
-/// Reads into the front of the buffer, at most so many bytes.
+/// Reads at most `most` bytes into the front of the buffer.
 fn read_front<S: Source>(source: &mut S, buffer: &mut [u8], most: usize) -> Result<usize, Failed>
     requires { (0 < most) × (most ≤ length buffer.old) }
     ensures len { length buffer.new ≡ length buffer.old }
     ensures few { IfOk result (λ count. count ≤ most) }
-    ensures bytes { MatchResult result (λ count. Consumes (S.left source.old) (S.left source.new) (take count buffer.new) × (count ≡ 0 → IsAtEnd (S.left source.new))) (λ _. Keeps (S.left source.old) (S.left source.new)) }
+    ensures bytes { MatchResult result
+        (λ count. Consumes (S.left source.old) (S.left source.new) (take count buffer.new)
+        × (count ≡ 0 → IsAtEnd (S.left source.new)))
+        (λ _. Keeps (S.left source.old) (S.left source.new)) }
     ensures cause { HasCause (S.faults source.old) (S.faults source.new) result }
 {
     source.read(&mut buffer[..most])
@@ -150,7 +160,8 @@ impl Script {
     fn fill<S: Source>(&mut self, source: &mut S) -> Fill
         requires looked { self.old.unread ≡ [] }
         requires spent { self.old.lent ≡ false }
-        ensures { Fills (supply (S.left source.old) (S.faults source.old)) (supply (S.left source.new) (S.faults source.new)) self.old self.new result }
+        ensures { Fills (supply (S.left source.old) (S.faults source.old))
+            (supply (S.left source.new) (S.faults source.new)) self.old self.new result }
     {
         self.at = 0;
         self.end = 0;

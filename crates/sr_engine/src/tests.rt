@@ -8,7 +8,7 @@ use sr_base::{
 use std::alloc::{AllocError, Global};
 use std::cell::Cell;
 
-/// Says this text so many times.
+/// Says this text `times` times.
 fn say_often<K: Sink>(
     text: &[u8],
     times: u32,
@@ -22,8 +22,8 @@ fn say_often<K: Sink>(
 }
 
 /// Says a line's number, as its last digit, and the line. An empty line and one with `#` are answered by nothing, one
-/// with `*` by 70,000 stars more, and one with `+` by 100,000 times the word `piece`. One with `!` is refused, at `?`
-/// memory is wanted, and at `-` behind 20,000 times that word.
+/// with `*` by 70,000 stars more, and one with `+` by 100,000 times the word `piece`. One with `!` is refused. At `?` it is
+/// out of memory, and so it is at `-`, behind 20,000 times that word.
 fn echo<K: Sink>(
     number: u32,
     line: &[u8],

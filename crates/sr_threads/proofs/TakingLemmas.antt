@@ -43,7 +43,7 @@ module _ {T : Type 0} where
             same ∙ last one (subst (λ (k : ℕ). slice_index_or places k None ≡ Some one) at is)
       ]
 
-  -- what is kept is what was found
+  -- the result is the value that was found
   pub last-is : (E : Type 0) (found : Option T) (x one : T) → found ≡ Some one → IfSome found (λ (made : T). ◌≡◌ {A = Result T E} (Ok x) (Ok made)) → x ≡ one
   last-is E found x one is kept =
       let same = subst (λ (f : Option T). IfSome f (λ (made : T). ◌≡◌ {A = Result T E} (Ok x) (Ok made))) is kept in

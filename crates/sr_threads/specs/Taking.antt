@@ -34,4 +34,5 @@ AreFilledBy all places = (i : ℕ) → slice_index_or places i None ≡ None →
 
 -- where something stands at a place, it stands there in order
 abbrev pub AreTakenFrom : {T : Type 0} → List (Option T) → List T → Type 0
-AreTakenFrom {T = T} places all = (i : ℕ) (one default : T) → i < length all → slice_index_or places i None ≡ Some one → slice_index_or all i default ≡ one
+AreTakenFrom {T = T} places all = (i : ℕ) (one default : T) →
+    i < length all → slice_index_or places i None ≡ Some one → slice_index_or all i default ≡ one

@@ -2,5 +2,7 @@
 #![tactic(auto)]
 
 mod taking;
+#[cfg(test)]
+mod tests;
 
 pub use taking::{Share, made_of_each};

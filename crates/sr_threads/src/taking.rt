@@ -38,7 +38,8 @@ fn do_some<T: Drop, F: Fn(u32) -> Result<T, AllocError>>(
     requires accepts { (i : ℕ) → i < count → F.pre f.now i }
     requires done { AreDone (λ i made. F.post f.now i (Ok made)) count done.old.items }
     ensures done { OnOk result (AreDone (λ i made. F.post f.now i (Ok made)) count done.new.items) }
-    ensures numbers { OnOk result (numbers_of done.new.items ≡ numbers_of done.old.items ++ range_with_len begin (end - begin)) }
+    ensures numbers { OnOk result
+        (numbers_of done.new.items ≡ numbers_of done.old.items ++ range_with_len begin (end - begin)) }
 {
     for number in begin..end {
         let made = f(number)?;
@@ -73,7 +74,7 @@ fn do_what_is_left<T: Drop, F: Fn(u32) -> Result<T, AllocError>>(
     Ok(done)
 }
 
-/// What so many threads do, this one among them.
+/// What this number of threads does, this one among them.
 #[cycle(threads)]
 fn do_by<R: Threads + Sync, T: Drop + Send, F: Fn(u32) -> Result<T, AllocError> + Sync>(
     rt: &R,
@@ -188,7 +189,8 @@ fn in_order<T: Drop, F: Fn(u32) -> Result<T, AllocError>>(
 }
 
 /// What `f` gives at each number below `count`, in order. They are shared among as many threads as there are processors,
-/// where there are enough of them.
+/// where there are enough of them. It is proved what is answered, whichever thread asks `f`. That each number is asked
+/// once is tested; that more than one thread asks is neither proved nor tested.
 pub fn made_of_each<R: Threads + Sync, T: Drop + Send, F: Fn(u32) -> Result<T, AllocError> + Sync>(
     rt: &R,
     alloc: Global,
