@@ -25,7 +25,7 @@ use Rattle.sr_encode.specs.declared.kept.Kept.{Kept}
 use Rattle.sr_encode.specs.Kept.{outcome_at, answer_from, entry_from, entries, HasSegments, AreKeptWithin}
 use Rattle.sr_encode.specs.Serve.{AreNodes}
 use Rattle.sr_post.specs.Nodes.{listed_at, AreAffected}
-use Rattle.sr_encode.specs.Answered.{entry_at, destination_at, answer_at, AscendByNode, AreAnswers, AreAnswered}
+use Rattle.sr_encode.specs.Answered.{node_answer_at, destination_at, answer_at, AscendByNode, AreAnswers, AreAnswered}
 
 -- what stands for an entry past the end of a list
 abbrev pub no_entry : NodeAnswer
@@ -54,8 +54,8 @@ answered-none n x s wanted = record { long = refl; nodes = λ i lt. absurd (omeg
 -- one answer more
 pub answered-push : (n : Net) (x : List Bool) (s : ℕ) (wanted : List NodeNo) (m : ℕ) (list : List NodeAnswer) (entry : NodeAnswer) → AreAnswered n x s wanted m list → entry.destination.0 ≡ listed_at wanted m → IsAnswer n x s (listed_at wanted m) entry.answer → AreAnswered n x s wanted (m + 1) (list ++ entry ∷ [])
 answered-push n x s wanted m list entry r node answer =
-    let old : (i : ℕ) → i < m → entry_at (list ++ entry ∷ []) i ≡ entry_at list i = λ i lt. get_or_append_left list (entry ∷ []) no_entry i (omega (arith, r.long)) in
-    let last : entry_at (list ++ entry ∷ []) m ≡ entry = get_or_push list entry no_entry m r.long in
+    let old : (i : ℕ) → i < m → node_answer_at (list ++ entry ∷ []) i ≡ node_answer_at list i = λ i lt. get_or_append_left list (entry ∷ []) no_entry i (omega (arith, r.long)) in
+    let last : node_answer_at (list ++ entry ∷ []) m ≡ entry = get_or_push list entry no_entry m r.long in
     record {
       long = length-append list (entry ∷ []) ∙ omega (arith, r.long);
       nodes = λ i lt. ⊎_elim
@@ -90,7 +90,7 @@ abbrev pub no_kept : Kept
 no_kept = record { destination = record { 0 = 0 }; outcome = 0; cost = 0 }
 
 -- the answers that are kept, read by place
-pub kept-at : (segments : List Segment) (outcomes : List Outcome) (kept : List Kept) (i : ℕ) → i < length kept → entry_at (entries segments outcomes kept) i ≡ entry_from segments outcomes (get_or kept i no_kept)
+pub kept-at : (segments : List Segment) (outcomes : List Outcome) (kept : List Kept) (i : ℕ) → i < length kept → node_answer_at (entries segments outcomes kept) i ≡ entry_from segments outcomes (get_or kept i no_kept)
 kept-at segments outcomes kept i lt = get_or-map (entry_from segments outcomes) kept i no_kept no_entry lt
 
 -- what a search by destination finds

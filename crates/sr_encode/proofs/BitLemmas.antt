@@ -1,30 +1,13 @@
 -- What sets of nodes have as nodes are put in and taken out.
-use Rattle.std.proofs.Common.{◌≡◌, ◌≢◌, ℕ, zero, suc, ◌+◌, ◌<◌, ◌⊎◌, ⊎_elim, inl, inr, Bool, true, false, not, ◌&&◌, ◌||◌, ◌==◌, cond, refl, arith, ap, sym, ◌∙◌, subst}
-use Rattle.std.proofs.lemmas.Bool.{eq-eqb, eqb-true, cases_eq, cases_Bool, and_parts, or_cases, or_left, or_right, not-true, true≢false}
+use Rattle.std.proofs.Common.{◌≡◌, ℕ, ◌⊎◌, ⊎_elim, inl, inr, true, false, ◌||◌, ◌==◌, refl, sym, ◌∙◌, subst}
+use Rattle.std.proofs.lemmas.Bool.{eq-eqb, eqb-true, cases_eq, or_cases, or_left, or_right, true≢false}
 use Rattle.sr_lanes.specs.declared.words.NodeBits.{NodeBits}
-use Rattle.sr_lanes.specs.Bits.{is_in, IsFirstIn, IsWithout}
+use Rattle.sr_lanes.specs.Bits.{is_in, IsWithout}
+use Rattle.sr_lanes.proofs.SizeLemmas.{without-same, without-other, without-inside}
 
 -- the set with node v
 abbrev pub IsWith : NodeBits → ℕ → NodeBits → Type 0
 IsWith set v more = (k : ℕ) → is_in more k ≡ (k == v || is_in set k)
-
-pub without-same : (set less : NodeBits) (v : ℕ) → IsWithout set less v → is_in less v ≡ false
-without-same set less v is = is v ∙ ap (λ t. not t && is_in set v) (eq-eqb v v refl)
-
-apart_test : (k v : ℕ) → k ≢ v → (k == v) ≡ false
-apart_test k v ne = ⊎_elim (λ yes. absurd (ne (eqb-true k v yes))) (λ no. no) (cases_Bool (k == v))
-
-pub without-other : (set less : NodeBits) (v k : ℕ) → IsWithout set less v → k ≢ v → is_in less k ≡ is_in set k
-without-other set less v k is ne = is k ∙ ap (λ t. not t && is_in set k) (apart_test k v ne)
-
-pub without-inside : (set less : NodeBits) (v k : ℕ) → IsWithout set less v → is_in less k ≡ true
-    → (k ≢ v) × (is_in set k ≡ true)
-without-inside set less v k is e =
-    let both : (not (k == v) && is_in set k) ≡ true = sym (is k) ∙ e in
-    let parts = and_parts (not (k == v)) (is_in set k) both in (
-      λ same. true≢false (sym (eq-eqb k v same) ∙ not-true (k == v) parts.0),
-      parts.1,
-    )
 
 pub with-same : (set more : NodeBits) (v : ℕ) → IsWith set v more → is_in more v ≡ true
 with-same set more v is = is v ∙ or_left (v == v) (is_in set v) (eq-eqb v v refl)
@@ -39,43 +22,6 @@ with-back set more v k is e = ⊎_elim (λ same. inl (eqb-true k v same)) (λ ol
 -- no node is in one and not in the other
 pub none_in : (set : NodeBits) (k : ℕ) → ((v : ℕ) → is_in set v ≡ false) → is_in set k ≡ true → ⊥
 none_in set k none is = true≢false (sym is ∙ none k)
-
--- how many numbers below n pass the test
-abbrev count_in : (ℕ → Bool) → ℕ → ℕ
-count_in test zero = 0
-count_in test (suc n) = count_in test n + cond (test n) 1 0
-
--- how many nodes the set has
-unfoldable pub size : NodeBits → ℕ
-size set = count_in (is_in set) 256
-
-count_in-same : (test less : ℕ → Bool) (n : ℕ) → ((k : ℕ) → k < n → less k ≡ test k) → count_in less n ≡ count_in test n
-count_in-same test less zero all = refl
-count_in-same test less (suc n) all =
-    let before : count_in less n ≡ count_in test n = count_in-same test less n (λ k lt. all k (omega arith)) in
-    rw (before, all n (omega arith)) refl
-
-count_in-less : (test less : ℕ → Bool) (n v : ℕ) → v < n → test v ≡ true → less v ≡ false → ((k : ℕ) → k ≢ v
-    → less k ≡ test k) → count_in less n < count_in test n
-count_in-less test less zero v lt was gone all = absurd (omega arith)
-count_in-less test less (suc n) v lt was gone all =
-    ⊎_elim
-    (λ (here : v ≡ n).
-    let same : count_in less n ≡ count_in test n = count_in-same test less n (λ k below. all k (λ e. let z : n < n = omega arith in omega arith)) in
-    let was' : test n ≡ true = subst (λ k. test k ≡ true) here was in
-    let gone' : less n ≡ false = subst (λ k. less k ≡ false) here gone in
-    rw (same, was', gone') (omega arith))
-    (λ (apart : v ≢ n).
-    let before : count_in less n < count_in test n = count_in-less test less n v (omega arith) was gone all in
-    let same : less n ≡ test n = all n (λ e. apart (sym e)) in
-    rw same (omega (arith, before)))
-    (cases_eq v n)
-
--- a set is smaller without its least node
-pub size-less : (set less : NodeBits) (v : ℕ) → IsFirstIn set v → IsWithout set less v → size less < size set
-unfolding size
-size-less set less v least is =
-    count_in-less (is_in set) (is_in less) 256 v least.within least.member (without-same set less v is) (λ k ne. without-other set less v k is ne)
 
 -- of the nodes of a set, those that aren't left have been sifted: found are those of them for which P holds
 pub record AreSifted (P : ℕ → Type 0) (start left found : NodeBits) : Type 0 where

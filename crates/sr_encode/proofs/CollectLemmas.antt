@@ -15,9 +15,9 @@ use Rattle.sr_encode.specs.declared.kept.Outcome.{Outcome}
 use Rattle.sr_encode.specs.declared.kept.Outcome.TheVariants.{Least, NoPath, NoList, TooDeep}
 use Rattle.sr_encode.specs.declared.kept.TheConstants.{NO_PATH, NO_LIST}
 use Rattle.sr_encode.specs.declared.waypoint.Waypoint.{Waypoint}
-use Rattle.sr_encode.specs.Collected.{IsOutcomeOf, IsOutcomeFor, IsCollected, IsOfSame, Gains}
+use Rattle.sr_encode.specs.Collected.{most_segments, IsOutcomeOf, IsOutcomeFor, IsCollected, IsOfSame, Gains}
 use Rattle.sr_encode.specs.Kept.{outcome_at, answer_from, HasSegments}
-use Rattle.sr_encode.specs.Serve.{IsFound}
+use Rattle.sr_encode.specs.Serve.{IsResolved}
 use Rattle.sr_encode.specs.Waypoints.{waypoint_at, path_to}
 use Rattle.sr_encode.proofs.AnswerLemmas.{range-kept, within-more}
 use Rattle.sr_encode.proofs.QueueLemmas.{segments-long}
@@ -38,7 +38,7 @@ outcome-stays g after more k (Least first begin end) same segments within is =
     )
 
 -- the outcome of one waypoint more
-pub collected-add : (g after : Collected) (k : ℕ) (more : List Segment) (o : Outcome) → IsCollected g → IsOfSame g after → after.segments.items ≡ g.segments.items ++ more → length more ≤ 2 ^ 16 → after.outcomes.items ≡ g.outcomes.items ++ o ∷ [] → after.known.items ≡ set g.known.items k (Some (length g.outcomes.items)) → k < length g.queue.now → HasSegments after.segments.items o → IsOutcomeOf after k o → IsCollected after
+pub collected-add : (g after : Collected) (k : ℕ) (more : List Segment) (o : Outcome) → IsCollected g → IsOfSame g after → after.segments.items ≡ g.segments.items ++ more → length more ≤ most_segments → after.outcomes.items ≡ g.outcomes.items ++ o ∷ [] → after.known.items ≡ set g.known.items k (Some (length g.outcomes.items)) → k < length g.queue.now → HasSegments after.segments.items o → IsOutcomeOf after k o → IsCollected after
 collected-add g after k more o is same segments few outcomes known lt within here =
     let stays : (r : ℕ) → r < length g.outcomes.items → outcome_at after.outcomes.items r ≡ outcome_at g.outcomes.items r = λ r below. ap (λ os. outcome_at os r) outcomes ∙ get_or_append_left g.outcomes.items (o ∷ []) NoPath r below in
     let last : outcome_at after.outcomes.items (length g.outcomes.items) ≡ o = ap (λ os. outcome_at os (length g.outcomes.items)) outcomes ∙ get_or_push g.outcomes.items o NoPath (length g.outcomes.items) refl in
@@ -96,7 +96,7 @@ served-answer g x d k (Least first begin end) cost is least far =
     )
 
 -- the answer that a search gives for a destination
-pub found-answer : (g : Collected) (x : List Bool) (d : ℕ) (cells : List ℕ) (place : Option ℕ) (r cost : ℕ) → IsFound g.net.now x g.source.0 cells g.queue.now d place → IsCell g.net.now.graph x g.source.0 d (slice_index cells d) → IsOutcomeFor g (slice_index cells d) place r → (slice_index cells d < FAR → cost ≡ slice_index cells d) → IsAnswer g.net.now x g.source.0 d (answer_from g.segments.items (outcome_at g.outcomes.items r) cost)
+pub found-answer : (g : Collected) (x : List Bool) (d : ℕ) (cells : List ℕ) (place : Option ℕ) (r cost : ℕ) → IsResolved (record { net = g.net.now; failed = x; source = g.source.0; post = cells }) g.queue.now d place → IsCell g.net.now.graph x g.source.0 d (slice_index cells d) → IsOutcomeFor g (slice_index cells d) place r → (slice_index cells d < FAR → cost ≡ slice_index cells d) → IsAnswer g.net.now x g.source.0 d (answer_from g.segments.items (outcome_at g.outcomes.items r) cost)
 found-answer g x d cells None r cost found cell is same =
     ⊎_elim
     (λ (near : slice_index cells d < FAR).
@@ -114,9 +114,9 @@ found-answer g x d cells (Some k) r cost found cell is same =
     served-answer g x d k (outcome_at g.outcomes.items r) cost is least far
 
 -- the same for the search that it was collected of
-pub answer-found : (n : Net) (s : NodeNo) (queue : List Waypoint) (g : Collected) (x : List Bool) (d : ℕ) (cells : List ℕ) (place : Option ℕ) (r cost : ℕ) → g.net.now ≡ n → g.source ≡ s → g.queue.now ≡ queue → IsFound n x s.0 cells queue d place → IsCell n.graph x s.0 d (slice_index cells d) → IsOutcomeFor g (slice_index cells d) place r → (slice_index cells d < FAR → cost ≡ slice_index cells d) → IsAnswer n x s.0 d (answer_from g.segments.items (outcome_at g.outcomes.items r) cost)
+pub answer-found : (n : Net) (s : NodeNo) (queue : List Waypoint) (g : Collected) (x : List Bool) (d : ℕ) (cells : List ℕ) (place : Option ℕ) (r cost : ℕ) → g.net.now ≡ n → g.source ≡ s → g.queue.now ≡ queue → IsResolved (record { net = n; failed = x; source = s.0; post = cells }) queue d place → IsCell n.graph x s.0 d (slice_index cells d) → IsOutcomeFor g (slice_index cells d) place r → (slice_index cells d < FAR → cost ≡ slice_index cells d) → IsAnswer n x s.0 d (answer_from g.segments.items (outcome_at g.outcomes.items r) cost)
 answer-found n s queue g x d cells place r cost net source waypoints found cell is same =
-    let there : IsFound g.net.now x g.source.0 cells g.queue.now d place = rw (net, source, waypoints) found in
+    let there : IsResolved (record { net = g.net.now; failed = x; source = g.source.0; post = cells }) g.queue.now d place = rw (net, source, waypoints) found in
     let here : IsCell g.net.now.graph x g.source.0 d (slice_index cells d) = rw (net, source) cell in
     let answer : Net → ℕ → Type 0 = λ m u. IsAnswer m x u d (answer_from g.segments.items (outcome_at g.outcomes.items r) cost) in
     subst (λ m. answer m s.0) net (subst (λ (u : NodeNo). answer g.net.now u.0) source (found-answer g x d cells place r cost there here is same))

@@ -10,10 +10,10 @@ use Rattle.sr_lanes.specs.declared.words.NodeBits.{NodeBits}
 use Rattle.sr_lanes.specs.Bits.{is_in, IsFirstIn, IsWithout}
 use Rattle.sr_encode.specs.declared.waypoint.Waypoint.{Waypoint}
 use Rattle.sr_encode.specs.declared.met.Met.{Met}
-use Rattle.sr_encode.specs.Waypoints.{no_waypoint, waypoint_at, node_at, met_from, Extends}
+use Rattle.sr_encode.specs.Waypoints.{no_waypoint, waypoint_at, waypoint_node, met_from, Extends}
 use Rattle.sr_encode.specs.Aftermath.{Aftermath, IsAftermath, AreInside}
-use Rattle.sr_encode.specs.Search.{segment_at, StepsTo, IsSearching, LooksFrom, HasRoom}
-use Rattle.sr_encode.proofs.BitLemmas.{without-inside, without-other}
+use Rattle.sr_encode.specs.Search.{segment_numbered, StepsTo, IsSearching, LooksFrom, HasRoom}
+use Rattle.sr_lanes.proofs.SizeLemmas.{without-inside, without-other}
 use Rattle.sr_encode.proofs.SearchLemmas.{leads-within}
 use Rattle.sr_encode.proofs.QueueLemmas.{step-node, step-link, segment-node, segment-link, searching-over, searching-push, searching-short}
 
@@ -56,13 +56,13 @@ pub record AreAhead (after : Aftermath) (queue : List Waypoint) (unmet : NodeBit
   pub cur : ℕ
   pub search : IsSearching after queue unmet i cur
   pub upto : cur ≤ node_count after.net.graph
-  pub ahead : (v : ℕ) → is_in ends v ≡ true → (cur ≤ v) × (v < node_count after.net.graph) × (is_in unmet v ≡ true) × StepsTo after (node_at queue i) (Node (record { 0 = v })) v
-  pub all : (v : ℕ) → cur ≤ v → is_in unmet v ≡ true → StepsTo after (node_at queue i) (Node (record { 0 = v })) v → is_in ends v ≡ true
+  pub ahead : (v : ℕ) → is_in ends v ≡ true → (cur ≤ v) × (v < node_count after.net.graph) × (is_in unmet v ≡ true) × StepsTo after (waypoint_node queue i) (Node (record { 0 = v })) v
+  pub all : (v : ℕ) → cur ≤ v → is_in unmet v ≡ true → StepsTo after (waypoint_node queue i) (Node (record { 0 = v })) v → is_in ends v ≡ true
 
 pub ahead-start : (after : Aftermath) (queue : List Waypoint) (unmet : NodeBits) (i : ℕ) (ends : NodeBits)
     → IsSearching after queue unmet i 0
     → ((v : ℕ)
-    → IsTrue (is_in ends v) ↔ ((is_in unmet v ≡ true) × StepsTo after (node_at queue i) (Node (record { 0 = v })) v))
+    → IsTrue (is_in ends v) ↔ ((is_in unmet v ≡ true) × StepsTo after (waypoint_node queue i) (Node (record { 0 = v })) v))
     → AreAhead after queue unmet i ends
 ahead-start after queue unmet i ends r these = record {
   cur = 0;
@@ -80,9 +80,9 @@ ahead-over after queue unmet i ends next r inside up within none =
     searching-over after queue unmet i r.cur r.search inside next up
     (λ key v at below step.
     let lt : key < node_count after.net.graph = omega arith in
-    let step' : StepsTo after (node_at queue i) (Node (record { 0 = key })) v = subst (λ t. StepsTo after (node_at queue i) t v) (segment-node after.net.graph (record { 0 = key }) lt) step in
-    let same : v ≡ key = step-node after (node_at queue i) (record { 0 = key }) v step' in
-    let there : StepsTo after (node_at queue i) (Node (record { 0 = key })) key = subst (λ k. StepsTo after (node_at queue i) (Node (record { 0 = key })) k) same step' in
+    let step' : StepsTo after (waypoint_node queue i) (Node (record { 0 = key })) v = subst (λ t. StepsTo after (waypoint_node queue i) t v) (segment-node after.net.graph (record { 0 = key }) lt) step in
+    let same : v ≡ key = step-node after (waypoint_node queue i) (record { 0 = key }) v step' in
+    let there : StepsTo after (waypoint_node queue i) (Node (record { 0 = key })) key = subst (λ k. StepsTo after (waypoint_node queue i) (Node (record { 0 = key })) k) same step' in
     let met : is_in unmet key ≡ false = ⊎_elim (λ yes. absurd (true≢false (sym (r.all key at yes there) ∙ none key below))) (λ gone. gone) (cases_Bool (is_in unmet key)) in
     (omega arith, subst (λ k. is_in unmet k ≡ false) (sym same) met))
 
@@ -96,8 +96,8 @@ ahead-next after queue unmet less i v ends left is r inside first taken met =
     let node : NodeNo = record { 0 = v } in
     let at : IsSearching after queue unmet i v = ahead-over after queue unmet i ends v r inside here.0 (omega (arith, here.1)) first.least in
     let pushed : IsSearching after (queue ++ met_from queue i node (Node node) ∷ []) less i (v + 1) =
-    searching-push after queue unmet i v at inside (Node node) node less is.row (segment-node after.net.graph node here.1) here.1 here.2 met here.3 (λ u step. step-node after (node_at queue i) node u step) in
-    let kept : node_at (queue ++ met_from queue i node (Node node) ∷ []) i ≡ node_at queue i = ap (λ (w : Waypoint). w.node.0) (get_or_append_left queue (met_from queue i node (Node node) ∷ []) no_waypoint i inside) in
+    searching-push after queue unmet i v at inside (Node node) node less is.row (segment-node after.net.graph node here.1) here.1 here.2 met here.3 (λ u step. step-node after (waypoint_node queue i) node u step) in
+    let kept : waypoint_node (queue ++ met_from queue i node (Node node) ∷ []) i ≡ waypoint_node queue i = ap (λ (w : Waypoint). w.node.0) (get_or_append_left queue (met_from queue i node (Node node) ∷ []) no_waypoint i inside) in
     record {
       cur = v + 1;
       search = pushed;
@@ -132,26 +132,26 @@ link-within after l v w is step = leads-within after.net after.failed is.graph v
 -- the segment of a link that leads nowhere, or to a node that was met
 pub link-passed : (after : Aftermath) (queue : List Waypoint) (unmet : NodeBits) (i : ℕ) (l : LinkNo)
     → IsAftermath after → IsSearching after queue unmet i (node_count after.net.graph + l.0) → i < length queue
-    → ((v : ℕ) → StepsTo after (node_at queue i) (Adj l) v → is_in unmet v ≡ false)
+    → ((v : ℕ) → StepsTo after (waypoint_node queue i) (Adj l) v → is_in unmet v ≡ false)
     → IsSearching after queue unmet i (node_count after.net.graph + (l.0 + 1))
 link-passed after queue unmet i l is r inside met =
     searching-over after queue unmet i (node_count after.net.graph + l.0) r inside (node_count after.net.graph + (l.0 + 1)) (omega arith)
     (λ key v at below step.
     let same : key ≡ node_count after.net.graph + l.0 = omega arith in
-    let key_is : segment_at after.net.graph key ≡ Adj l = ap (λ k. segment_at after.net.graph k) same ∙ segment-link after.net.graph l in
-    let step' : StepsTo after (node_at queue i) (Adj l) v = subst (λ t. StepsTo after (node_at queue i) t v) key_is step in
-    (leads-within after.net after.failed is.graph v (node_at queue i) step'.cost (Adj l) step'.leads, met v step'))
+    let key_is : segment_numbered after.net.graph key ≡ Adj l = ap (λ k. segment_numbered after.net.graph k) same ∙ segment-link after.net.graph l in
+    let step' : StepsTo after (waypoint_node queue i) (Adj l) v = subst (λ t. StepsTo after (waypoint_node queue i) t v) key_is step in
+    (leads-within after.net after.failed is.graph v (waypoint_node queue i) step'.cost (Adj l) step'.leads, met v step'))
 
 -- and of one that leads to a node that wasn't
 pub link-met : (after : Aftermath) (queue : List Waypoint) (unmet less : NodeBits) (i : ℕ) (l : LinkNo) (v : NodeNo)
     → IsAftermath after → IsSearching after queue unmet i (node_count after.net.graph + l.0) → i < length queue
-    → StepsTo after (node_at queue i) (Adj l) v.0 → is_in unmet v.0 ≡ true → IsWithout unmet less v.0
+    → StepsTo after (waypoint_node queue i) (Adj l) v.0 → is_in unmet v.0 ≡ true → IsWithout unmet less v.0
     → IsSearching after (queue ++ met_from queue i v (Adj l) ∷ []) less i (node_count after.net.graph + (l.0 + 1))
 link-met after queue unmet less i l v is r inside step apart taken =
-    let within : v.0 < node_count after.net.graph = leads-within after.net after.failed is.graph v.0 (node_at queue i) step.cost (Adj l) step.leads in
-    let end : v.0 ≡ head after.net.graph l.0 = step-link after (node_at queue i) l v.0 step in
+    let within : v.0 < node_count after.net.graph = leads-within after.net after.failed is.graph v.0 (waypoint_node queue i) step.cost (Adj l) step.leads in
+    let end : v.0 ≡ head after.net.graph l.0 = step-link after (waypoint_node queue i) l v.0 step in
     let pushed : IsSearching after (queue ++ met_from queue i v (Adj l) ∷ []) less i ((node_count after.net.graph + l.0) + 1) =
     searching-push after queue unmet i (node_count after.net.graph + l.0) r inside (Adj l) v less is.row (segment-link after.net.graph l) within apart taken step
-    (λ u other. step-link after (node_at queue i) l u other ∙ sym end) in
+    (λ u other. step-link after (waypoint_node queue i) l u other ∙ sym end) in
     let e : (node_count after.net.graph + l.0) + 1 ≡ node_count after.net.graph + (l.0 + 1) = omega arith in
     subst (λ k. IsSearching after (queue ++ met_from queue i v (Adj l) ∷ []) less i k) e pushed

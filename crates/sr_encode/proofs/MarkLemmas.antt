@@ -13,7 +13,8 @@ use Rattle.sr_encode.specs.declared.waypoint.Waypoint.{Waypoint}
 use Rattle.sr_encode.specs.declared.served.Served.{Served}
 use Rattle.sr_encode.specs.Aftermath.{Aftermath, AreInside}
 use Rattle.sr_encode.specs.Serve.{place_at, ArePlaced, AreOffered}
-use Rattle.sr_encode.proofs.BitLemmas.{IsWith, none_in, without-other, without-inside, with-same, with-old, with-back}
+use Rattle.sr_lanes.proofs.SizeLemmas.{without-other, without-inside}
+use Rattle.sr_encode.proofs.BitLemmas.{IsWith, none_in, with-same, with-old, with-back}
 
 -- of these nodes, those that aren't left have the place
 pub record IsMarking (before : List (Option ℕ)) (nodes : NodeBits) (k : ℕ) (left : NodeBits) (places : List (Option ℕ)) : Type 0 where

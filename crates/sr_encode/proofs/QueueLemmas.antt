@@ -15,13 +15,13 @@ use Rattle.sr_model.specs.Repair.{Path}
 use Rattle.sr_laws.proofs.Order.{push}
 use Rattle.sr_laws.proofs.Exact.{IsExact, Knows}
 use Rattle.sr_encode.specs.declared.waypoint.Waypoint.{Waypoint}
-use Rattle.sr_encode.specs.Waypoints.{no_waypoint, waypoint_at, node_at, segments_to, path_to, AreParents, Extends, met_from, met_first}
+use Rattle.sr_encode.specs.Waypoints.{no_waypoint, waypoint_at, waypoint_node, segments_to, path_to, AreParents, Extends, met_from, met_first}
 use Rattle.sr_encode.specs.Aftermath.{Aftermath}
-use Rattle.sr_encode.specs.Search.{segment_at, key_count, StepsTo, Agrees, IsSearching, IsStarting}
-use Rattle.sr_encode.proofs.BitLemmas.{without-same, without-other, without-inside}
+use Rattle.sr_encode.specs.Search.{segment_numbered, key_count, StepsTo, Agrees, IsSearching, IsStarting}
+use Rattle.sr_lanes.proofs.SizeLemmas.{without-same, without-other, without-inside}
 use Rattle.sr_encode.proofs.SearchLemmas.{leads-within, search-over, search-push, search-next, search-pass, search-past, search-upto, search-short, search-from_start, start-more, start-push, start-jump, start-empty, none-replicate}
 
--- a segment taken off the end of a list, and put before the reversed rest
+-- the last segment of a list, put before the rest in reverse
 pub chain-step : (queue : List Waypoint) (m at : ℕ) (whole list : List Segment) (t : Segment)
     → whole ≡ segments_to queue (suc m) at ++ reverse list → t ≡ (waypoint_at queue at).segment
     → whole ≡ segments_to queue m (waypoint_at queue at).parent ++ reverse (list ++ t ∷ [])
@@ -104,7 +104,7 @@ agrees-push known order queue unmet less v a t r within fresh taken node parent 
       nodes = λ k lt. ⊎_elim
           (λ (old : k < length order). ap (λ (w : Waypoint). w.node.0) (e.same k (omega arith)) ∙ r.nodes k old ∙ sym (get_or_append_left order (v ∷ []) 0 k old))
           (λ (late : length order ≤ k). let at : k ≡ length queue = omega arith in let at' : k ≡ length order = omega arith in
-          ap (λ j. node_at (queue ++ t ∷ []) j) at ∙ ap (λ (w : Waypoint). w.node.0) last ∙ node ∙ sym last' ∙ ap (λ j. slice_index (order ++ v ∷ []) j) (sym at'))
+          ap (λ j. waypoint_node (queue ++ t ∷ []) j) at ∙ ap (λ (w : Waypoint). w.node.0) last ∙ node ∙ sym last' ∙ ap (λ j. slice_index (order ++ v ∷ []) j) (sym at'))
           (cases_lt k (length order));
       paths = λ k lt. ⊎_elim
           (λ (old : k < length order).
@@ -161,10 +161,10 @@ pub step-link : (after : Aftermath) (w : ℕ) (l : LinkNo) (u : ℕ) → StepsTo
 step-link after w l u step = sym step.leads.5.0
 
 -- the numbers of segments
-pub segment-node : (g : Graph) (v : NodeNo) → v.0 < node_count g → segment_at g v.0 ≡ Node v
+pub segment-node : (g : Graph) (v : NodeNo) → v.0 < node_count g → segment_numbered g v.0 ≡ Node v
 segment-node g v lt = cond_both (nat_lt v.0 (node_count g)) (Node (record { 0 = v.0 })) (Adj (record { 0 = v.0 - node_count g })) (λ r. r ≡ Node v) (λ _. refl) (λ high. let h : node_count g ≤ v.0 = ltb-false v.0 (node_count g) high in absurd (omega arith))
 
-pub segment-link : (g : Graph) (l : LinkNo) → segment_at g (node_count g + l.0) ≡ Adj l
+pub segment-link : (g : Graph) (l : LinkNo) → segment_numbered g (node_count g + l.0) ≡ Adj l
 segment-link g l =
     let z : (node_count g + l.0) - node_count g ≡ l.0 = omega arith in
     cond_both (nat_lt (node_count g + l.0) (node_count g)) (Node (record { 0 = node_count g + l.0 })) (Adj (record { 0 = (node_count g + l.0) - node_count g })) (λ r. r ≡ Adj l)
@@ -218,15 +218,15 @@ module _ (after : Aftermath) (queue : List Waypoint) (unmet : NodeBits) (i cur :
   inside' : i < length r.order
   inside' = omega (arith, r.agrees.long)
 
-  place_is : slice_index r.order i ≡ node_at queue i
+  place_is : slice_index r.order i ≡ waypoint_node queue i
   place_is = sym (r.agrees.nodes i inside')
 
-  from-there : (t : Segment) (v : ℕ) → StepsTo after (slice_index r.order i) t v → StepsTo after (node_at queue i) t v
+  from-there : (t : Segment) (v : ℕ) → StepsTo after (slice_index r.order i) t v → StepsTo after (waypoint_node queue i) t v
   from-there t v step = subst (λ j. StepsTo after j t v) place_is step
 
   -- it goes on past segments that lead to nodes that were met, if anywhere
   pub searching-over : (next : ℕ) → cur ≤ next
-      → ((key v : ℕ) → cur ≤ key → key < next → StepsTo after (node_at queue i) (segment_at after.net.graph key) v
+      → ((key v : ℕ) → cur ≤ key → key < next → StepsTo after (waypoint_node queue i) (segment_numbered after.net.graph key) v
       → (v < node_count after.net.graph) × (is_in unmet v ≡ false))
       → IsSearching after queue unmet i next
   searching-over next up met = record {
@@ -234,23 +234,23 @@ module _ (after : Aftermath) (queue : List Waypoint) (unmet : NodeBits) (i cur :
     order = r.order;
     search = search-over after r.known r.order i cur next r.search inside' up
         (λ key v at below step.
-        let q = met key v at below (from-there (segment_at after.net.graph key) v step) in
+        let q = met key v at below (from-there (segment_numbered after.net.graph key) v step) in
         list-from r.known r.order queue unmet v r.agrees (let lt : v < node_count after.net.graph = q.0 in omega (arith, r.search.long)) q.1);
     agrees = r.agrees;
   }
 
   -- and past one that leads to a node that wasn't
   pub searching-push : (t : Segment) (v : NodeNo) (less : NodeBits)
-      → IsRow after.net.graph after.failed after.source after.post → segment_at after.net.graph cur ≡ t
+      → IsRow after.net.graph after.failed after.source after.post → segment_numbered after.net.graph cur ≡ t
       → v.0 < node_count after.net.graph
-      → is_in unmet v.0 ≡ true → IsWithout unmet less v.0 → StepsTo after (node_at queue i) t v.0 → ((u : ℕ)
-      → StepsTo after (node_at queue i) t u → u ≡ v.0)
+      → is_in unmet v.0 ≡ true → IsWithout unmet less v.0 → StepsTo after (waypoint_node queue i) t v.0 → ((u : ℕ)
+      → StepsTo after (waypoint_node queue i) t u → u ≡ v.0)
       → IsSearching after (queue ++ met_from queue i v t ∷ []) less i (cur + 1)
   searching-push t v less row is within apart taken step one =
       let fresh : slice_index_or r.known v.0 None ≡ None = fresh-from r.known r.order queue unmet v.0 r.agrees apart in
-      let list : push (path_to queue i) (segment_at after.net.graph cur) ≡ push (path_to queue i) t = ap (λ k. push (path_to queue i) k) is in
-      let there : StepsTo after (slice_index r.order i) (segment_at after.net.graph cur) v.0 = subst (λ k. StepsTo after (slice_index r.order i) k v.0) (sym is) (subst (λ j. StepsTo after j t v.0) (sym place_is) step) in
-      let only : (u : ℕ) → StepsTo after (slice_index r.order i) (segment_at after.net.graph cur) u → u ≡ v.0 = λ u st. one u (from-there t u (subst (λ k. StepsTo after (slice_index r.order i) k u) is st)) in
+      let list : push (path_to queue i) (segment_numbered after.net.graph cur) ≡ push (path_to queue i) t = ap (λ k. push (path_to queue i) k) is in
+      let there : StepsTo after (slice_index r.order i) (segment_numbered after.net.graph cur) v.0 = subst (λ k. StepsTo after (slice_index r.order i) k v.0) (sym is) (subst (λ j. StepsTo after j t v.0) (sym place_is) step) in
+      let only : (u : ℕ) → StepsTo after (slice_index r.order i) (segment_numbered after.net.graph cur) u → u ≡ v.0 = λ u st. one u (from-there t u (subst (λ k. StepsTo after (slice_index r.order i) k u) is st)) in
       let depth : (waypoint_at queue i).depth ≤ i = (r.agrees.parents i inside).1 in
       record {
         known = set r.known v.0 (Some (push (path_to queue i) t));
@@ -265,7 +265,7 @@ module _ (after : Aftermath) (queue : List Waypoint) (unmet : NodeBits) (i cur :
 pub searching-upto : (after : Aftermath) (queue : List Waypoint) (unmet : NodeBits) (i first : ℕ)
     → IsSearching after queue unmet i (node_count after.net.graph) → i < length queue
     → first ≤ link_count after.net.graph
-    → ((k : ℕ) → k < link_count after.net.graph → tail after.net.graph k ≡ node_at queue i → first ≤ k)
+    → ((k : ℕ) → k < link_count after.net.graph → tail after.net.graph k ≡ waypoint_node queue i → first ≤ k)
     → IsSearching after queue unmet i (node_count after.net.graph + first)
 searching-upto after queue unmet i first r inside within to =
     let here : i < length r.order = omega (arith, r.agrees.long) in
@@ -280,7 +280,7 @@ searching-upto after queue unmet i first r inside within to =
 pub searching-past : (after : Aftermath) (queue : List Waypoint) (unmet : NodeBits) (i l end : ℕ)
     → IsSearching after queue unmet i (node_count after.net.graph + l) → i < length queue
     → l ≤ link_count after.net.graph
-    → ((k : ℕ) → k < link_count after.net.graph → tail after.net.graph k ≡ node_at queue i → k < end) → end ≤ l
+    → ((k : ℕ) → k < link_count after.net.graph → tail after.net.graph k ≡ waypoint_node queue i → k < end) → end ≤ l
     → IsSearching after queue unmet (i + 1) 0
 searching-past after queue unmet i l end r inside within to over =
     let here : i < length r.order = omega (arith, r.agrees.long) in
@@ -294,7 +294,7 @@ searching-past after queue unmet i l end r inside within to over =
 
 -- past a waypoint that is overloaded
 pub searching-pass : (after : Aftermath) (queue : List Waypoint) (unmet : NodeBits) (i : ℕ)
-    → IsSearching after queue unmet i 0 → i < length queue → is_overloaded after.net.graph (node_at queue i) ≡ true
+    → IsSearching after queue unmet i 0 → i < length queue → is_overloaded after.net.graph (waypoint_node queue i) ≡ true
     → IsSearching after queue unmet (i + 1) 0
 searching-pass after queue unmet i r inside over =
     let here : i < length r.order = omega (arith, r.agrees.long) in
@@ -313,7 +313,7 @@ pub searching-all_met : (after : Aftermath) (queue : List Waypoint) (unmet : Nod
 searching-all_met after queue unmet i cur graph r inside up none =
     let here : i < length r.order = omega (arith, r.agrees.long) in
     let over : IsSearching after queue unmet i (key_count after.net.graph) = searching-over after queue unmet i cur r inside (key_count after.net.graph) up
-    (λ key v at below step. (leads-within after.net after.failed graph v (node_at queue i) step.cost (segment_at after.net.graph key) step.leads, none v)) in
+    (λ key v at below step. (leads-within after.net after.failed graph v (waypoint_node queue i) step.cost (segment_numbered after.net.graph key) step.leads, none v)) in
     record {
       known = over.known;
       order = over.order;
@@ -327,5 +327,5 @@ pub searching-short : (after : Aftermath) (queue : List Waypoint) (unmet : NodeB
 searching-short after queue unmet i cur r = omega (arith, r.agrees.long, search-short after r.known r.order i cur r.search)
 
 pub searching-node : (after : Aftermath) (queue : List Waypoint) (unmet : NodeBits) (i cur k : ℕ)
-    → IsSearching after queue unmet i cur → k < length queue → node_at queue k < node_count after.net.graph
+    → IsSearching after queue unmet i cur → k < length queue → waypoint_node queue k < node_count after.net.graph
 searching-node after queue unmet i cur k r lt = rw (r.agrees.nodes k (omega (arith, r.agrees.long))) ((r.search.found k (omega (arith, r.agrees.long))).0)

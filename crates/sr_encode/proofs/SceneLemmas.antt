@@ -13,29 +13,30 @@ use Rattle.sr_walks.proofs.Distances.{distance-unique}
 use Rattle.sr_lanes.specs.declared.words.NodeBits.{NodeBits}
 use Rattle.sr_lanes.specs.Bits.{is_in}
 use Rattle.sr_lanes.specs.Passes.{is_tight}
-use Rattle.sr_encode.specs.Aftermath.{Aftermath, IsAftermath, AddsUp, AddUpFrom}
+use Rattle.sr_encode.specs.Aftermath.{Aftermath, IsAftermath, AddsUp, AddUpFrom, AreInside}
 use Rattle.sr_encode.specs.Search.{StepsTo, BeginsAt}
 use Rattle.sr_encode.specs.Serve.{EndsAt}
 use Rattle.sr_encode.proofs.BitLemmas.{AreSifted, sifted-over}
 use Rattle.sr_encode.proofs.SearchLemmas.{row-distance}
 
--- the tight nodes of two rows are those at which the distances add up
-pub add-up : (after : Aftermath) (w : ℕ) (row : List ℕ) (nodes : NodeBits) → IsAftermath after
-    → IsRow after.net.graph [] w row
-    → ((v : ℕ) → is_in nodes v ≡ is_tight after.post (slice_index after.post w) row v) → AddUpFrom after w nodes
-add-up after w row nodes is by these = record {
-  inside = λ v yes.
-      let both = and_parts (nat_lt v (length after.post)) (slice_index after.post w + slice_index row v == slice_index after.post v) (sym (these v) ∙ yes) in
-      let lt : v < length after.post = ltb-true v (length after.post) both.0 in
-      omega (arith, is.row.long);
+-- of these nodes, the tight ones of two rows are those at which the distances add up
+pub add-up : (after : Aftermath) (w : ℕ) (row : List ℕ) (among nodes : NodeBits) → IsAftermath after
+    → IsRow after.net.graph [] w row → AreInside after among
+    → ((v : ℕ) → is_in nodes v ≡ (is_in among v && is_tight after.post (slice_index after.post w) row v))
+    → AddUpFrom after w among nodes
+add-up after w row among nodes is by within these = record {
+  inside = λ v yes. (and_parts (is_in among v) (is_tight after.post (slice_index after.post w) row v) (sym (these v) ∙ yes)).0;
   sums = λ v yes.
-      let both = and_parts (nat_lt v (length after.post)) (slice_index after.post w + slice_index row v == slice_index after.post v) (sym (these v) ∙ yes) in
+      let tight = (and_parts (is_in among v) (is_tight after.post (slice_index after.post w) row v) (sym (these v) ∙ yes)).1 in
+      let both = and_parts (nat_lt v (length after.post)) (slice_index after.post w + slice_index row v == slice_index after.post v) tight in
       (row, by, eqb-true (slice_index after.post w + slice_index row v) (slice_index after.post v) both.1);
-  all = λ v d within near sum.
-      let same : slice_index row v ≡ d = distance-unique after.net.graph [] w v _ d (row-distance after.net.graph [] w row v near.reached.0 by within near.reached.1) near in
+  all = λ v d one near sum.
+      let same : slice_index row v ≡ d = distance-unique after.net.graph [] w v _ d (row-distance after.net.graph [] w row v near.reached.0 by (within v one) near.reached.1) near in
+      let inside : v < node_count after.net.graph = within v one in
       let lt : v < length after.post = omega (arith, is.row.long) in
-      these v ∙ and_from (nat_lt v (length after.post)) (slice_index after.post w + slice_index row v == slice_index after.post v) (lt-ltb v (length after.post) lt)
-      (eq-eqb (slice_index after.post w + slice_index row v) (slice_index after.post v) (omega arith));
+      let tight : is_tight after.post (slice_index after.post w) row v ≡ true = and_from (nat_lt v (length after.post)) (slice_index after.post w + slice_index row v == slice_index after.post v) (lt-ltb v (length after.post) lt)
+      (eq-eqb (slice_index after.post w + slice_index row v) (slice_index after.post v) (omega arith)) in
+      these v ∙ and_from (is_in among v) (is_tight after.post (slice_index after.post w) row v) one tight;
 }
 
 -- what is in P of w is at the distance that its row tells
@@ -78,15 +79,15 @@ step-over after l within outside label clear sum = record {
 }
 
 -- a node segment leads to a node at which the distances add up
-pub step-sum : (after : Aftermath) (w : ℕ) (v : NodeNo) (nodes : NodeBits) → AddUpFrom after w nodes
-    → StepsTo after w (Node v) v.0 → is_in nodes v.0 ≡ true
-step-sum after w v nodes r step =
-    r.all v.0 step.leads.0 step.leads.3 step.leads.6 (omega (arith, step.fits, step.leads.8, step.leads.7.1))
+pub step-sum : (after : Aftermath) (w : ℕ) (v : NodeNo) (among nodes : NodeBits) → AddUpFrom after w among nodes
+    → is_in among v.0 ≡ true → StepsTo after w (Node v) v.0 → is_in nodes v.0 ≡ true
+step-sum after w v among nodes r one step =
+    r.all v.0 step.leads.0 one step.leads.6 (omega (arith, step.fits, step.leads.8, step.leads.7.1))
 
 -- and so does the end of lists
-pub ends-sum : (after : Aftermath) (w d : ℕ) (nodes : NodeBits) → AddUpFrom after w nodes
-    → d < node_count after.net.graph → EndsAt after w d → is_in nodes d ≡ true
-ends-sum after w d nodes r within ends = r.all d ends.rest within ends.goes_on ends.fits
+pub ends-sum : (after : Aftermath) (w d : ℕ) (among nodes : NodeBits) → AddUpFrom after w among nodes
+    → is_in among d ≡ true → EndsAt after w d → is_in nodes d ≡ true
+ends-sum after w d among nodes r one ends = r.all d ends.rest one ends.goes_on ends.fits
 
 -- of these nodes, those at which the distances by w add up, and with them all of these for which P holds
 pub record ArePicked (after : Aftermath) (w : ℕ) (P : ℕ → Type 0) (among start : NodeBits) : Type 0 where
@@ -94,12 +95,12 @@ pub record ArePicked (after : Aftermath) (w : ℕ) (P : ℕ → Type 0) (among s
       → (v < node_count after.net.graph) × AddsUp after w v × (is_in among v ≡ true)
   pub all : (v : ℕ) → is_in among v ≡ true → P v → is_in start v ≡ true
 
-pub picked : (after : Aftermath) (w : ℕ) (P : ℕ → Type 0) (among fits start : NodeBits) → AddUpFrom after w fits
-    → ((v : ℕ) → is_in start v ≡ (is_in fits v && is_in among v))
-    → ((v : ℕ) → is_in among v ≡ true → P v → is_in fits v ≡ true) → ArePicked after w P among start
-picked after w P among fits start r both fit = record {
-  inside = λ v yes. let parts = and_parts (is_in fits v) (is_in among v) (sym (both v) ∙ yes) in (r.inside v parts.0, r.sums v parts.0, parts.1);
-  all = λ v yes holds. both v ∙ and_from (is_in fits v) (is_in among v) (fit v yes holds) yes;
+pub picked : (after : Aftermath) (w : ℕ) (P : ℕ → Type 0) (among start : NodeBits) → AreInside after among
+    → AddUpFrom after w among start → ((v : ℕ) → is_in among v ≡ true → P v → is_in start v ≡ true)
+    → ArePicked after w P among start
+picked after w P among start within r fit = record {
+  inside = λ v yes. (within v (r.inside v yes), r.sums v yes, r.inside v yes);
+  all = fit;
 }
 
 -- once none are left, those that are found are those of these for which P holds

@@ -19,12 +19,12 @@ use Rattle.sr_laws.proofs.Waypoints.{Routes}
 use Rattle.sr_laws.proofs.Order.{push, PathLt-push, PathLt-last, PathLt-trans}
 use Rattle.sr_laws.proofs.Exact.{IsExact, Knows, routes-walk, exact-push}
 use Rattle.sr_encode.specs.Aftermath.{Aftermath}
-use Rattle.sr_encode.specs.Search.{segment_at, key_count, StepsTo, IsPassed, IsSearch, IsStart}
+use Rattle.sr_encode.specs.Search.{segment_numbered, key_count, StepsTo, WasLookedAt, IsSearch, IsStart}
 
 -- segments by number are in order
-pub segment_at-lt : (g : Graph) (j k : ℕ) → j < k → SegmentLt (segment_at g j) (segment_at g k)
-segment_at-lt g j k lt =
-    cond_both (nat_lt j (node_count g)) (Node (record { 0 = j })) (Adj (record { 0 = j - node_count g })) (λ r. SegmentLt r (segment_at g k))
+pub segment_numbered-lt : (g : Graph) (j k : ℕ) → j < k → SegmentLt (segment_numbered g j) (segment_numbered g k)
+segment_numbered-lt g j k lt =
+    cond_both (nat_lt j (node_count g)) (Node (record { 0 = j })) (Adj (record { 0 = j - node_count g })) (λ r. SegmentLt r (segment_numbered g k))
     (λ low. cond_both (nat_lt k (node_count g)) (Node (record { 0 = k })) (Adj (record { 0 = k - node_count g })) (λ r. SegmentLt (Node (record { 0 = j })) r) (λ _. lt) (λ _. tt))
     (λ high. let h : node_count g ≤ j = ltb-false j (node_count g) high in
     cond_both (nat_lt k (node_count g)) (Node (record { 0 = k })) (Adj (record { 0 = k - node_count g })) (λ r. SegmentLt (Adj (record { 0 = j - node_count g })) r)
@@ -32,7 +32,7 @@ segment_at-lt g j k lt =
 
 -- each segment that leads somewhere has a number
 pub segment_key : (n : Net) (x : List Bool) (w : ℕ) (t : Segment) (v e : ℕ) → Routes n x w (t ∷ []) v e
-    → (key : ℕ) × (key < key_count n.graph) × (segment_at n.graph key ≡ t)
+    → (key : ℕ) × (key < key_count n.graph) × (segment_numbered n.graph key ≡ t)
 segment_key n x w (Node k) v e a =
     (k.0, omega (arith, a.3), cond_both (nat_lt k.0 (node_count n.graph)) (Node (record { 0 = k.0 })) (Adj (record { 0 = k.0 - node_count n.graph })) (λ r. r ≡ Node k) (λ _. refl) (λ high. let h : node_count n.graph ≤ k.0 = ltb-false k.0 (node_count n.graph) high in absurd (omega (arith, a.3))))
 segment_key n x w (Adj l) v e a =
@@ -107,21 +107,21 @@ module _ (known : List (Option Path)) (v : ℕ) (c : Path) (within : v < length 
 is_lower : (after : Aftermath) (known : List (Option Path)) (order : List ℕ) (i cur key : ℕ)
     → IsSearch after known order i cur → i < length order → cur ≤ key
     → (a : Path) (w : ℕ) (b : Path) → Knows known (slice_index order i) a → Knows known w b
-    → PathLt b (push a (segment_at after.net.graph key))
+    → PathLt b (push a (segment_numbered after.net.graph key))
 is_lower after known order i cur key r inside up a w b ka kb =
-    let t : Segment = segment_at after.net.graph key in
+    let t : Segment = segment_numbered after.net.graph key in
     ⊎_elim
     (λ all. all t)
     (λ pushed.
     let lt : pushed.0 < cur = pushed.1 in
-    let apart : SegmentLt (segment_at after.net.graph pushed.0) t = segment_at-lt after.net.graph pushed.0 key (omega arith) in
-    subst (λ k. PathLt k (push a t)) (sym pushed.2) (PathLt-last a (segment_at after.net.graph pushed.0) t apart))
+    let apart : SegmentLt (segment_numbered after.net.graph pushed.0) t = segment_numbered-lt after.net.graph pushed.0 key (omega arith) in
+    subst (λ k. PathLt k (push a t)) (sym pushed.2) (PathLt-last a (segment_numbered after.net.graph pushed.0) t apart))
     (r.low a w b inside ka kb)
 
 -- the search goes on past segments that lead nowhere, or to nodes that are known
 pub search-over : (after : Aftermath) (known : List (Option Path)) (order : List ℕ) (i cur next : ℕ)
     → IsSearch after known order i cur → i < length order → cur ≤ next
-    → ((key v : ℕ) → cur ≤ key → key < next → StepsTo after (slice_index order i) (segment_at after.net.graph key) v
+    → ((key v : ℕ) → cur ≤ key → key < next → StepsTo after (slice_index order i) (segment_numbered after.net.graph key) v
     → (b : Path) × Knows known v b)
     → IsSearch after known order i next
 search-over after known order i cur next r inside up all = record {
@@ -138,7 +138,7 @@ search-over after known order i cur next r inside up all = record {
       (λ early. r.closed k key v a within (inr (at.0, early)) ka step)
       (λ late.
       let ka' : Knows known (slice_index order i) a = subst (λ j. Knows known (slice_index order j) a) at.0 ka in
-      let step' : StepsTo after (slice_index order i) (segment_at after.net.graph key) v = subst (λ j. StepsTo after (slice_index order j) (segment_at after.net.graph key) v) at.0 step in
+      let step' : StepsTo after (slice_index order i) (segment_numbered after.net.graph key) v = subst (λ j. StepsTo after (slice_index order j) (segment_numbered after.net.graph key) v) at.0 step in
       let q = all key v late at.1 step' in
       (q.0, q.1, inl (is_lower after known order i cur key r inside late a v q.0 ka' q.1)))
       (cases_lt key cur))
@@ -147,19 +147,19 @@ search-over after known order i cur next r inside up all = record {
 }
 
 -- a segment whose end is new
-module _ (after : Aftermath) (known : List (Option Path)) (order : List ℕ) (i cur v : ℕ) (a : Path) (r : IsSearch after known order i cur) (row : IsRow after.net.graph after.failed after.source after.post) (inside : i < length order) (ka : Knows known (slice_index order i) a) (within : v < node_count after.net.graph) (fresh : slice_index_or known v None ≡ None) (step : StepsTo after (slice_index order i) (segment_at after.net.graph cur) v) (one : (w : ℕ) → StepsTo after (slice_index order i) (segment_at after.net.graph cur) w → w ≡ v) (known' : List (Option Path)) (order' : List ℕ) (set_is : known' ≡ set known v (Some (push a (segment_at after.net.graph cur)))) (order_is : order' ≡ order ++ v ∷ []) where
+module _ (after : Aftermath) (known : List (Option Path)) (order : List ℕ) (i cur v : ℕ) (a : Path) (r : IsSearch after known order i cur) (row : IsRow after.net.graph after.failed after.source after.post) (inside : i < length order) (ka : Knows known (slice_index order i) a) (within : v < node_count after.net.graph) (fresh : slice_index_or known v None ≡ None) (step : StepsTo after (slice_index order i) (segment_numbered after.net.graph cur) v) (one : (w : ℕ) → StepsTo after (slice_index order i) (segment_numbered after.net.graph cur) w → w ≡ v) (known' : List (Option Path)) (order' : List ℕ) (set_is : known' ≡ set known v (Some (push a (segment_numbered after.net.graph cur)))) (order_is : order' ≡ order ++ v ∷ []) where
   room : v < length known
   room = omega (arith, r.long)
 
   keeps : (w : ℕ) (b : Path) → Knows known w b → Knows known' w b
-  keeps w b k = rw set_is (knows-kept known v (push a (segment_at after.net.graph cur)) room fresh w b k)
+  keeps w b k = rw set_is (knows-kept known v (push a (segment_numbered after.net.graph cur)) room fresh w b k)
 
-  new_known : Knows known' v (push a (segment_at after.net.graph cur))
-  new_known = rw set_is (knows-new known v (push a (segment_at after.net.graph cur)) room fresh)
+  new_known : Knows known' v (push a (segment_numbered after.net.graph cur))
+  new_known = rw set_is (knows-new known v (push a (segment_numbered after.net.graph cur)) room fresh)
 
   back : (w : ℕ) (b : Path) → Knows known' w b
-      → ((w ≡ v) × (b ≡ push a (segment_at after.net.graph cur))) ⊎ Knows known w b
-  back w b k = knows-back known v (push a (segment_at after.net.graph cur)) room fresh w b (rw set_is at k)
+      → ((w ≡ v) × (b ≡ push a (segment_numbered after.net.graph cur))) ⊎ Knows known w b
+  back w b k = knows-back known v (push a (segment_numbered after.net.graph cur)) room fresh w b (rw set_is at k)
 
   length_is : length order' ≡ length order + 1
   length_is = rw order_is (omega (arith, length-append order (v ∷ [])))
@@ -174,23 +174,23 @@ module _ (after : Aftermath) (known : List (Option Path)) (order : List ℕ) (i 
       → Knows known (slice_index order k) b
   back_at k b lt kb =
       ⊎_elim
-      (λ e. let f = r.found k lt in absurd (other_than known v (push a (segment_at after.net.graph cur)) room fresh (slice_index order k) f.1.0 f.1.1 e.0))
+      (λ e. let f = r.found k lt in absurd (other_than known v (push a (segment_numbered after.net.graph cur)) room fresh (slice_index order k) f.1.0 f.1.1 e.0))
       (λ old. old)
       (back (slice_index order k) b (subst (λ j. Knows known' j b) (old_at k lt) kb))
 
-  closed_old : (k key w : ℕ) (b : Path) → k < length order → IsPassed after.net.graph k key i (cur + 1)
-      → Knows known (slice_index order k) b → StepsTo after (slice_index order k) (segment_at after.net.graph key) w
-      → (d : Path) × Knows known' w d × PathLe d (push b (segment_at after.net.graph key))
+  closed_old : (k key w : ℕ) (b : Path) → k < length order → WasLookedAt after.net.graph k key i (cur + 1)
+      → Knows known (slice_index order k) b → StepsTo after (slice_index order k) (segment_numbered after.net.graph key) w
+      → (d : Path) × Knows known' w d × PathLe d (push b (segment_numbered after.net.graph key))
   closed_old k key w b old passed kb st =
       ⊎_elim
       (λ before. let q = r.closed k key w b old (inl before) kb st in (q.0, keeps w q.0 q.1, q.2))
       (λ at. ⊎_elim
       (λ (e : key ≡ cur).
-      let P : ℕ → ℕ → Type 0 = λ k' key'. Knows known (slice_index order k') b → StepsTo after (slice_index order k') (segment_at after.net.graph key') w → (d : Path) × Knows known' w d × PathLe d (push b (segment_at after.net.graph key')) in
+      let P : ℕ → ℕ → Type 0 = λ k' key'. Knows known (slice_index order k') b → StepsTo after (slice_index order k') (segment_numbered after.net.graph key') w → (d : Path) × Knows known' w d × PathLe d (push b (segment_numbered after.net.graph key')) in
       let at_cur : P i cur = λ kb' st'.
       (let z : Some a ≡ Some b = sym ka ∙ kb' in
       let same : a ≡ b = cc in
-      (push a (segment_at after.net.graph cur), subst (λ j. Knows known' j (push a (segment_at after.net.graph cur))) (sym (one w st')) new_known, inr (ap (λ c. push c (segment_at after.net.graph cur)) same))) in
+      (push a (segment_numbered after.net.graph cur), subst (λ j. Knows known' j (push a (segment_numbered after.net.graph cur))) (sym (one w st')) new_known, inr (ap (λ c. push c (segment_numbered after.net.graph cur)) same))) in
       subst (λ k'. P k' key) (sym at.0) (subst (λ key'. P i key') (sym e) at_cur) kb st)
       (λ (ne : key ≢ cur). let q = r.closed k key w b old (inr (at.0, (let lt : key < cur + 1 = at.1 in omega arith))) kb st in (q.0, keeps w q.0 q.1, q.2))
       (cases_eq key cur))
@@ -198,10 +198,10 @@ module _ (after : Aftermath) (known : List (Option Path)) (order : List ℕ) (i 
 
   pub search-push : IsSearch after known' order' i (cur + 1)
   search-push = record {
-    long = rw set_is (length-set known v (Some (push a (segment_at after.net.graph cur))) ∙ r.long);
-    sized = rw set_is (length_is ∙ omega (arith, r.sized, count-new known v (push a (segment_at after.net.graph cur)) (omega (arith, r.long)) fresh));
+    long = rw set_is (length-set known v (Some (push a (segment_numbered after.net.graph cur))) ∙ r.long);
+    sized = rw set_is (length_is ∙ omega (arith, r.sized, count-new known v (push a (segment_numbered after.net.graph cur)) (omega (arith, r.long)) fresh));
     exact = λ w b k. ⊎_elim
-        (λ e. rw (e.0, e.1) (within, exact-step after (slice_index order i) v a (segment_at after.net.graph cur) row (r.exact _ a ka).0 within (r.exact _ a ka).1 step))
+        (λ e. rw (e.0, e.1) (within, exact-step after (slice_index order i) v a (segment_numbered after.net.graph cur) row (r.exact _ a ka).0 within (r.exact _ a ka).1 step))
         (λ old. r.exact w b old)
         (back w b k);
     starts = λ w first e. let q = r.starts w first e in (q.0, keeps w q.0 q.1, q.2);
@@ -211,22 +211,22 @@ module _ (after : Aftermath) (known : List (Option Path)) (order : List ℕ) (i 
         (back w b k);
     found = λ k lt. ⊎_elim
         (λ old. let q = r.found k old in rw (old_at k old) (q.0, (q.1.0, keeps _ q.1.0 q.1.1)))
-        (λ late. let e : k ≡ length order = omega (arith, length_is) in rw (e, new_at) (within, (push a (segment_at after.net.graph cur), new_known)))
+        (λ late. let e : k ≡ length order = omega (arith, length_is) in rw (e, new_at) (within, (push a (segment_numbered after.net.graph cur), new_known)))
         (cases_lt k (length order));
     ascending = λ j k b d lt inside' kb kd. ⊎_elim
         (λ old. r.ascending j k b d lt old (back_at j b (omega arith) kb) (back_at k d old kd))
         (λ late.
         let e : k ≡ length order = omega (arith, length_is) in
-        let low : PathLt b (push a (segment_at after.net.graph cur)) = is_lower after known order i cur cur r inside (omega arith) a (slice_index order j) b ka (back_at j b (omega arith) kb) in
+        let low : PathLt b (push a (segment_numbered after.net.graph cur)) = is_lower after known order i cur cur r inside (omega arith) a (slice_index order j) b ka (back_at j b (omega arith) kb) in
         let at_v : Knows known' v d = subst (λ w. Knows known' w d) new_at (subst (λ m. Knows known' (slice_index order' m) d) e kd) in
-        let same : Some d ≡ Some (push a (segment_at after.net.graph cur)) = sym at_v ∙ new_known in
-        let same' : push a (segment_at after.net.graph cur) ≡ d = cc in
+        let same : Some d ≡ Some (push a (segment_numbered after.net.graph cur)) = sym at_v ∙ new_known in
+        let same' : push a (segment_numbered after.net.graph cur) ≡ d = cc in
         subst (λ c. PathLt b c) same' low)
         (cases_lt k (length order));
     closed = λ k key w b lt passed kb st. ⊎_elim
         (λ old.
         let kb' : Knows known (slice_index order k) b = back_at k b old kb in
-        let st' : StepsTo after (slice_index order k) (segment_at after.net.graph key) w = subst (λ j. StepsTo after j (segment_at after.net.graph key) w) (old_at k old) st in
+        let st' : StepsTo after (slice_index order k) (segment_numbered after.net.graph key) w = subst (λ j. StepsTo after j (segment_numbered after.net.graph key) w) (old_at k old) st in
         closed_old k key w b old passed kb' st')
         (λ late. absurd (⊎_elim (λ p. let lt' : k < i = p.0 in omega arith) (λ p. let e : k ≡ i = p.0 in omega arith) passed))
         (cases_lt k (length order));
@@ -235,7 +235,7 @@ module _ (after : Aftermath) (known : List (Option Path)) (order : List ℕ) (i 
         let z : Some a ≡ Some b = sym ka ∙ kb' in
         let same : a ≡ b = cc in
         ⊎_elim
-        (λ e. inr (cur, omega arith, e.1 ∙ ap (λ c. push c (segment_at after.net.graph cur)) same))
+        (λ e. inr (cur, omega arith, e.1 ∙ ap (λ c. push c (segment_numbered after.net.graph cur)) same))
         (λ old. ⊎_elim (λ all. inl all) (λ p. inr (p.0, (let lt' : p.0 < cur = p.1 in omega arith), p.2)) (r.low b w d inside kb' old))
         (back w d kd);
   }
@@ -261,7 +261,7 @@ search-next after known order i r inside = record {
       let up : PathLt f.1.0 a = r.ascending i (i + 1) f.1.0 a (omega arith) lt f.1.1 ka in
       inl (λ t. ⊎_elim
       (λ all. PathLt-trans b (push f.1.0 t) (push a t) (all t) (PathLt-push f.1.0 a t t up))
-      (λ p. subst (λ c. PathLt c (push a t)) (sym p.2) (PathLt-push f.1.0 a (segment_at after.net.graph p.0) t up))
+      (λ p. subst (λ c. PathLt c (push a t)) (sym p.2) (PathLt-push f.1.0 a (segment_numbered after.net.graph p.0) t up))
       (r.low f.1.0 w b inside f.1.1 kb));
 }
 
@@ -398,9 +398,9 @@ start-empty after =
 -- a link that begins elsewhere
 pub no-step : (after : Aftermath) (w key v : ℕ) → node_count after.net.graph ≤ key
     → (tail after.net.graph (key - node_count after.net.graph) ≡ w → ⊥)
-    → StepsTo after w (segment_at after.net.graph key) v → ⊥
+    → StepsTo after w (segment_numbered after.net.graph key) v → ⊥
 no-step after w key v high apart step =
-    let is : segment_at after.net.graph key ≡ Adj (record { 0 = key - node_count after.net.graph }) =
+    let is : segment_numbered after.net.graph key ≡ Adj (record { 0 = key - node_count after.net.graph }) =
     cond_both (nat_lt key (node_count after.net.graph)) (Node (record { 0 = key })) (Adj (record { 0 = key - node_count after.net.graph })) (λ r. r ≡ Adj (record { 0 = key - node_count after.net.graph }))
     (λ low. let l : key < node_count after.net.graph = ltb-true key (node_count after.net.graph) low in absurd (omega arith)) (λ _. refl) in
     let leads : Routes after.net after.failed w (Adj (record { 0 = key - node_count after.net.graph }) ∷ []) v step.cost = rw is at step.leads in
@@ -443,7 +443,7 @@ pub search-pass : (after : Aftermath) (known : List (Option Path)) (order : List
 search-pass after known order i r inside over =
     search-next after known order i
     (search-over after known order i 0 (key_count after.net.graph) r inside (omega arith)
-    (λ key v at below step. absurd (no-step_from after (slice_index order i) v (segment_at after.net.graph key) over step)))
+    (λ key v at below step. absurd (no-step_from after (slice_index order i) v (segment_numbered after.net.graph key) over step)))
     inside
 
 -- first links that begin elsewhere

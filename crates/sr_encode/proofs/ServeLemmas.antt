@@ -8,10 +8,10 @@ use Rattle.sr_lanes.specs.declared.words.NodeBits.{NodeBits}
 use Rattle.sr_lanes.specs.Bits.{is_in}
 use Rattle.sr_encode.specs.declared.waypoint.Waypoint.{Waypoint}
 use Rattle.sr_encode.specs.declared.served.Served.{Served}
-use Rattle.sr_encode.specs.Waypoints.{AreParents, Extends, node_at, path_to}
+use Rattle.sr_encode.specs.Waypoints.{AreParents, Extends, waypoint_node, path_to}
 use Rattle.sr_encode.specs.Aftermath.{Aftermath, IsAftermath}
 use Rattle.sr_encode.specs.Search.{IsSearching}
-use Rattle.sr_encode.specs.Serve.{EndsAt, NoneEnds, AreLeastFrom, place_at, IsServedBy, AreOffered, ArePending, IsLater, ArePlaced, AreSearched, ArePlacesOf, AreFound}
+use Rattle.sr_encode.specs.Serve.{EndsAt, NoneEnds, AreLeastFrom, place_at, IsServedBy, AreOffered, ArePending, IsLater, ArePlaced, AreSearched, AreResolved}
 use Rattle.sr_post.specs.Nodes.{listed_at}
 use Rattle.sr_encode.proofs.BitLemmas.{none_in}
 use Rattle.sr_encode.proofs.QueueLemmas.{path-kept}
@@ -54,7 +54,7 @@ later-trans a b c p q = record {
 -- those of the pending ones towards which lists can end at place k are served by the waypoint there
 module _ (after : Aftermath) (queue : List Waypoint) (k : ℕ) (before served : Served) (found : NodeBits)
     (least : AreLeastFrom after queue k) (inside : k < length queue) (r : AreOffered after queue k before)
-    (ends : (d : ℕ) → IsTrue (is_in found d) ↔ ((is_in before.pending d ≡ true) × EndsAt after (node_at queue k) d))
+    (ends : (d : ℕ) → IsTrue (is_in found d) ↔ ((is_in before.pending d ≡ true) × EndsAt after (waypoint_node queue k) d))
     (rest : (d : ℕ) → is_in served.pending d ≡ (is_in before.pending d && not (is_in found d)))
     (marked : ArePlaced before.places.items found k served.places.items) where
   -- what is pending still
@@ -67,7 +67,7 @@ module _ (after : Aftermath) (queue : List Waypoint) (k : ℕ) (before served : 
   none-at d is j lt at =
       let q = still d is in
       ⊎_elim
-      (λ (here : j ≡ k). true≢false (sym ((ends d).1 (q.0, subst (λ m. EndsAt after (node_at queue m) d) here at)) ∙ q.1))
+      (λ (here : j ≡ k). true≢false (sym ((ends d).1 (q.0, subst (λ m. EndsAt after (waypoint_node queue m) d) here at)) ∙ q.1))
       (λ (ne : j ≢ k). r.none d q.0 j (omega arith) at)
       (cases_eq j k)
 
@@ -124,21 +124,18 @@ searched-end after queue unmet i served is search over within r = record {
   some = r.some;
 }
 
--- the destinations that have walks were pending, and their places are those at their numbers
-pub found-from : (after : Aftermath) (queue : List Waypoint) (wanted : List NodeNo) (before served : Served) (places : List (Option ℕ))
+-- the destinations that have walks were pending
+pub found-from : (after : Aftermath) (queue : List Waypoint) (wanted : List NodeNo) (before served : Served)
     → ArePending after wanted before → IsLater before served → AreSearched after queue served
-    → ArePlacesOf served.places.items wanted places
-    → AreFound after.net after.failed after.source after.post queue wanted places
-found-from after queue wanted before served places pending later r these = record {
+    → AreResolved after queue wanted served.places.items
+found-from after queue wanted before served pending later r = record {
   parents = r.parents;
-  long = these.long;
+  long = r.long;
   each = λ j lt. record {
-    none = λ no near. ⊎_elim
+    none = λ none near. ⊎_elim
         (λ still. r.none (listed_at wanted j) still)
-        (λ has.
-        let gone : None ≡ place_at served.places.items (listed_at wanted j) = sym no ∙ these.each j lt in
-        absurd (true≢false (sym has ∙ ap is_some (sym gone))))
+        (λ has. absurd (true≢false (sym has ∙ ap is_some none)))
         (later.pending (listed_at wanted j) (pending j lt near));
-    some = λ k is. r.some (listed_at wanted j) k (sym (these.each j lt) ∙ is);
+    some = r.some (listed_at wanted j);
   };
 }

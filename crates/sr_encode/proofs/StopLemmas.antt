@@ -14,7 +14,7 @@ use Rattle.sr_laws.proofs.Order.{push, PathLe-push, PathLe-trans}
 use Rattle.sr_laws.proofs.Waypoints.{Routes, IsRouted, routed-from_sound, last-walk}
 use Rattle.sr_laws.proofs.Exact.{IsExact, Knows, Serves, snoc_cases, exact-before, exact-from_routed, sound-from_serves}
 use Rattle.sr_encode.specs.declared.waypoint.Waypoint.{Waypoint}
-use Rattle.sr_encode.specs.Waypoints.{node_at, path_to}
+use Rattle.sr_encode.specs.Waypoints.{waypoint_node, path_to}
 use Rattle.sr_encode.specs.Aftermath.{Aftermath, IsAftermath}
 use Rattle.sr_encode.specs.Search.{StepsTo, IsSearch, IsSearching}
 use Rattle.sr_encode.specs.Serve.{EndsAt, NoneEnds, IsLeastThere, AreLeastFrom}
@@ -138,8 +138,8 @@ module _ (after : Aftermath) (queue : List Waypoint) (unmet : NodeBits) (i : ℕ
       let at = r.search.listed j.last q.0 q.1 in
       let inside : j.last < node_count after.net.graph = (r.search.exact j.last q.0 q.1).0 in
       let ends : EndsAt after j.last d = ends-from_routed after d b is.row within j inside in
-      let node : node_at queue at.0 ≡ j.last = r.agrees.nodes at.0 at.1 ∙ at.2 in
-      let ends' : EndsAt after (node_at queue at.0) d = subst (λ m. EndsAt after m d) (sym node) ends in
+      let node : waypoint_node queue at.0 ≡ j.last = r.agrees.nodes at.0 at.1 ∙ at.2 in
+      let ends' : EndsAt after (waypoint_node queue at.0) d = subst (λ m. EndsAt after m d) (sym node) ends in
       let kc : Knows r.known (slice_index r.order at.0) q.0 = subst (λ m. Knows r.known m q.0) (sym at.2) q.1 in
       ⊎_elim
       (λ (early : at.0 < k). absurd (none at.0 early ends'))

@@ -8,7 +8,7 @@ use Rattle.sr_encode.specs.declared.waypoint.Waypoint.{Waypoint}
 use Rattle.sr_encode.specs.declared.served.Served.{Served}
 use Rattle.sr_encode.specs.Aftermath.{Aftermath}
 use Rattle.sr_encode.specs.Serve.{place_at, IsServedBy, AreOffered, IsMetBy}
-use Rattle.sr_encode.proofs.BitLemmas.{without-inside}
+use Rattle.sr_lanes.proofs.SizeLemmas.{without-inside}
 use Rattle.sr_encode.proofs.KeptHops.{served-by_hop}
 
 -- node v is pending no more, and has the place of the waypoint to which its hop leads

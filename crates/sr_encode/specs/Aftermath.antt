@@ -29,9 +29,9 @@ AddsUp after w v =
 abbrev pub AreInside : Aftermath → NodeBits → Type 0
 AreInside after nodes = (v : ℕ) → is_in nodes v ≡ true → v < node_count after.net.graph
 
--- at these nodes the distances by w add up, and at each other node that w reaches they don't
-pub record AddUpFrom (after : Aftermath) (w : ℕ) (nodes : NodeBits) : Type 0 where
-  pub inside : AreInside after nodes
+-- of these nodes, those at which the distances by w add up: at each other that w reaches they don't
+pub record AddUpFrom (after : Aftermath) (w : ℕ) (among nodes : NodeBits) : Type 0 where
+  pub inside : (v : ℕ) → is_in nodes v ≡ true → is_in among v ≡ true
   pub sums : (v : ℕ) → is_in nodes v ≡ true → AddsUp after w v
-  pub all : (v d : ℕ) → v < node_count after.net.graph → IsDistance after.net.graph [] w v d
+  pub all : (v d : ℕ) → is_in among v ≡ true → IsDistance after.net.graph [] w v d
       → slice_index after.post w + d ≡ slice_index after.post v → is_in nodes v ≡ true

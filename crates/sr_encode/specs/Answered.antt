@@ -13,16 +13,16 @@ use Rattle.sr_encode.specs.declared.answers.NodeAnswer.{NodeAnswer}
 use Rattle.sr_post.specs.Nodes.{listed_at}
 
 -- the answer at place i, with its destination
-abbrev pub entry_at : List NodeAnswer → ℕ → NodeAnswer
-entry_at list i = slice_index_or list i (record { destination = record { 0 = 0 }; answer = NoPath })
+abbrev pub node_answer_at : List NodeAnswer → ℕ → NodeAnswer
+node_answer_at list i = slice_index_or list i (record { destination = record { 0 = 0 }; answer = NoPath })
 
 -- the destination at place i
 abbrev pub destination_at : List NodeAnswer → ℕ → ℕ
-destination_at list i = (entry_at list i).destination.0
+destination_at list i = (node_answer_at list i).destination.0
 
 -- the answer at place i
 abbrev pub answer_at : List NodeAnswer → ℕ → Answer
-answer_at list i = (entry_at list i).answer
+answer_at list i = (node_answer_at list i).answer
 
 -- destinations ascend
 abbrev pub AscendByNode : List NodeAnswer → Type 0
@@ -53,7 +53,8 @@ pub record AreAnswers (n : Net) (case : Case) (list : List NodeAnswer) : Type 0 
   pub all : (d : ℕ) → IsAffected n case d → (i : ℕ) × (i < length list) × (destination_at list i ≡ d)
 
 -- the list has the first m destinations, each with its answer
-pub record AreAnswered (n : Net) (x : List Bool) (s : ℕ) (wanted : List NodeNo) (m : ℕ) (list : List NodeAnswer) : Type 0 where
+pub record AreAnswered (n : Net) (x : List Bool) (s : ℕ) (wanted : List NodeNo) (m : ℕ)
+    (list : List NodeAnswer) : Type 0 where
   pub long : length list ≡ m
   pub nodes : (i : ℕ) → i < m → destination_at list i ≡ listed_at wanted i
   pub answers : (i : ℕ) → i < m → IsAnswer n x s (listed_at wanted i) (answer_at list i)

@@ -17,7 +17,8 @@ without_cost (TooDeep needed) = TooDeep needed
 abbrev pub codes_of : List Kept → List ℕ
 codes_of kept = map (λ (k : Kept). k.outcome) kept
 
--- each answer has a code below two more than their number, and answers of one code are the same without their costs
+-- each answer has a code, and answers with one code differ at most in their costs; a code is below the number of the
+-- answers plus two
 pub record AreCodes (answers : List NodeAnswer) (list : List ℕ) : Type 0 where
   pub long : length list ≡ length answers
   pub few : (i : ℕ) → i < length answers → slice_index list i < length answers + 2

@@ -14,6 +14,14 @@ use Rattle.sr_encode.specs.declared.waypoint.Waypoint.{Waypoint}
 use Rattle.sr_encode.specs.Kept.{outcome_at, HasSegments}
 use Rattle.sr_encode.specs.Waypoints.{waypoint_at, path_to, AreParents}
 
+-- a search has at most this many outcomes, since it has at most two more than there are nodes (this project's rule)
+abbrev pub most_outcomes : ℕ
+most_outcomes = 300
+
+-- a list has at most this many segments, since the depth of a waypoint is a number of 16 bits (this project's rule)
+abbrev pub most_segments : ℕ
+most_segments = 2 ^ 16
+
 -- the outcome is the list to the waypoint at place k where it fits at the source, and else how many segments it has
 abbrev pub IsOutcomeOf : Collected → ℕ → Outcome → Type 0
 IsOutcomeOf g k NoPath = ⊥
@@ -37,7 +45,7 @@ pub record IsCollected (g : Collected) : Type 0 where
   pub two : 2 ≤ length g.outcomes.items
   pub nopath : outcome_at g.outcomes.items NO_PATH ≡ NoPath
   pub nolist : outcome_at g.outcomes.items NO_LIST ≡ NoList
-  pub few : length g.segments.items ≤ 2 ^ 16 * length g.outcomes.items
+  pub few : length g.segments.items ≤ most_segments * length g.outcomes.items
   pub long : length g.known.items ≡ length g.queue.now
   pub each : (k r : ℕ) → slice_index_or g.known.items k None ≡ Some r
       → (r < length g.outcomes.items) × IsOutcomeOf g k (outcome_at g.outcomes.items r)
@@ -55,7 +63,7 @@ pub record HasMoreSegments (before after : Collected) : Type 0 where
   pub known : after.known.items ≡ before.known.items
   pub more : List Segment
   pub segments : after.segments.items ≡ before.segments.items ++ more
-  pub few : length more ≤ 2 ^ 16
+  pub few : length more ≤ most_segments
 
 -- an outcome stands at place r afterwards, and at most one came behind the others
 pub record Gains (before after : Collected) (r : ℕ) : Type 0 where

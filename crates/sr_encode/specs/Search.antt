@@ -5,19 +5,17 @@ use Rattle.sr_model.specs.declared.repair.Segment.TheVariants.{Node, Adj}
 use Rattle.sr_model.specs.declared.link.NodeNo.{NodeNo}
 use Rattle.sr_model.specs.Graph.{Graph, node_count, link_count, tail, is_overloaded}
 use Rattle.sr_model.specs.Repair.{Path, PathLt, PathLe}
-use Rattle.sr_laws.proofs.Order.{push}
-use Rattle.sr_laws.proofs.Exact.{IsExact, Knows}
-use Rattle.sr_laws.proofs.Waypoints.{Routes}
+use Rattle.sr_laws.specs.Exact.{push, Routes, IsExact, Knows}
 use Rattle.sr_lanes.specs.declared.words.NodeBits.{NodeBits}
 use Rattle.sr_lanes.specs.Bits.{is_in, IsWithout}
 use Rattle.sr_encode.specs.declared.waypoint.Waypoint.{Waypoint}
 use Rattle.sr_encode.specs.declared.met.Met.{Met}
 use Rattle.sr_encode.specs.Aftermath.{Aftermath}
-use Rattle.sr_encode.specs.Waypoints.{waypoint_at, node_at, path_to, met_from, AreParents}
+use Rattle.sr_encode.specs.Waypoints.{waypoint_at, waypoint_node, path_to, met_from, AreParents}
 
 -- the segments by number: the nodes first, then the links
-abbrev pub segment_at : Graph → ℕ → Segment
-segment_at g k = if nat_lt k (node_count g) then Node (record { 0 = k }) else Adj (record { 0 = k - node_count g })
+abbrev pub segment_numbered : Graph → ℕ → Segment
+segment_numbered g k = if nat_lt k (node_count g) then Node (record { 0 = k }) else Adj (record { 0 = k - node_count g })
 
 -- how many segments there are
 abbrev pub key_count : Graph → ℕ
@@ -42,8 +40,8 @@ abbrev pub BeginsNowhere : Aftermath → ℕ → Type 0
 BeginsNowhere after l = (v : ℕ) → BeginsAt after l v → ⊥
 
 -- segment number key of the waypoint at place k was looked at, before place i and number cur
-abbrev pub IsPassed : Graph → ℕ → ℕ → ℕ → ℕ → Type 0
-IsPassed g k key i cur = ((k < i) × (key < key_count g)) ⊎ ((k ≡ i) × (key < cur))
+abbrev pub WasLookedAt : Graph → ℕ → ℕ → ℕ → ℕ → Type 0
+WasLookedAt g k key i cur = ((k < i) × (key < key_count g)) ⊎ ((k ≡ i) × (key < cur))
 
 -- the search stands at segment number cur of the waypoint at place i: known lists are exact, ascend in the order in
 -- which their nodes were met, and are no greater than first links alone and than known lists with a segment more that
@@ -60,12 +58,12 @@ pub record IsSearch (after : Aftermath) (known : List (Option Path)) (order : Li
       → (slice_index order k < node_count after.net.graph) × ((a : Path) × Knows known (slice_index order k) a)
   pub ascending : (j k : ℕ) (a b : Path) → j < k → k < length order → Knows known (slice_index order j) a
       → Knows known (slice_index order k) b → PathLt a b
-  pub closed : (k key v : ℕ) (a : Path) → k < length order → IsPassed after.net.graph k key i cur
-      → Knows known (slice_index order k) a → StepsTo after (slice_index order k) (segment_at after.net.graph key) v
-      → (b : Path) × Knows known v b × PathLe b (push a (segment_at after.net.graph key))
+  pub closed : (k key v : ℕ) (a : Path) → k < length order → WasLookedAt after.net.graph k key i cur
+      → Knows known (slice_index order k) a → StepsTo after (slice_index order k) (segment_numbered after.net.graph key) v
+      → (b : Path) × Knows known v b × PathLe b (push a (segment_numbered after.net.graph key))
   pub low : (a : Path) (w : ℕ) (b : Path) → i < length order → Knows known (slice_index order i) a → Knows known w b
       → ((t : Segment)
-      → PathLt b (push a t)) ⊎ ((key : ℕ) × (key < cur) × (b ≡ push a (segment_at after.net.graph key)))
+      → PathLt b (push a t)) ⊎ ((key : ℕ) × (key < cur) × (b ≡ push a (segment_numbered after.net.graph key)))
 
 -- the search has looked at the first links below l
 pub record IsStart (after : Aftermath) (known : List (Option Path)) (order : List ℕ) (l : ℕ) : Type 0 where
@@ -88,7 +86,7 @@ pub record IsStart (after : Aftermath) (known : List (Option Path)) (order : Lis
 pub record Agrees (known : List (Option Path)) (order : List ℕ)
     (queue : List Waypoint) (unmet : NodeBits) : Type 0 where
   pub long : length queue ≡ length order
-  pub nodes : (k : ℕ) → k < length order → node_at queue k ≡ slice_index order k
+  pub nodes : (k : ℕ) → k < length order → waypoint_node queue k ≡ slice_index order k
   pub paths : (k : ℕ) → k < length order → Knows known (slice_index order k) (path_to queue k)
   pub parents : AreParents queue
   pub inside : (w : ℕ) → is_in unmet w ≡ true → w < length known
@@ -106,7 +104,7 @@ pub record IsSearching (after : Aftermath) (queue : List Waypoint) (unmet : Node
 pub record LooksFrom (after : Aftermath) (met : Met) (i cur : ℕ) : Type 0 where
   pub search : IsSearching after met.queue.items met.unmet i cur
   pub place : i < length met.queue.items
-  pub clear : is_overloaded after.net.graph (node_at met.queue.items i) ≡ false
+  pub clear : is_overloaded after.net.graph (waypoint_node met.queue.items i) ≡ false
 
 -- the numbers of a waypoint that is met from the one at place i are in range
 pub record HasRoom (queue : List Waypoint) (i : ℕ) : Type 0 where

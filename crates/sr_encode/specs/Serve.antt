@@ -12,7 +12,7 @@ use Rattle.sr_model.specs.Walk.{IsDistance}
 use Rattle.sr_model.specs.Repair.{Path, IsSound, IsLeast}
 use Rattle.sr_encode.specs.declared.waypoint.Waypoint.{Waypoint}
 use Rattle.sr_encode.specs.declared.served.Served.{Served}
-use Rattle.sr_encode.specs.Waypoints.{waypoint_at, node_at, path_to, AreParents}
+use Rattle.sr_encode.specs.Waypoints.{waypoint_at, waypoint_node, path_to, AreParents}
 use Rattle.sr_encode.specs.Aftermath.{Aftermath}
 use Rattle.sr_post.specs.Kept.{AreKeptHops}
 use Rattle.sr_post.specs.Nodes.{listed_at}
@@ -28,21 +28,22 @@ pub record EndsAt (after : Aftermath) (w d : ℕ) : Type 0 where
 
 -- at none of the first k waypoints lists can end towards d
 abbrev pub NoneEnds : Aftermath → List Waypoint → ℕ → ℕ → Type 0
-NoneEnds after queue d k = (j : ℕ) → j < k → EndsAt after (node_at queue j) d → ⊥
+NoneEnds after queue d k = (j : ℕ) → j < k → EndsAt after (waypoint_node queue j) d → ⊥
 
--- where lists can end first at place k towards a node, the list to that waypoint is the least sound one
+-- the list to the waypoint at place k is the least sound one to each node towards which lists can end there and can't
+-- end at an earlier place
 abbrev pub IsLeastThere : Aftermath → List Waypoint → ℕ → Type 0
 IsLeastThere after queue k =
-    (d : ℕ) → d < node_count after.net.graph → NoneEnds after queue d k → EndsAt after (node_at queue k) d
+    (d : ℕ) → d < node_count after.net.graph → NoneEnds after queue d k → EndsAt after (waypoint_node queue k) d
     → IsLeast after.net after.failed after.source d (path_to queue k)
 
 -- the queue has no more waypoints than there are nodes, each of them is one, and so it is at each place from k on
 pub record AreLeastFrom (after : Aftermath) (queue : List Waypoint) (k : ℕ) : Type 0 where
   pub short : length queue ≤ node_count after.net.graph
-  pub nodes : (j : ℕ) → j < length queue → node_at queue j < node_count after.net.graph
+  pub nodes : (j : ℕ) → j < length queue → waypoint_node queue j < node_count after.net.graph
   pub each : (j : ℕ) → k ≤ j → j < length queue → IsLeastThere after queue j
 
--- the place in the queue that is kept at number j, if one is
+-- the place in the queue that is kept for node j, if one is
 abbrev pub place_at : List (Option ℕ) → ℕ → Option ℕ
 place_at places j = slice_index_or places j None
 
@@ -97,18 +98,16 @@ pub record AreSearched (after : Aftermath) (queue : List Waypoint) (served : Ser
   pub none : (d : ℕ) → is_in served.pending d ≡ true → (a : Path) → IsSound after.net after.failed after.source d a → ⊥
   pub some : (d : ℕ) → IsServedBy after.net after.failed after.source queue d (place_at served.places.items d)
 
--- the destinations have the places that stand at their numbers
-pub record ArePlacesOf (by_number : List (Option ℕ)) (wanted : List NodeNo) (places : List (Option ℕ)) : Type 0 where
-  pub long : length places ≡ length wanted
-  pub each : (j : ℕ) → j < length wanted → place_at places j ≡ place_at by_number (listed_at wanted j)
-
 -- d is served, or no list to it is sound, or no walk leads there
-pub record IsFound (n : Net) (x : List Bool) (s : ℕ) (post : List ℕ) (queue : List Waypoint) (d : ℕ) (place : Option ℕ) : Type 0 where
-  pub none : place ≡ None → slice_index post d < FAR → (a : Path) → IsSound n x s d a → ⊥
-  pub some : IsServedBy n x s queue d place
+pub record IsResolved (after : Aftermath) (queue : List Waypoint) (d : ℕ) (place : Option ℕ) : Type 0 where
+  pub none : place ≡ None → slice_index after.post d < FAR
+      → (a : Path) → IsSound after.net after.failed after.source d a → ⊥
+  pub some : IsServedBy after.net after.failed after.source queue d place
 
--- so it is with each destination, and the lists can be read from the queue
-pub record AreFound (n : Net) (x : List Bool) (s : ℕ) (post : List ℕ) (queue : List Waypoint) (wanted : List NodeNo) (places : List (Option ℕ)) : Type 0 where
+-- so it is with each destination, whose place stands at its number, and the lists can be read from the queue
+pub record AreResolved (after : Aftermath) (queue : List Waypoint) (wanted : List NodeNo)
+    (places : List (Option ℕ)) : Type 0 where
   pub parents : AreParents queue
-  pub long : length places ≡ length wanted
-  pub each : (j : ℕ) → j < length wanted → IsFound n x s post queue (listed_at wanted j) (place_at places j)
+  pub long : length places ≡ node_count after.net.graph
+  pub each : (j : ℕ) → j < length wanted
+      → IsResolved after queue (listed_at wanted j) (place_at places (listed_at wanted j))

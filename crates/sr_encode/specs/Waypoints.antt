@@ -9,15 +9,21 @@ use Rattle.sr_encode.specs.declared.waypoint.Waypoint.{Waypoint}
 
 -- what stands for a waypoint past the end of a queue
 abbrev pub no_waypoint : Waypoint
-no_waypoint = record { node = record { 0 = 0 }; first = record { 0 = 0 }; depth = 0; parent = 0; segment = Node (record { 0 = 0 }) }
+no_waypoint = record {
+  node = record { 0 = 0 };
+  first = record { 0 = 0 };
+  depth = 0;
+  parent = 0;
+  segment = Node (record { 0 = 0 });
+}
 
 -- the waypoint at place k of the queue
 abbrev pub waypoint_at : List Waypoint → ℕ → Waypoint
 waypoint_at queue k = slice_index_or queue k no_waypoint
 
 -- the node of the waypoint at place k
-abbrev pub node_at : List Waypoint → ℕ → ℕ
-node_at queue k = (waypoint_at queue k).node.0
+abbrev pub waypoint_node : List Waypoint → ℕ → ℕ
+waypoint_node queue k = (waypoint_at queue k).node.0
 
 -- the last m segments of the list to the waypoint at place k: its own comes after those of its parent
 abbrev pub segments_to : List Waypoint → ℕ → ℕ → List Segment
@@ -26,7 +32,10 @@ segments_to queue (suc m) k = segments_to queue m (waypoint_at queue k).parent +
 
 -- the list to the waypoint at place k: its first link, and as many segments as it is deep
 abbrev pub path_to : List Waypoint → ℕ → Path
-path_to queue k = record { first = (waypoint_at queue k).first.0; segments = segments_to queue (waypoint_at queue k).depth k }
+path_to queue k = record {
+  first = (waypoint_at queue k).first.0;
+  segments = segments_to queue (waypoint_at queue k).depth k;
+}
 
 -- parents don't stand behind their waypoints, and a waypoint isn't deeper than its place
 abbrev pub AreParents : List Waypoint → Type 0
@@ -39,7 +48,13 @@ pub record Extends (queue more : List Waypoint) : Type 0 where
 
 -- the waypoint at node v, met by this segment from the one at place i
 abbrev pub met_from : List Waypoint → ℕ → NodeNo → Segment → Waypoint
-met_from queue i v t = record { node = v; first = (waypoint_at queue i).first; depth = (waypoint_at queue i).depth + 1; parent = i; segment = t }
+met_from queue i v t = record {
+  node = v;
+  first = (waypoint_at queue i).first;
+  depth = (waypoint_at queue i).depth + 1;
+  parent = i;
+  segment = t;
+}
 
 -- the waypoint at node v, met by a first link alone
 abbrev pub met_first : LinkNo → NodeNo → Waypoint

@@ -2,7 +2,7 @@
 ghost use Rattle.std.specs.Prelude.{◌≡◌, ◌<◌, ◌≤◌, [], List, length, All, MatchOption};
 ghost use Rattle.sr_model.specs.declared.repair.Segment.{Segment};
 ghost use Rattle.sr_encode.specs.declared.kept.Kept.{Kept};
-ghost use Rattle.sr_encode.specs.Answered.{AscendByNode, HasAnswer, NoAnswer, counts_in, entry_at};
+ghost use Rattle.sr_encode.specs.Answered.{AscendByNode, HasAnswer, NoAnswer, counts_in, node_answer_at};
 ghost use Rattle.sr_encode.specs.Codes.{AreCodes};
 ghost use Rattle.sr_encode.specs.Kept.{AreKeptWithin, entries};
 
@@ -107,7 +107,7 @@ impl CaseAnswers {
     /// The answer at this place, in order of destination.
     pub fn at(&self, place: usize) -> NodeAnswer<'_>
         requires { place < length self.now }
-        ensures { result ≡ entry_at self.now place }
+        ensures { result ≡ node_answer_at self.now place }
     {
         let kept = self.kept[place];
         let outcome = self.outcomes[kept.outcome as usize];
@@ -117,7 +117,7 @@ impl CaseAnswers {
         }
     }
 
-    /// The codes of the answers: those of one code have one list, or are alike else.
+    /// The codes of the answers, in their order. Two answers with one code differ at most in their costs.
     pub fn codes(&self) -> Codes<'_>
         ensures { AreCodes self.now result }
     {

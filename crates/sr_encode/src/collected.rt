@@ -2,7 +2,7 @@
 ghost use Rattle.std.specs.Prelude.{◌≡◌, ◌<◌, ◌≤◌, ◌↔◌, length, IsTrue, IfOk, OnOk, Some};
 ghost use Rattle.sr_model.specs.Graph.{node_count};
 ghost use Rattle.sr_model.specs.Repair.{Fits};
-ghost use Rattle.sr_encode.specs.Collected.{IsOutcomeOf, IsOutcomeFor, IsCollected, IsStarted, HasMoreSegments, Gains};
+ghost use Rattle.sr_encode.specs.Collected.{most_outcomes, IsOutcomeOf, IsOutcomeFor, IsCollected, IsStarted, HasMoreSegments, Gains};
 ghost use Rattle.sr_encode.specs.Kept.{HasSegments, outcome_at};
 ghost use Rattle.sr_encode.specs.Waypoints.{AreParents};
 
@@ -70,7 +70,7 @@ impl<'a> Collected<'a> {
     /// others.
     fn make(&mut self, place: u16) -> Result<Outcome, AllocError>
         requires collected { IsCollected self.old }
-        requires few { length self.old.outcomes.items ≤ 300 }
+        requires few { length self.old.outcomes.items ≤ most_outcomes }
         requires place { place < length self.old.queue.now }
         ensures adds { OnOk result (HasMoreSegments self.old self.new) }
         ensures outcome { IfOk result (λ made.
@@ -95,7 +95,7 @@ impl<'a> Collected<'a> {
     /// The place of the outcome of the waypoint at this place of the queue.
     fn outcome_of(&mut self, place: u16) -> Result<u16, AllocError>
         requires collected { IsCollected self.old }
-        requires few { length self.old.outcomes.items ≤ 300 }
+        requires few { length self.old.outcomes.items ≤ most_outcomes }
         requires place { place < length self.old.queue.now }
         ensures gains { IfOk result (Gains self.old self.new) }
         ensures outcome { IfOk result (λ r. IsOutcomeOf self.new place (outcome_at self.new.outcomes.items r)) }
@@ -114,7 +114,7 @@ impl<'a> Collected<'a> {
     /// if one does.
     pub(crate) fn outcome_for(&mut self, cost: u64, place: Option<u16>) -> Result<u16, AllocError>
         requires collected { IsCollected self.old }
-        requires few { length self.old.outcomes.items ≤ 300 }
+        requires few { length self.old.outcomes.items ≤ most_outcomes }
         requires place { (k : _) → place ≡ Some k → k < length self.old.queue.now }
         ensures gains { IfOk result (Gains self.old self.new) }
         ensures outcome { IfOk result (IsOutcomeFor self.new cost place) }

@@ -1,7 +1,7 @@
 //! What a search has met: its waypoints, each first met by the least list to it.
 ghost use Rattle.std.specs.Prelude.{◌≡◌, ◌+◌, ◌<◌, length, OnOk, IfOk};
 ghost use Rattle.sr_model.specs.Graph.{node_count, link_count, tail};
-ghost use Rattle.sr_encode.specs.Waypoints.{node_at, Extends};
+ghost use Rattle.sr_encode.specs.Waypoints.{waypoint_node, Extends};
 ghost use Rattle.sr_encode.specs.Search.{IsSearching, IsStarting, LooksFrom, HasRoom, IsMet};
 
 use crate::scene::Scene;
@@ -96,7 +96,7 @@ impl Met {
     /// Looks at the node segments after the waypoint w at place i, in the order of nodes.
     fn look_at_nodes(&mut self, scene: &Scene, i: usize, w: NodeNo) -> Result<(), AllocError>
         requires looks { LooksFrom scene.now self.old i 0 }
-        requires w { node_at self.old.queue.items i ≡ w.0 }
+        requires w { waypoint_node self.old.queue.items i ≡ w.0 }
         ensures looks { OnOk result (LooksFrom scene.now self.new i (node_count scene.now.net.graph)) }
         ensures longer { OnOk result (Extends self.old.queue.items self.new.queue.items) }
     {
@@ -112,7 +112,7 @@ impl Met {
     fn look_over(&mut self, scene: &Scene, i: usize, link: LinkNo) -> Result<(), AllocError>
         requires looks { LooksFrom scene.now self.old i (node_count scene.now.net.graph + link.0) }
         requires link { link.0 < link_count scene.now.net.graph }
-        requires begins { tail scene.now.net.graph link.0 ≡ node_at self.old.queue.items i }
+        requires begins { tail scene.now.net.graph link.0 ≡ waypoint_node self.old.queue.items i }
         ensures looks { OnOk result (LooksFrom scene.now self.new i (node_count scene.now.net.graph + (link.0 + 1))) }
         ensures longer { OnOk result (Extends self.old.queue.items self.new.queue.items) }
     {
@@ -129,7 +129,7 @@ impl Met {
     /// Looks at the adjacency segments after the waypoint w at place i, those of the links that begin there, in their order.
     fn look_over_links(&mut self, scene: &Scene, i: usize, w: NodeNo) -> Result<(), AllocError>
         requires looks { LooksFrom scene.now self.old i (node_count scene.now.net.graph) }
-        requires w { node_at self.old.queue.items i ≡ w.0 }
+        requires w { waypoint_node self.old.queue.items i ≡ w.0 }
         ensures search { OnOk result (IsSearching scene.now self.new.queue.items self.new.unmet (i + 1) 0) }
         ensures longer { OnOk result (Extends self.old.queue.items self.new.queue.items) }
     {

@@ -6,7 +6,7 @@ ghost use Rattle.sr_model.specs.Walk.{IsRow};
 ghost use Rattle.sr_model.specs.Case.{IsCase};
 ghost use Rattle.sr_spf.specs.Trees.{AreTrees};
 ghost use Rattle.sr_post.specs.Post.{IsPost};
-ghost use Rattle.sr_encode.specs.Serve.{AreNodes, AreFound};
+ghost use Rattle.sr_encode.specs.Serve.{AreNodes, AreResolved};
 ghost use Rattle.sr_post.specs.Nodes.{AreAffected};
 ghost use Rattle.sr_encode.specs.Answered.{AreAnswers};
 ghost use Rattle.sr_encode.specs.Repairs.{AreAllKept};
@@ -45,7 +45,7 @@ fn whole_cost(cost: u64) -> u32
 }
 
 /// The answers for the destinations, in their order.
-fn answers_of(
+fn kept_answers(
     alloc: Global,
     net: &Net,
     cells: &[u64],
@@ -57,7 +57,7 @@ fn answers_of(
     requires cells { IsRow net.now.graph failed.now source.0 cells.now }
     requires source { source.0 < node_count net.now.graph }
     requires wanted { AreNodes net.now wanted.now × (length wanted.now ≤ 256) }
-    requires found { AreFound net.now failed.now source.0 cells.now
+    requires found { AreResolved (record { net = net.now; failed = failed.now; source = source.0; post = cells.now })
         found.now.queue.items wanted.now found.now.places.items }
     ensures { IfOk result (λ all. AreAllKept net.now failed.now source.0 wanted.now all) }
 {
@@ -66,8 +66,9 @@ fn answers_of(
     let mut collected = Collected::new(alloc, net, source, &found.queue)?;
     for j in 0..wanted.len() {
         let destination = wanted[j];
-        let cost = cells[destination.0 as usize];
-        let outcome = collected.outcome_for(cost, found.places[j])?;
+        let node = destination.0 as usize;
+        let cost = cells[node];
+        let outcome = collected.outcome_for(cost, found.places[node])?;
         kept.push(Kept {
             destination,
             outcome,
@@ -104,7 +105,7 @@ fn answers_for(
         kept,
         outcomes,
         segments,
-    } = answers_of(
+    } = kept_answers(
         alloc,
         net,
         post.cells(),

@@ -12,7 +12,7 @@ ghost use Rattle.sr_encode.specs.Serve.{EndsAt};
 
 use sr_graph::Graph;
 use sr_labels::Net;
-use sr_lanes::{NodeBits, tight};
+use sr_lanes::{NodeBits, tight_among};
 use sr_model::{FAR, LinkNo, NodeNo};
 use sr_spaces::Spaces;
 use std::marker::Model;
@@ -83,13 +83,15 @@ impl<'a> Scene<'a> {
         self.cells[node.0 as usize] < FAR
     }
 
-    /// The nodes at whose distances from the source the distances by w add up.
-    fn fits(&self, w: NodeNo) -> NodeBits
-        requires { w.0 < node_count self.now.net.graph }
+    /// Those of the nodes at whose distances from the source the distances by w add up.
+    fn fits(&self, w: NodeNo, among: NodeBits) -> NodeBits
+        requires w { w.0 < node_count self.now.net.graph }
+        requires among { AreInside self.now among }
         ensures after { IsAftermath self.now }
-        ensures sums { AddUpFrom self.now w.0 result }
+        ensures sums { AddUpFrom self.now w.0 among result }
     {
-        tight(self.cells, self.cells[w.0 as usize], self.spaces.row(w))
+        let row = self.spaces.row(w);
+        tight_among(self.cells, self.cells[w.0 as usize], row, among)
     }
 
     /// Whether lists to waypoint w can end there towards d.
@@ -110,7 +112,7 @@ impl<'a> Scene<'a> {
         ensures after { IsAftermath self.now }
         ensures these { (d : ℕ) → IsTrue (is_in result d) ↔ ((is_in among d ≡ true) × EndsAt self.now w.0 d) }
     {
-        let mut left = self.fits(w).and(among);
+        let mut left = self.fits(w, among);
         let mut found = NodeBits::none();
         'left: while let Some(node) = left.take_first() {
             if self.ends_at(w, NodeNo(node as u16)) {
@@ -149,7 +151,7 @@ impl<'a> Scene<'a> {
         ensures these { (v : ℕ) → IsTrue (is_in result v)
             ↔ ((is_in among v ≡ true) × StepsTo self.now w.0 (Node (record { 0 = v })) v) }
     {
-        let mut left = self.fits(w).and(among);
+        let mut left = self.fits(w, among);
         let mut found = NodeBits::none();
         'left: while let Some(node) = left.take_first() {
             if self.leads_to(w, NodeNo(node as u16)) {

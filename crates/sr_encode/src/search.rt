@@ -1,7 +1,7 @@
 //! The search: each waypoint is offered to the destinations that are pending, and then looked on from.
 ghost use Rattle.std.specs.Prelude.{◌≡◌, IfOk, OnOk};
 ghost use Rattle.sr_encode.specs.Search.{IsSearching};
-ghost use Rattle.sr_encode.specs.Serve.{AreNodes, AreOffered, AreSearched, AreFound, IsLater, AreHopsOf};
+ghost use Rattle.sr_encode.specs.Serve.{AreNodes, AreOffered, AreSearched, AreResolved, IsLater, AreHopsOf};
 
 use crate::met::Met;
 use crate::scene::Scene;
@@ -11,7 +11,8 @@ use sr_model::NodeNo;
 use sr_post::Post;
 use std::alloc::{AllocError, Global};
 
-/// The queue of a search, and the place in it of the waypoint that serves each destination, if one does.
+/// The queue of a search, and the place in it of the waypoint that serves each destination, by the number of its node, if
+/// one does.
 #[derive(Drop)]
 pub(crate) struct Serving {
     pub(crate) queue: Vec<Waypoint>,
@@ -50,16 +51,14 @@ pub(crate) fn search(
 ) -> Result<Serving, AllocError>
     requires hops { AreHopsOf scene.now post.now.hops }
     requires wanted { AreNodes scene.now.net wanted.now }
-    ensures { IfOk result (λ found. AreFound scene.now.net scene.now.failed scene.now.source scene.now.post
-        found.queue.items wanted.now found.places.items) }
+    ensures { IfOk result (λ found. AreResolved scene.now found.queue.items wanted.now found.places.items) }
 {
     let mut met = Met::first(alloc, scene)?;
     let mut served = Served::none(alloc, scene, wanted)?;
     served.take_hops(scene, &met.queue, post);
     explore(scene, &mut met, &mut served)?;
-    let places = served.places_of(alloc, wanted)?;
     Ok(Serving {
         queue: met.queue,
-        places,
+        places: served.places,
     })
 }

@@ -4,9 +4,8 @@ ghost use Rattle.sr_lanes.specs.Bits.{is_in};
 ghost use Rattle.sr_model.specs.Graph.{node_count};
 ghost use Rattle.sr_encode.specs.declared.waypoint.Waypoint.{Waypoint as Step};
 ghost use Rattle.sr_post.specs.Kept.{IsKeptHop};
-ghost use Rattle.sr_post.specs.Nodes.{listed_at};
 ghost use Rattle.sr_encode.specs.Aftermath.{Aftermath as Setting};
-ghost use Rattle.sr_encode.specs.Serve.{AreNodes, AreLeastFrom, AreOffered, ArePending, ArePlaced, ArePlacesOf, IsLater, IsMetBy, AreHopsOf};
+ghost use Rattle.sr_encode.specs.Serve.{AreNodes, AreLeastFrom, AreOffered, ArePending, ArePlaced, IsLater, IsMetBy, AreHopsOf};
 
 use crate::scene::Scene;
 use crate::waypoint::Waypoint;
@@ -19,7 +18,7 @@ use std::alloc::{AllocError, Global};
 /// that are pending: a walk leads there, and no waypoint serves them so far.
 #[derive(Drop)]
 pub(crate) struct Served {
-    places: Vec<Option<u16>>,
+    pub(crate) places: Vec<Option<u16>>,
     pending: NodeBits,
 }
 
@@ -141,21 +140,5 @@ impl Served {
             }
             self.offer(scene, queue, at);
         }
-    }
-
-    /// The places of the destinations, in their order.
-    pub(crate) fn places_of(
-        &self,
-        alloc: Global,
-        wanted: &[NodeNo],
-    ) -> Result<Vec<Option<u16>>, AllocError>
-        requires { (j : ℕ) → j < length wanted.now → listed_at wanted.now j < length self.now.places.items }
-        ensures { IfOk result (λ places. ArePlacesOf self.now.places.items wanted.now places.items) }
-    {
-        let mut places = Vec::with_capacity(alloc, wanted.len())?;
-        for j in 0..wanted.len() {
-            places.push(self.places[wanted[j].0 as usize])?;
-        }
-        Ok(places)
     }
 }

@@ -3,3 +3,5 @@ pub mod LaneLemmas
 pub mod MarkLemmas
 pub mod RunLemmas
 pub mod WordLemmas
+pub mod SizeLemmas
+pub mod AmongLemmas

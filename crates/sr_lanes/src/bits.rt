@@ -1,7 +1,7 @@
 //! What is asked of sets of nodes, and what is made of them.
 
 ghost use Rattle.std.specs.Prelude.{◌≡◌, ℕ, ◌-◌, ◌^◌, ◌<◌, ◌≤◌, min, ◌↔◌, ◌==◌, ◌&&◌, ◌||◌, not, false, nat_lt, length, slice_index_or, IsTrue, MatchOption};
-ghost use Rattle.sr_lanes.specs.Bits.{is_in, IsFirstIn, IsWithout};
+ghost use Rattle.sr_lanes.specs.Bits.{is_in, member_count, IsFirstIn, IsWithout};
 
 use crate::limits::{A_WORD, NODES_AT_MOST};
 use crate::words::NodeBits;
@@ -131,6 +131,15 @@ impl NodeBits {
     {
         let [a, b, c, d] = self.words;
         a | b | c | d == 0
+    }
+
+    /// How many nodes are in the set.
+    #[inline(always)]
+    pub fn count(self) -> usize
+        ensures { result ≡ member_count self }
+    {
+        let [a, b, c, d] = self.words;
+        (a.count_ones() + b.count_ones() + c.count_ones() + d.count_ones()) as usize
     }
 
     /// The least number in the set.

@@ -16,5 +16,5 @@ mod words;
 pub use equal::rows_equal;
 pub use limits::{CELL_AT_MOST, NODES_AT_MOST};
 pub use marks::tight_mask;
-pub use passes::{differ, finite, tight};
+pub use passes::{differ, finite, tight, tight_among};
 pub use words::NodeBits;

@@ -14,3 +14,6 @@ pub(crate) const LANES: usize = 8;
 
 /// How many groups of eight cells a word tells of.
 pub(crate) const GROUPS: usize = A_WORD / LANES;
+
+/// Of a set of at most this many nodes each is tested alone (this project's rule: that costs less than a pass).
+pub(crate) const FEW: usize = 8;

@@ -1,10 +1,10 @@
 //! Passes over rows of distances: the nodes at whose cells a test says yes.
 
-ghost use Rattle.std.specs.Prelude.{◌≡◌, ℕ, ◌≤◌, length};
+ghost use Rattle.std.specs.Prelude.{◌≡◌, ℕ, ◌<◌, ◌≤◌, ◌&&◌, true, length};
 ghost use Rattle.sr_lanes.specs.Bits.{is_in};
 ghost use Rattle.sr_lanes.specs.Passes.{AreCells, is_tight, differs, has_distance};
 
-use crate::limits::{CELL_AT_MOST, NODES_AT_MOST};
+use crate::limits::{CELL_AT_MOST, FEW, NODES_AT_MOST};
 use crate::place_test::places_of;
 use crate::row_tests::{OneRow, TwoRows};
 use crate::tight_rows::TightRows;
@@ -19,6 +19,41 @@ pub fn tight(row: &[u64], cost: u64, base: &[u64]) -> NodeBits
     ensures { (v : ℕ) → is_in result v ≡ is_tight row.now cost base.now v }
 {
     places_of(&TightRows { row, cost, base })
+}
+
+/// Those of the nodes to which the way over the base's node, to which it costs `cost`, costs what the row says. Each is
+/// tested alone.
+fn tight_singly(row: &[u64], cost: u64, base: &[u64], among: NodeBits) -> NodeBits
+    requires lengths { length base.now ≡ length row.now }
+    requires cost { cost ≤ CELL_AT_MOST }
+    requires base { AreCells base.now }
+    requires among { (v : ℕ) → is_in among v ≡ true → v < length row.now }
+    ensures { (v : ℕ) → is_in result v ≡ (is_in among v && is_tight row.now cost base.now v) }
+{
+    let mut left = among;
+    let mut found = NodeBits::none();
+    'left: while let Some(node) = left.take_first() {
+        if cost + base[node] == row[node] {
+            found = found.with(node);
+        }
+    }
+    found
+}
+
+/// Those of the nodes to which the way over the base's node, to which it costs `cost`, costs what the row says. A few nodes
+/// are tested one by one, and for more there is a pass over the rows.
+#[inline(always)]
+pub fn tight_among(row: &[u64], cost: u64, base: &[u64], among: NodeBits) -> NodeBits
+    requires lengths { (length base.now ≡ length row.now) × (length row.now ≤ NODES_AT_MOST) }
+    requires cost { cost ≤ CELL_AT_MOST }
+    requires base { AreCells base.now }
+    requires among { (v : ℕ) → is_in among v ≡ true → v < length row.now }
+    ensures { (v : ℕ) → is_in result v ≡ (is_in among v && is_tight row.now cost base.now v) }
+{
+    if among.count() <= FEW {
+        return tight_singly(row, cost, base, among);
+    }
+    among.and(tight(row, cost, base))
 }
 
 /// The nodes at which the rows differ.

@@ -112,46 +112,46 @@ kept_walk g x s v kept =
     kept
 
 module _ (g : Graph) (x : List Bool) (s : ℕ) (row : List ℕ) where
-  pub kept-none : AreKeptBelow g x s row [] [] 0
+  pub kept-none : AreKeptBelow g x s row (record { cells = []; lost = [] }) 0
   kept-none = record { long = refl; each = λ v lt. absurd (omega arith); nodes = λ k d lt. absurd (omega arith) }
 
   -- what is told of node v, of its cell
-  Told : List NodeNo → ℕ → ℕ → Type 0
-  Told lost v c = (IsKept g x s v × (c ≡ slice_index row v)) ⊎ ((IsKept g x s v → ⊥) × (c ≡ FAR) × Contains lost (record { 0 = v }))
+  IsToldOf : List NodeNo → ℕ → ℕ → Type 0
+  IsToldOf lost v c = (IsKept g x s v × (c ≡ slice_index row v)) ⊎ ((IsKept g x s v → ⊥) × (c ≡ FAR) × Contains lost (record { 0 = v }))
 
   -- one cell more, and perhaps one lost node more
-  told-more : (cells : List ℕ) (lost more : List NodeNo) (n c : ℕ) → AreKeptBelow g x s row cells lost n → Told (lost ++ more) n c → All (λ (k : NodeNo). k.0 < n + 1) more → AreKeptBelow g x s row (cells ++ c ∷ []) (lost ++ more) (n + 1)
-  unfolding Told
+  told-more : (cells : List ℕ) (lost more : List NodeNo) (n c : ℕ) → AreKeptBelow g x s row (record { cells = cells; lost = lost }) n → IsToldOf (lost ++ more) n c → All (λ (k : NodeNo). k.0 < n + 1) more → AreKeptBelow g x s row (record { cells = cells ++ c ∷ []; lost = lost ++ more }) (n + 1)
+  unfolding IsToldOf
   told-more cells lost more n c h told nodes = record {
     long = omega (arith, length-append cells (c ∷ []), h.long);
     each = λ v lt. ⊎_elim
         (λ (early : v < n).
-        subst (λ k. Told (lost ++ more) v k) (sym (get_or_append_left cells (c ∷ []) 0 v (omega (arith, h.long))))
+        subst (λ k. IsToldOf (lost ++ more) v k) (sym (get_or_append_left cells (c ∷ []) 0 v (omega (arith, h.long))))
         (⊎_elim (λ a. inl a) (λ b. inr (b.0, b.1, Contains-append_left lost more (record { 0 = v }) b.2)) (h.each v early)))
         (λ (late : n ≤ v).
         let same : n ≡ v = omega arith in
-        subst (λ k. Told (lost ++ more) v k) (sym (get_or_push cells c 0 v (h.long ∙ same))) (subst (λ u. Told (lost ++ more) u c) same told))
+        subst (λ k. IsToldOf (lost ++ more) v k) (sym (get_or_push cells c 0 v (h.long ∙ same))) (subst (λ u. IsToldOf (lost ++ more) u c) same told))
         (cases_lt v n);
     nodes = All-append (λ (k : NodeNo). k.0 < n + 1) lost more (λ k d lt. let within : (get_or lost k d).0 < n = h.nodes k d lt in omega arith) nodes;
   }
 
   -- a node that is kept has its cell of the row
-  pub kept-more : (cells : List ℕ) (lost : List NodeNo) (n c : ℕ) → AreKeptBelow g x s row cells lost n → IsKept g x s n → c ≡ slice_index row n → AreKeptBelow g x s row (cells ++ c ∷ []) lost (n + 1)
-  unfolding Told
+  pub kept-more : (cells : List ℕ) (lost : List NodeNo) (n c : ℕ) → AreKeptBelow g x s row (record { cells = cells; lost = lost }) n → IsKept g x s n → c ≡ slice_index row n → AreKeptBelow g x s row (record { cells = cells ++ c ∷ []; lost = lost }) (n + 1)
+  unfolding IsToldOf
   kept-more cells lost n c h kept is =
-      subst (λ list. AreKeptBelow g x s row (cells ++ c ∷ []) list (n + 1)) (append-nil lost)
+      subst (λ list. AreKeptBelow g x s row (record { cells = cells ++ c ∷ []; lost = list }) (n + 1)) (append-nil lost)
       (told-more cells lost [] n c h (inl (kept, is)) (λ k d lt. absurd (omega arith)))
 
   -- another has FAR, and is listed
-  pub lost-more : (cells : List ℕ) (lost : List NodeNo) (n : ℕ) → AreKeptBelow g x s row cells lost n → (IsKept g x s n → ⊥) → AreKeptBelow g x s row (cells ++ FAR ∷ []) (lost ++ record { 0 = n } ∷ []) (n + 1)
-  unfolding Told
+  pub lost-more : (cells : List ℕ) (lost : List NodeNo) (n : ℕ) → AreKeptBelow g x s row (record { cells = cells; lost = lost }) n → (IsKept g x s n → ⊥) → AreKeptBelow g x s row (record { cells = cells ++ FAR ∷ []; lost = lost ++ record { 0 = n } ∷ [] }) (n + 1)
+  unfolding IsToldOf
   lost-more cells lost n h other =
       let node : NodeNo = record { 0 = n } in
       told-more cells lost (node ∷ []) n FAR h (inr (other, refl, Contains-push lost node)) (λ k d lt.
       let first : k ≡ 0 = omega arith in
       rw first (omega arith))
 
-module _ (g : Graph) (x : List Bool) (s : ℕ) (row cells : List ℕ) (lost : List NodeNo) (graph : IsGraph g) (within : s < node_count g) (is : IsRow g [] s row) (h : AreKeptBelow g x s row cells lost (node_count g)) where
+module _ (g : Graph) (x : List Bool) (s : ℕ) (row cells : List ℕ) (lost : List NodeNo) (graph : IsGraph g) (within : s < node_count g) (is : IsRow g [] s row) (h : AreKeptBelow g x s row (record { cells = cells; lost = lost }) (node_count g)) where
   -- where there is a cell it is that of the row
   near_kept : (v : ℕ) → v < node_count g → slice_index cells v < FAR → IsKept g x s v × (slice_index cells v ≡ slice_index row v)
   near_kept v v_in near = ⊎_elim (λ a. a) (λ b. absurd (omega (arith, b.1))) (h.each v v_in)

@@ -5,3 +5,4 @@ pub mod OrderLemmas
 pub mod MarkLemmas
 pub mod KeptLemmas
 pub mod KeptHopLemmas
+pub mod SourceLemmas

@@ -7,12 +7,12 @@ use Rattle.std.proofs.lemmas.List.{length_push, get_or_push, get_or_append_left,
 use Rattle.std.proofs.lemmas.List.Elements.{All-get_or, All-from_get_or, Contains-get_or}
 use Rattle.std.proofs.lemmas.List.Sorted.{All-permutation, Contains-permutation, IsNonDecreasingBy-from_sort}
 use Rattle.sr_post.specs.declared.order.Placed.{Placed}
-use Rattle.sr_post.specs.Order.{entry_at, AreListed, AreByDistance}
+use Rattle.sr_post.specs.Order.{placed_at, AreListed, AreByDistance}
 
 -- the nodes below n are listed
 pub record AreListedBelow (cells : List ℕ) (list : List Placed) (n : ℕ) : Type 0 where
   pub long : length list ≡ n
-  pub each : (i : ℕ) → i < n → ((entry_at list i).node.0 ≡ i) × ((entry_at list i).cell ≡ slice_index cells i)
+  pub each : (i : ℕ) → i < n → ((placed_at list i).node.0 ≡ i) × ((placed_at list i).cell ≡ slice_index cells i)
 
 abbrev pub made : ℕ → ℕ → Placed
 made c n = record { cell = c; node = record { 0 = n } }
@@ -24,7 +24,7 @@ listed-more cells list n h = record {
       let P : Placed → Type 0 = λ k. (k.node.0 ≡ i) × (k.cell ≡ slice_index cells i) in
       ⊎_elim
       (λ (e : i ≡ n).
-      let Q : ℕ → Type 0 = λ k. ((entry_at (list ++ made (slice_index cells n) n ∷ []) k).node.0 ≡ k) × ((entry_at (list ++ made (slice_index cells n) n ∷ []) k).cell ≡ slice_index cells k) in
+      let Q : ℕ → Type 0 = λ k. ((placed_at (list ++ made (slice_index cells n) n ∷ []) k).node.0 ≡ k) × ((placed_at (list ++ made (slice_index cells n) n ∷ []) k).cell ≡ slice_index cells k) in
       let R : Placed → Type 0 = λ k. (k.node.0 ≡ n) × (k.cell ≡ slice_index cells n) in
       subst Q (sym e) (subst R (sym (get_or_push list (made (slice_index cells n) n) (made 0 0) n h.long)) (refl, refl)))
       (λ (ne : i ≢ n). subst P (sym (get_or_append_left list (made (slice_index cells n) n ∷ []) (made 0 0) i (omega (arith, h.long)))) (h.each i (omega arith)))
@@ -49,7 +49,7 @@ sorted-by_distance cells list sorted h p up =
       each = λ i lt. All-get_or (IsRight cells) sorted i (made 0 0) lt right;
       all = λ v lt.
           let within : v < length list = omega (arith, h.long) in
-          let there : Contains sorted (entry_at list v) = Contains-permutation list sorted (entry_at list v) p (Contains-get_or list v (made 0 0) within) in
-          (there.0, there.1, ap (λ (k : Placed). k.node.0) (get_or_default sorted there.0 (made 0 0) (entry_at list v) there.1 ∙ there.2) ∙ (h.each v lt).0);
+          let there : Contains sorted (placed_at list v) = Contains-permutation list sorted (placed_at list v) p (Contains-get_or list v (made 0 0) within) in
+          (there.0, there.1, ap (λ (k : Placed). k.node.0) (get_or_default sorted there.0 (made 0 0) (placed_at list v) there.1 ∙ there.2) ∙ (h.each v lt).0);
       ascending = λ i j le lt. ascends i j (made 0 0) le lt;
     }

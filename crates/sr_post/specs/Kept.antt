@@ -1,11 +1,12 @@
 -- The nodes that keep their distance in a failure, the next hops that still lead to them, and how both are told.
-use Rattle.std.specs.Prelude.{◌≡◌, ℕ, ◌<◌, ◌≤◌, ◌⊎◌, Bool, false, List, [], length, Option, Some, None, All, Contains, slice_index, slice_index_or}
+use Rattle.std.specs.Prelude.{◌≡◌, ℕ, ◌<◌, ◌≤◌, ◌⊎◌, Bool, true, false, List, [], length, Option, Some, None, All, Contains, slice_index, slice_index_or}
 use Rattle.sr_model.specs.declared.link.LinkNo.{LinkNo}
 use Rattle.sr_model.specs.declared.link.NodeNo.{NodeNo}
 use Rattle.sr_model.specs.declared.link.TheConstants.{FAR}
-use Rattle.sr_model.specs.Graph.{Graph, head, has}
+use Rattle.sr_model.specs.Graph.{Graph, link_count, head, has}
 use Rattle.sr_model.specs.Walk.{IsNextHop}
 use Rattle.sr_model.specs.Space.{InP}
+use Rattle.sr_model.specs.Case.{Touches}
 
 -- link l leads from s towards v in spite of x: it is outside x, begins a shortest walk to v, and v is in P of its end
 pub record LeadsTo (g : Graph) (x : List Bool) (s v l : ℕ) : Type 0 where
@@ -13,15 +14,26 @@ pub record LeadsTo (g : Graph) (x : List Bool) (s v l : ℕ) : Type 0 where
   pub hop : IsNextHop g [] s v l
   pub space : InP g x (head g l) v
 
+-- each link of x begins or ends at s
+abbrev pub LieAt : Graph → List Bool → ℕ → Type 0
+LieAt g x s = (l : ℕ) → l < link_count g → has x l ≡ true → Touches g l s
+
 -- v is s, or some link leads from s towards v in spite of x: its distance from s is kept
 abbrev pub IsKept : Graph → List Bool → ℕ → ℕ → Type 0
 IsKept g x s v = (v ≡ s) ⊎ ((l : ℕ) × LeadsTo g x s v l)
 
+-- what is known of nodes: the cell of each, and the nodes that are lost
+pub record KnownCells : Type 0 where
+  pub cells : List ℕ
+  pub lost : List NodeNo
+
 -- the nodes below n that are kept have their cells of the row, and the others FAR, and are listed
-pub record AreKeptBelow (g : Graph) (x : List Bool) (s : ℕ) (row cells : List ℕ) (lost : List NodeNo) (n : ℕ) : Type 0 where
-  pub long : length cells ≡ n
-  pub each : (v : ℕ) → v < n → (IsKept g x s v × (slice_index cells v ≡ slice_index row v)) ⊎ ((IsKept g x s v → ⊥) × (slice_index cells v ≡ FAR) × Contains lost (record { 0 = v }))
-  pub nodes : All (λ (k : NodeNo). k.0 < n) lost
+pub record AreKeptBelow (g : Graph) (x : List Bool) (s : ℕ) (row : List ℕ) (known : KnownCells) (n : ℕ) : Type 0 where
+  pub long : length known.cells ≡ n
+  pub each : (v : ℕ) → v < n
+      → (IsKept g x s v × (slice_index known.cells v ≡ slice_index row v))
+      ⊎ ((IsKept g x s v → ⊥) × (slice_index known.cells v ≡ FAR) × Contains known.lost (record { 0 = v }))
+  pub nodes : All (λ (k : NodeNo). k.0 < n) known.lost
 
 -- link l is the least that leads from s towards v in spite of x
 pub record IsKeptHop (g : Graph) (x : List Bool) (s v l : ℕ) : Type 0 where

@@ -1,5 +1,6 @@
 //! What a case leaves, in two steps: what is known before its search, and the search.
-ghost use Rattle.std.specs.Prelude.{◌≡◌, ◌+◌, ◌≤◌, IfOk, OnOk};
+ghost use Rattle.std.specs.Prelude.{◌≡◌, ◌≢◌, ◌↔◌, ◌+◌, ◌≤◌, IsTrue, IfOk, OnOk};
+ghost use Rattle.sr_model.specs.declared.case.Kind.TheVariants.{Node as NodeKind};
 ghost use Rattle.sr_model.specs.Case.{IsCase};
 ghost use Rattle.sr_spf.specs.Trees.{AreTrees};
 ghost use Rattle.sr_post.specs.Post.{IsPost, IsBeginning};
@@ -9,7 +10,7 @@ use crate::left::Post;
 use crate::spaces::spaces_of;
 use sr_graph::LinkSet;
 use sr_labels::Net;
-use sr_model::{Case, LinkNo, NodeNo};
+use sr_model::{Case, Kind, LinkNo, NodeNo};
 use sr_seq::Seq;
 use sr_spf::{Steps, Trees, row_after};
 use std::alloc::{AllocError, Global};
@@ -61,6 +62,16 @@ impl Begun {
     }
 }
 
+/// Whether each link that fails lies at the source: so it is unless a node fails.
+fn fails_at_source(kind: Kind) -> bool
+    ensures { IsTrue result ↔ (kind ≢ NodeKind) }
+{
+    match kind {
+        Kind::Node => false,
+        Kind::Link | Kind::Risk => true,
+    }
+}
+
 /// What is known of the case before its search.
 fn begin(alloc: Global, net: &Net, trees: &Trees, case: Case) -> Result<Begun, AllocError>
     requires trees { AreTrees net.now.graph trees.now }
@@ -68,12 +79,14 @@ fn begin(alloc: Global, net: &Net, trees: &Trees, case: Case) -> Result<Begun, A
     ensures { IfOk result (IsBeginning net.now case) }
 {
     let graph = net.graph();
+    let start = graph.edge(case.link).from;
     let failed = graph.failed(alloc, case)?;
     let Known { cells, lost, hops } = known_distances(
         alloc,
         &spaces_of(graph, trees, &failed, case),
         trees,
-        graph.edge(case.link).from,
+        fails_at_source(case.kind),
+        start,
     )?;
     Ok(Begun {
         failed,
@@ -95,8 +108,7 @@ pub fn post<L: Ledger>(
     requires case { IsCase net.now.graph case }
     ensures post { IfOk result (IsPost net.now case) }
     ensures steps { OnOk result (steps.new ≡ steps.old + 1) }
-    ensures most { steps.new ≤ steps.old + 1 }
-    ensures least { steps.old ≤ steps.new }
+    ensures bounds { (steps.old ≤ steps.new) × (steps.new ≤ steps.old + 1) }
 {
     begin(alloc, net, trees, case)?.finish(alloc, net, case, steps)
 }

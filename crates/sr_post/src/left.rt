@@ -58,7 +58,8 @@ impl Post {
     pub fn dist(&self, v: NodeNo) -> Option<u64>
         requires { v.0 < length self.now.cells }
         ensures cell { result ≡ distance_of (slice_index self.now.cells v.0) }
-        ensures distance { (n : Labelled) (case : Failure) → IsPost n case self.now → (x : List Bool) → IsFailedSet n.graph case x → Distance n.graph x (source_of n.graph case) v.0 result }
+        ensures distance { (n : Labelled) (case : Failure) → IsPost n case self.now
+            → (x : List Bool) → IsFailedSet n.graph case x → Distance n.graph x (source_of n.graph case) v.0 result }
     {
         let cell = self.row.as_slice()[v.0 as usize];
         if cell < FAR { Some(cell) } else { None }

@@ -5,7 +5,7 @@ ghost use Rattle.sr_model.specs.Graph.{node_count};
 ghost use Rattle.sr_model.specs.Walk.{IsRow};
 ghost use Rattle.sr_model.specs.Case.{IsCase, source_of};
 ghost use Rattle.sr_spf.specs.Trees.{AreTrees};
-ghost use Rattle.sr_post.specs.Marks.{AreMarks, AreWalks, LeadsOn, IsMarked};
+ghost use Rattle.sr_post.specs.Marks.{AreWayMarks, AreWalks, LeadsOn, IsWayMarked};
 ghost use Rattle.sr_post.specs.Post.{IsPost};
 
 use crate::destinations::affected;
@@ -51,9 +51,8 @@ fn is_marked(
     requires trees { AreTrees net.now.graph trees.now }
     requires case { IsCase net.now.graph case }
     requires v { v.0 < node_count net.now.graph }
-    requires cells { length cells.now ≡ node_count net.now.graph }
-    requires marks { length marks.now ≡ node_count net.now.graph }
-    ensures { IsTrue result ↔ IsMarked net.now case x.now cells.now marks.now v.0 }
+    requires long { (length cells.now ≡ node_count net.now.graph) × (length marks.now ≡ node_count net.now.graph) }
+    ensures { IsTrue result ↔ IsWayMarked net.now case x.now cells.now marks.now v.0 }
 {
     if cells[v.0 as usize] >= FAR {
         return false;
@@ -77,7 +76,7 @@ fn marks_of(
     requires trees { AreTrees net.now.graph trees.now }
     requires case { IsCase net.now.graph case }
     requires row { IsRow net.now.graph x.now (source_of net.now.graph case) cells.now }
-    ensures { IfOk result (λ marks. AreMarks net.now case x.now marks.items) }
+    ensures { IfOk result (λ marks. AreWayMarks net.now case x.now marks.items) }
 {
     let order = by_distance(alloc, cells)?;
     let mut marks = vec![in alloc; false; cells.len()]?;

@@ -36,7 +36,8 @@ impl Walks {
     pub fn has(&self, v: NodeNo) -> bool
         requires { v.0 < length self.now }
         ensures test { result ≡ has self.now v.0 }
-        ensures way { (n : Labelled) (case : Failure) → AreWalks n case self.now → (x : List Bool) → IsFailedSet n.graph case x → IsTrue result ↔ IsOnRepairWay n case x v.0 }
+        ensures way { (n : Labelled) (case : Failure) → AreWalks n case self.now
+            → (x : List Bool) → IsFailedSet n.graph case x → IsTrue result ↔ IsOnRepairWay n case x v.0 }
     {
         self.marks[v.0 as usize]
     }

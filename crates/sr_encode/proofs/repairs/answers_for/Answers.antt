@@ -10,8 +10,8 @@ use Rattle.sr_encode.proofs.AnswerLemmas.{affected-nodes, answers-over}
 use Rattle.sr_encode.proofs.repairs.answers_for.Goals as goal
 
 -- there is at most one affected destination for each node
-pub answers_of-requires-clause-wanted : goal.answers_of-requires-clause-wanted
-answers_of-requires-clause-wanted c =
+pub kept_answers-requires-clause-wanted : goal.kept_answers-requires-clause-wanted
+kept_answers-requires-clause-wanted c =
     let graph : IsGraph c.args.net.now.graph = rw c.graph.ensures.value at c.link.ensures.graph in
     let most : length c.args.wanted.now ≤ node_count c.args.net.now.graph = those-few (IsAffected c.args.net.now c.args.case) (node_count c.args.net.now.graph) c.args.wanted.now c.requires.wanted in
     (affected-nodes c.args.net.now c.args.case c.args.wanted.now c.requires.wanted, omega (arith, graph.few_nodes, most))

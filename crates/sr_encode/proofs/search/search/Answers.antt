@@ -1,4 +1,3 @@
-use Rattle.std.proofs.Common.{arith}
 use Rattle.sr_encode.proofs.QueueLemmas.{searching-short}
 use Rattle.sr_encode.proofs.ServeLemmas.{found-from, later-trans}
 use Rattle.sr_encode.proofs.search.search.Goals as goal
@@ -12,10 +11,7 @@ take_hops-requires-clause-offered c = c.in_ok-served.ensures.offered c.deref.res
 pub explore-requires-clause-offered : goal.explore-requires-clause-offered
 explore-requires-clause-offered c = rw c.deref.ensures.value at c.take_hops.ensures.offered
 
-pub places_of-requires : goal.places_of-requires
-places_of-requires c j lt = omega (arith, c.in_ok-explore.ensures.over.long, c.requires.wanted j lt)
-
 pub returns : goal.returns
 returns c =
-    found-from c.args.scene.now c.explore.new.met.queue.items c.args.wanted.now c.in_ok-served.served c.explore.new.served c.in_ok-places.places.items
-    c.in_ok-served.ensures.pending (later-trans c.in_ok-served.served c.take_hops.new.self c.explore.new.served c.take_hops.ensures.later c.in_ok-explore.ensures.later) c.in_ok-explore.ensures.over c.in_ok-places.ensures
+    found-from c.args.scene.now c.explore.new.met.queue.items c.args.wanted.now c.in_ok-served.served c.explore.new.served
+    c.in_ok-served.ensures.pending (later-trans c.in_ok-served.served c.take_hops.new.self c.explore.new.served c.take_hops.ensures.later c.in_ok-explore.ensures.later) c.in_ok-explore.ensures.over

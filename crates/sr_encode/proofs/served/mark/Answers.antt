@@ -1,4 +1,4 @@
-use Rattle.sr_encode.proofs.BitLemmas.{size-less}
+use Rattle.sr_lanes.proofs.SizeLemmas.{size-less}
 use Rattle.sr_encode.proofs.served.mark.Goals as goal
 
 pub left-smaller : goal.left-smaller

@@ -29,7 +29,7 @@ pub returns : goal.returns
 returns c =
     let told : c.node_count-count.result ≡ node_count c.args.spaces.now.graph = subst (λ graph. c.node_count-count.result ≡ node_count graph) c.graph.ensures c.node_count-count.ensures.count in
     let count : c.loop-v.v ≡ node_count c.args.spaces.now.graph = omega (arith, told) in
-    let all : AreKeptBelow c.args.spaces.now.graph c.args.spaces.now.failed c.args.source.0 c.row-row.result.now c.loop-v.cells.items c.loop-v.lost.items (node_count c.args.spaces.now.graph) = subst (λ k. AreKeptBelow c.args.spaces.now.graph c.args.spaces.now.failed c.args.source.0 c.row-row.result.now c.loop-v.cells.items c.loop-v.lost.items k) count c.loop-v.invariant.known in
+    let all : AreKeptBelow c.args.spaces.now.graph c.args.spaces.now.failed c.args.source.0 c.row-row.result.now (record { cells = c.loop-v.cells.items; lost = c.loop-v.lost.items }) (node_count c.args.spaces.now.graph) = subst (λ k. AreKeptBelow c.args.spaces.now.graph c.args.spaces.now.failed c.args.source.0 c.row-row.result.now (record { cells = c.loop-v.cells.items; lost = c.loop-v.lost.items }) k) count c.loop-v.invariant.known in
     record {
       begun = kept-begun c.args.spaces.now.graph c.args.spaces.now.failed c.args.source.0 c.row-row.result.now c.loop-v.cells.items c.loop-v.lost.items c.requires.trees.graph c.requires.source c.row-row.ensures all;
       hops = subst (λ k. AreKeptHops c.args.spaces.now.graph c.args.spaces.now.failed c.args.source.0 c.loop-v.hops.items k) count c.loop-v.invariant.hops;

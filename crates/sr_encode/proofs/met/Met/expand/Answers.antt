@@ -2,13 +2,13 @@ use Rattle.std.proofs.Common.{◌≡◌, ◌<◌, length, true, arith, ap, sym, 
 use Rattle.sr_model.specs.Graph.{node_count, is_overloaded}
 use Rattle.std.proofs.lemmas.List.{get_or_default}
 use Rattle.sr_encode.specs.declared.waypoint.Waypoint.{Waypoint}
-use Rattle.sr_encode.specs.Waypoints.{no_waypoint, node_at}
+use Rattle.sr_encode.specs.Waypoints.{no_waypoint, waypoint_node}
 use Rattle.sr_encode.proofs.QueueLemmas.{extends-trans, searching-pass, searching-all_met}
 use Rattle.sr_encode.proofs.met.Met.expand.Goals as goal
 
 pub returns-then-is_overloaded-clause-search : goal.returns-then-is_overloaded-clause-search
 returns-then-is_overloaded-clause-search c =
-    let same : c.index.result.now.node.0 ≡ node_at c.args.self.now.queue.items c.args.i =
+    let same : c.index.result.now.node.0 ≡ waypoint_node c.args.self.now.queue.items c.args.i =
     ap (λ (t : Waypoint). t.node.0) (c.index.ensures ∙ get_or_default c.args.self.now.queue.items c.args.i c.index.result.now no_waypoint c.requires.i) in
     let over : is_overloaded c.args.scene.now.net.graph c.index.result.now.node.0 ≡ true =
     ap (λ g. is_overloaded g c.index.result.now.node.0) (sym c.graph.ensures.value) ∙ sym c.is_overloaded.ensures ∙ c.if-is_overloaded.true in
@@ -16,7 +16,7 @@ returns-then-is_overloaded-clause-search c =
 
 pub look_at_nodes-requires-clause-looks : goal.look_at_nodes-requires-clause-looks
 look_at_nodes-requires-clause-looks c =
-    let same : node_at c.args.self.now.queue.items c.args.i ≡ c.index.result.now.node.0 =
+    let same : waypoint_node c.args.self.now.queue.items c.args.i ≡ c.index.result.now.node.0 =
     ap (λ (t : Waypoint). t.node.0) (sym (c.index.ensures ∙ get_or_default c.args.self.now.queue.items c.args.i c.index.result.now no_waypoint c.requires.i)) in
     record {
       search = c.requires.search;

@@ -4,7 +4,7 @@ use Rattle.sr_model.specs.Graph.{node_count, is_overloaded}
 use Rattle.sr_lanes.specs.Bits.{is_in}
 use Rattle.sr_encode.specs.Waypoints.{met_from}
 use Rattle.sr_encode.specs.Search.{StepsTo}
-use Rattle.sr_encode.proofs.BitLemmas.{size-less}
+use Rattle.sr_lanes.proofs.SizeLemmas.{size-less}
 use Rattle.sr_encode.proofs.QueueLemmas.{extends-same, extends-push, extends-trans, searching-node}
 use Rattle.sr_encode.proofs.LookLemmas.{unmet-inside, has-room, looks-longer, ahead-start, ahead-next, ahead-end}
 use Rattle.sr_encode.proofs.met.Met.look_at_nodes.Goals as goal

@@ -2,7 +2,7 @@ use Rattle.std.proofs.Common.{◌≡◌, ◌+◌, false, arith, sym, ◌∙◌, 
 use Rattle.sr_model.specs.declared.repair.Segment.TheVariants.{Adj}
 use Rattle.sr_lanes.specs.Bits.{is_in}
 use Rattle.sr_model.specs.Graph.{node_count}
-use Rattle.sr_encode.specs.Waypoints.{node_at, met_from, Extends}
+use Rattle.sr_encode.specs.Waypoints.{waypoint_node, met_from, Extends}
 use Rattle.sr_encode.specs.Search.{StepsTo}
 use Rattle.sr_encode.proofs.QueueLemmas.{step-link, extends-same, extends-push}
 use Rattle.sr_encode.proofs.LookLemmas.{link-within, has-room, looks-longer, link-passed, link-met}
@@ -20,7 +20,7 @@ has-requires c = omega (arith, link-within c.args.scene.now c.args.link c.in-Som
 pub returns-then-not-has-clause-looks : goal.returns-then-not-has-clause-looks
 returns-then-not-has-clause-looks c =
     let met : is_in c.args.self.now.unmet c.in-Some.to.0 ≡ false = sym c.has.ensures ∙ c.if-not-has.true in
-    let w = node_at c.args.self.now.queue.items c.args.i in
+    let w = waypoint_node c.args.self.now.queue.items c.args.i in
     looks-longer c.args.scene.now c.args.self.now c.args.self.now c.args.i (node_count c.args.scene.now.net.graph + c.args.link.0) (node_count c.args.scene.now.net.graph + (c.args.link.0 + 1)) c.requires.looks (extends-same c.args.self.now.queue.items)
     (link-passed c.args.scene.now c.args.self.now.queue.items c.args.self.now.unmet c.args.i c.args.link c.step_over.ensures.after c.requires.looks.search c.requires.looks.place
     (λ v other. subst (λ k. is_in c.args.self.now.unmet k ≡ false) (step-link c.args.scene.now w c.args.link c.in-Some.to.0 (subst (λ w. StepsTo c.args.scene.now w (Adj c.args.link) c.in-Some.to.0) c.requires.begins c.in-Some.ensures.step) ∙ sym (step-link c.args.scene.now w c.args.link v other)) met))

@@ -2,7 +2,7 @@ use Rattle.std.proofs.Common.{◌≡◌, ◌+◌, ◌<◌, length, arith, ap, sy
 use Rattle.sr_model.specs.Graph.{node_count}
 use Rattle.sr_graph.specs.Ranges.{HoldsLinks}
 use Rattle.sr_encode.specs.declared.waypoint.Waypoint.{Waypoint}
-use Rattle.sr_encode.specs.Waypoints.{node_at}
+use Rattle.sr_encode.specs.Waypoints.{waypoint_node}
 use Rattle.sr_encode.proofs.QueueLemmas.{extends-same, searching-upto, searching-past}
 use Rattle.sr_encode.proofs.LookLemmas.{looks-longer}
 use Rattle.sr_encode.proofs.met.Met.look_over_links.Goals as goal
@@ -26,7 +26,7 @@ look_over-requires-clause-begins c =
 pub returns-clause-search : goal.returns-clause-search
 returns-clause-search c =
     let holds : HoldsLinks c.args.scene.now.net.graph c.args.w.0 c.links_from-first.result.first c.links_from-first.result.end = rw c.graph.ensures.value at c.links_from-first.ensures.links in
-    let at : node_at c.loop-link.self.queue.items c.args.i ≡ c.args.w.0 = ap (λ (t : Waypoint). t.node.0) (c.loop-link.invariant.1.same c.args.i c.requires.looks.place) ∙ c.requires.w in
+    let at : waypoint_node c.loop-link.self.queue.items c.args.i ≡ c.args.w.0 = ap (λ (t : Waypoint). t.node.0) (c.loop-link.invariant.1.same c.args.i c.requires.looks.place) ∙ c.requires.w in
     let inside : c.args.i < length c.loop-link.self.queue.items = omega (arith, c.loop-link.invariant.1.longer, c.requires.looks.place) in
     searching-past c.args.scene.now c.loop-link.self.queue.items c.loop-link.self.unmet c.args.i c.loop-link.link c.links_from-first.result.end c.loop-link.invariant.0.search
     inside (omega (arith, holds.inside, c.loop-link.invariant.2)) (λ k within begins. (holds.to k within (begins ∙ at)).1) (omega (arith, c.loop-link-test.false))

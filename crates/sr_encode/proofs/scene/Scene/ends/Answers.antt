@@ -1,13 +1,14 @@
 use Rattle.sr_encode.specs.Serve.{EndsAt}
-use Rattle.sr_encode.proofs.BitLemmas.{size-less, sifted-start}
+use Rattle.sr_lanes.proofs.SizeLemmas.{size-less}
+use Rattle.sr_encode.proofs.BitLemmas.{sifted-start}
 use Rattle.sr_encode.proofs.SceneLemmas.{picked, ends-sum}
 use Rattle.sr_encode.proofs.scene.Scene.ends.Goals as goal
 
 pub left-init : goal.left-init
 left-init c = (
-  picked c.args.self.now c.args.w.0 (λ d. EndsAt c.args.self.now c.args.w.0 d) c.args.among c.fits.result c.and-left.result c.fits.ensures.sums c.and-left.ensures
-      (λ v yes holds. ends-sum c.args.self.now c.args.w.0 v c.fits.result c.fits.ensures.sums (c.requires.among v yes) holds),
-  sifted-start (λ d. EndsAt c.args.self.now c.args.w.0 d) c.and-left.result c.none-found.result c.none-found.ensures,
+  picked c.args.self.now c.args.w.0 (λ d. EndsAt c.args.self.now c.args.w.0 d) c.args.among c.fits-left.result c.requires.among c.fits-left.ensures.sums
+      (λ v one holds. ends-sum c.args.self.now c.args.w.0 v c.args.among c.fits-left.result c.fits-left.ensures.sums one holds),
+  sifted-start (λ d. EndsAt c.args.self.now c.args.w.0 d) c.fits-left.result c.none-found.result c.none-found.ensures,
 )
 
 pub left-smaller-then-ends_at : goal.left-smaller-then-ends_at

@@ -1,5 +1,6 @@
 use Rattle.sr_encode.specs.Serve.{EndsAt}
-use Rattle.sr_encode.proofs.BitLemmas.{AreSifted, size}
+use Rattle.sr_lanes.specs.Bits.{member_count}
+use Rattle.sr_encode.proofs.BitLemmas.{AreSifted}
 use Rattle.sr_encode.proofs.SceneLemmas.{ArePicked}
 use Rattle.sr_encode.proofs.scene.Scene.ends.Given as goal
 
@@ -9,4 +10,4 @@ invariant-left l =
     × AreSifted (λ d. EndsAt l.self l.w.0 d) l.initial.left l.left l.found
 
 abbrev pub decreases-left : goal.decreases-left
-decreases-left l = size l.left
+decreases-left l = member_count l.left

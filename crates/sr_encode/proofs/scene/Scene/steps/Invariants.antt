@@ -1,6 +1,7 @@
 use Rattle.sr_model.specs.declared.repair.Segment.TheVariants.{Node}
 use Rattle.sr_encode.specs.Search.{StepsTo}
-use Rattle.sr_encode.proofs.BitLemmas.{AreSifted, size}
+use Rattle.sr_lanes.specs.Bits.{member_count}
+use Rattle.sr_encode.proofs.BitLemmas.{AreSifted}
 use Rattle.sr_encode.proofs.SceneLemmas.{ArePicked}
 use Rattle.sr_encode.proofs.scene.Scene.steps.Given as goal
 
@@ -10,4 +11,4 @@ invariant-left l =
     × AreSifted (λ v. StepsTo l.self l.w.0 (Node (record { 0 = v })) v) l.initial.left l.left l.found
 
 abbrev pub decreases-left : goal.decreases-left
-decreases-left l = size l.left
+decreases-left l = member_count l.left

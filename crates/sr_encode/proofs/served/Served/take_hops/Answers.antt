@@ -1,7 +1,7 @@
 use Rattle.std.proofs.Common.{◌<◌, sym, subst}
 use Rattle.sr_model.specs.Graph.{node_count}
 use Rattle.sr_post.specs.Kept.{KeepsHop, IsKeptHop}
-use Rattle.sr_encode.proofs.BitLemmas.{size-less, without-inside}
+use Rattle.sr_lanes.proofs.SizeLemmas.{size-less, without-inside}
 use Rattle.sr_encode.proofs.ServeLemmas.{later-trans}
 use Rattle.sr_encode.proofs.served.Served.take_hops.Goals as goal
 

@@ -3,12 +3,12 @@ use Rattle.std.specs.Prelude.{IsTrue, ◌↔◌}
 use Rattle.std.proofs.lemmas.List.{get_or_default}
 use Rattle.sr_model.specs.Graph.{node_count, has}
 use Rattle.sr_model.specs.Case.{IsOnRepairWay}
-use Rattle.sr_post.specs.Marks.{AreMarks}
+use Rattle.sr_post.specs.Marks.{AreWayMarks}
 use Rattle.sr_post.proofs.on_walks.Walks.has.Goals as goal
 
 pub returns-clause-way : goal.returns-clause-way
 returns-clause-way c = λ n case p x f.
-    let marks : AreMarks n case x c.args.self.now = p.marks x f in
+    let marks : AreWayMarks n case x c.args.self.now = p.marks x f in
     let within : c.args.v.0 < node_count n.graph = omega (arith, marks.long, c.requires) in
     let told : IsTrue (has c.args.self.now c.args.v.0) ↔ IsOnRepairWay n case x c.args.v.0 = marks.each c.args.v.0 within in
     let long : length c.self.inside.marks.items ≡ length c.args.self.now = ap length c.self.view_is in

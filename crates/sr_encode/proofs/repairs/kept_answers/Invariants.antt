@@ -2,7 +2,7 @@ use Rattle.std.proofs.Common.{◌≡◌}
 use Rattle.sr_encode.specs.Answered.{AreAnswered}
 use Rattle.sr_encode.specs.Collected.{IsCollected}
 use Rattle.sr_encode.specs.Kept.{AreKeptWithin, entries}
-use Rattle.sr_encode.proofs.repairs.answers_of.Given as goal
+use Rattle.sr_encode.proofs.repairs.kept_answers.Given as goal
 
 -- the answers so far, and what was collected for them
 abbrev pub invariant-loop-j : goal.invariant-loop-j

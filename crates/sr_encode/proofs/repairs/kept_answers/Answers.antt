@@ -10,10 +10,10 @@ use Rattle.sr_encode.specs.declared.kept.Kept.{Kept}
 use Rattle.sr_encode.specs.declared.kept.Outcome.{Outcome}
 use Rattle.sr_encode.specs.Answered.{AreAnswered}
 use Rattle.sr_encode.specs.Kept.{answer_from, entry_from, entries, outcome_at}
-use Rattle.sr_encode.specs.Serve.{place_at, IsFound}
+use Rattle.sr_encode.specs.Serve.{place_at, IsResolved}
 use Rattle.sr_encode.proofs.AnswerLemmas.{answered-none, kept-push}
 use Rattle.sr_encode.proofs.CollectLemmas.{answer-found}
-use Rattle.sr_encode.proofs.repairs.answers_of.Goals as goal
+use Rattle.sr_encode.proofs.repairs.kept_answers.Goals as goal
 
 pub loop-j-init : goal.loop-j-init
 loop-j-init c = record {
@@ -29,9 +29,16 @@ loop-j-init c = record {
   };
 }
 
+pub index-requires : goal.index-requires
+index-requires c =
+    let within : listed_at c.args.wanted.now c.loop-j.j < node_count c.args.net.now.graph = c.requires.wanted.0 c.loop-j.j c.loop-j-test.true in
+    omega (arith, within, c.requires.found.long)
+
 -- the place of the waypoint that serves the destination
-placed : (c : goal.After-outcome_for-arg-1) → place_at c.args.found.now.places.items c.loop-j.j ≡ c.index.result.now
-placed c = get_or_default c.args.found.now.places.items c.loop-j.j None c.index.result.now (omega (arith, c.loop-j-test.true, c.requires.found.long)) ∙ sym c.index.ensures
+placed : (c : goal.After-outcome_for-arg-1) → place_at c.args.found.now.places.items (listed_at c.args.wanted.now c.loop-j.j) ≡ c.index.result.now
+placed c =
+    let within : listed_at c.args.wanted.now c.loop-j.j < node_count c.args.net.now.graph = c.requires.wanted.0 c.loop-j.j c.loop-j-test.true in
+    get_or_default c.args.found.now.places.items (listed_at c.args.wanted.now c.loop-j.j) None c.index.result.now (omega (arith, within, c.requires.found.long)) ∙ sym c.index.ensures
 
 pub outcome_for-requires : goal.outcome_for-requires
 outcome_for-requires c = record {
@@ -52,9 +59,9 @@ loop-j-preserved c =
     let d : ℕ = listed_at c.args.wanted.now c.loop-j.j in
     let within : d < node_count c.args.net.now.graph = c.requires.wanted.0 c.loop-j.j c.loop-j-test.true in
     let gains = c.in_ok-outcome.ensures.gains in
-    let place : place_at c.args.found.now.places.items c.loop-j.j ≡ c.index.result.now = get_or_default c.args.found.now.places.items c.loop-j.j None c.index.result.now (omega (arith, c.loop-j-test.true, c.requires.found.long)) ∙ sym c.index.ensures in
-    let found : IsFound c.args.net.now c.args.failed.now c.args.source.0 c.args.cells.now c.args.found.now.queue.items d c.index.result.now =
-    subst (λ p. IsFound c.args.net.now c.args.failed.now c.args.source.0 c.args.cells.now c.args.found.now.queue.items d p) place (c.requires.found.each c.loop-j.j c.loop-j-test.true) in
+    let place : place_at c.args.found.now.places.items d ≡ c.index.result.now = get_or_default c.args.found.now.places.items d None c.index.result.now (omega (arith, within, c.requires.found.long)) ∙ sym c.index.ensures in
+    let found : IsResolved (record { net = c.args.net.now; failed = c.args.failed.now; source = c.args.source.0; post = c.args.cells.now }) c.args.found.now.queue.items d c.index.result.now =
+    subst (λ p. IsResolved (record { net = c.args.net.now; failed = c.args.failed.now; source = c.args.source.0; post = c.args.cells.now }) c.args.found.now.queue.items d p) place (c.requires.found.each c.loop-j.j c.loop-j-test.true) in
     let answer : IsAnswer c.args.net.now c.args.failed.now c.args.source.0 d (answer_from c.outcome_for.new.self.segments.items (outcome_at c.outcome_for.new.self.outcomes.items c.in_ok-outcome.outcome) c.whole_cost.result) =
     answer-found c.args.net.now c.args.source c.args.found.now.queue.items c.outcome_for.new.self c.args.failed.now d c.args.cells.now c.index.result.now c.in_ok-outcome.outcome c.whole_cost.result
     (gains.same.net ∙ c.loop-j.invariant.net)
