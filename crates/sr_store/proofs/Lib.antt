@@ -1,0 +1,9 @@
+pub mod Fronts
+pub mod Entries
+pub mod Numbers
+pub mod Growing
+pub mod Adding
+pub mod Keeping
+pub mod Ends
+pub mod Seating
+pub mod Growth

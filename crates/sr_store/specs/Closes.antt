@@ -1,0 +1,22 @@
+-- What the end of a store shows.
+use Rattle.std.specs.Prelude.{◌≡◌, ℕ, List, [], ◌∷◌, ◌++◌, ◌+◌, Bool, true}
+use Rattle.sr_store.specs.declared.reader.Reader.{Reader}
+use Rattle.sr_store.specs.Histories.{History, Begins}
+
+-- the sum of these readers' turns
+abbrev pub turns_of : {V : Type 0} → List (Reader V) → ℕ
+turns_of [] = 0
+turns_of (r ∷ readers) = r.turns + turns_of readers
+
+-- one entry for each reader; where it is true, the reader's list is a prefix of this history
+abbrev pub Ended : {V : Type 0} → History V → List (Reader V) → List Bool → Type 0
+Ended list [] [] = Unit {0}
+Ended list [] (e ∷ entries) = ⊥
+Ended list (r ∷ readers) [] = ⊥
+Ended list (r ∷ readers) (e ∷ entries) = (e ≡ true → Begins r.list list) × Ended list readers entries
+
+-- the last turns were taken of all readers before these
+pub record EndedSoFar {V : Type 0} (list : History V) (all rest : List (Reader V)) (entries : List Bool) : Type 0 where
+  pub past : List (Reader V)
+  pub whole : all ≡ past ++ rest
+  pub ends : Ended list past entries

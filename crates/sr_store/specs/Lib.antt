@@ -1,0 +1,10 @@
+pub mod Rules
+pub mod Places
+pub mod Lists
+pub mod Entries
+pub mod Histories
+pub mod Fronts
+pub mod Events
+pub mod Counts
+pub mod Closes
+pub mod Seats
