@@ -1,0 +1,179 @@
+//! Watches of a small store, of one version, and at a gate that makes two watchers meet.
+ghost use Rattle.std.specs.Prelude.{◌≡◌, ◌<◌, ◌+◌, ◌^◌, false, [], ◌∷◌};
+
+use super::*;
+use sr_base::{Numbered, Runtime};
+use sr_store::{Usage, Writer, abandon, open};
+use std::alloc::{AllocError, Global};
+use std::sync::atomic::AtomicU64;
+use std::sync::atomic::Ordering::SeqCst;
+use std::sync::{Arc, Wait};
+use std::test::Fail;
+use std::thread::yield_now;
+
+#[derive(Drop)]
+struct Stamp {
+    number: u32,
+}
+
+impl Numbered for Stamp {
+    ghost number_of = { λ stamp. stamp.number };
+
+    fn number(&self) -> u32 {
+        self.number
+    }
+}
+
+#[derive(Clone, Copy, Drop)]
+struct Doubling;
+
+impl Inspect<Stamp> for Doubling {
+    type Out = u64;
+
+    ghost use Rattle.std.specs.Prelude.{◌≡◌, ◌*◌};
+
+    ghost means = { λ inspect stamp out. out ≡ 2 * stamp.number };
+
+    fn inspect<R: Runtime>(
+        &self,
+        _rt: &R,
+        _alloc: Global,
+        version: &Stamp,
+    ) -> Result<u64, AllocError> {
+        Ok(2 * u64::from(version.number))
+    }
+}
+
+const MOST_TURNS: u64 = 10_000_000;
+
+// Holds watcher 1 in its first round until watcher 2 has passed, and keeps whether it saw that.
+#[derive(Drop)]
+struct Meeting {
+    passed: AtomicU64,
+    met: AtomicU64,
+}
+
+impl Gate for Meeting {
+    fn pass(&self, watcher: u32, round: u32) {
+        if watcher == 2 {
+            self.passed.store(1, SeqCst);
+        } else if round == 1 {
+            for _ in 0..MOST_TURNS {
+                if self.passed.load(SeqCst) == 1 {
+                    self.met.store(1, SeqCst);
+                    break;
+                }
+                yield_now();
+            }
+        }
+    }
+}
+
+#[test]
+fn two_watchers_without_readers(rt: HostRuntime) -> Result<(), Fail> {
+    let alloc = rt.alloc();
+    let gate = Arc::new(alloc, OpenGate)?;
+    let current = Arc::new(alloc, Stamp { number: 7 })?;
+    let rota = Rota {
+        watchers: 2,
+        rounds: 1,
+    };
+    let started = start(&rt, alloc, Doubling, &gate, Vec::new(alloc), rota, current);
+    let Ok(watch) = started else {
+        return Err(AllocError.into());
+    };
+    let rounds = watch.join(&rt).result?;
+    assert_eq!(rt; rounds.len(), 2);
+    for (at, round) in rounds.iter().enumerate() {
+        assert_eq!(rt; (round.watcher as usize, round.round), (at + 1, 1));
+        assert_eq!(rt; (round.number, round.out), (7, 14));
+    }
+    Ok(())
+}
+
+#[test]
+fn a_hold(rt: HostRuntime) -> Result<(), Fail> {
+    let alloc = rt.alloc();
+    let version = Arc::new(alloc, Stamp { number: 7 })?;
+    let joined = hold(&rt, alloc, Doubling, version)?.join(&rt);
+    let rounds = joined.result?;
+    assert_eq!(rt; (joined.readers.len(), rounds.len()), (0, 1));
+    for round in &rounds {
+        assert_eq!(rt; (round.watcher, round.round), (0, 0));
+        assert_eq!(rt; (round.number, round.out), (7, 14));
+    }
+    Ok(())
+}
+
+#[test]
+fn watchers_run_beside_each_other(rt: HostRuntime) -> Result<(), Fail> {
+    let alloc = rt.alloc();
+    let meeting = Meeting {
+        passed: AtomicU64::new(0),
+        met: AtomicU64::new(0),
+    };
+    let gate = Arc::new(alloc, meeting)?;
+    let current = Arc::new(alloc, Stamp { number: 7 })?;
+    let rota = Rota {
+        watchers: 2,
+        rounds: 2,
+    };
+    let started = start(&rt, alloc, Doubling, &gate, Vec::new(alloc), rota, current);
+    let Ok(watch) = started else {
+        return Err(AllocError.into());
+    };
+    let rounds = watch.join(&rt).result?;
+    assert_eq!(rt; rounds.len(), 4);
+    assert_eq!(rt; gate.met.load(SeqCst), 1);
+    Ok(())
+}
+
+// Publishes the version whose number is one above that of the first.
+fn publish_second<R: Wait>(
+    rt: &R,
+    alloc: Global,
+    writer: &mut Writer<Stamp>,
+    first: u32,
+    usage: &mut Usage,
+) -> Result<(), AllocError>
+    requires open { writer.old.stuck ≡ false }
+    requires few { first + 1 < 2 ^ 32 }
+    requires list { writer.old.list.versions ≡ record { number = first } ∷ [] }
+{
+    let second = Arc::new(alloc, Stamp { number: first + 1 })?;
+    writer.publish(rt, second, usage)
+}
+
+#[test]
+fn two_readers_beside_a_writer(rt: HostRuntime) -> Result<(), Fail> {
+    let alloc = rt.alloc();
+    let mut usage = Usage::new();
+    let gate = Arc::new(alloc, OpenGate)?;
+    let first = Arc::new(alloc, Stamp { number: 5 })?;
+    let current = Arc::try_clone(&first)?;
+    let (mut writer, readers) = open(&rt, alloc, first, 2, &mut usage)?;
+    let rota = Rota {
+        watchers: 2,
+        rounds: 50,
+    };
+    let started = start(&rt, alloc, Doubling, &gate, readers, rota, current);
+    let published = publish_second(&rt, alloc, &mut writer, 5, &mut usage);
+    let joined = match started {
+        Ok(watch) => watch.join(&rt),
+        Err((refused, readers)) => Joined {
+            readers,
+            result: Err(refused),
+        },
+    };
+    let turns = joined.readers.iter().all(|reader| reader.turns() == 50);
+    abandon(&rt, writer, joined.readers);
+    published?;
+    let mut before = (0, 0);
+    for round in &joined.result? {
+        assert!(rt; round.number == 5 || round.number == 6);
+        assert!(rt; before <= (round.watcher, round.number));
+        before = (round.watcher, round.number);
+    }
+    assert!(rt; turns);
+    Ok(())
+}
