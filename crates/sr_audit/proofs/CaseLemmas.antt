@@ -19,13 +19,13 @@ use Rattle.sr_model.specs.Repair.{IsCaseAnswer, path_of}
 use Rattle.sr_model.specs.Rule.{IsNet}
 use Rattle.sr_laws.proofs.StacksThere.{stack-there}
 use Rattle.sr_encode.specs.declared.answers.NodeAnswer.{NodeAnswer}
-use Rattle.sr_encode.specs.Answered.{entry_at, destination_at, answer_at, AreAnswers}
+use Rattle.sr_encode.specs.Answered.{node_answer_at, destination_at, answer_at, AreAnswers}
 use Rattle.sr_encode.proofs.AnswerLemmas.{affected-within}
 use Rattle.sr_repair.specs.Items.{IsItemFor}
 use Rattle.sr_audit.specs.Cases.{IsCaseAudit}
 
 -- each item stands for the answer at its place
-item-for : (n : Net) (case : Case) (answers : List NodeAnswer) (items : List Item) → AllZip (IsItemFor n case) answers items → (k : ℕ) (item : Item) → slice_get items k ≡ Some item → (k < length answers) × IsItemFor n case (entry_at answers k) item
+item-for : (n : Net) (case : Case) (answers : List NodeAnswer) (items : List Item) → AllZip (IsItemFor n case) answers items → (k : ℕ) (item : Item) → slice_get items k ≡ Some item → (k < length answers) × IsItemFor n case (node_answer_at answers k) item
 item-for n case [] [] zip k item e = absurd {0} (cc)
 item-for n case [] (x ∷ items) zip k item e = absurd zip
 item-for n case (a ∷ answers) [] zip k item e = absurd zip
@@ -54,7 +54,7 @@ pub items-audit : (n : Net) (case : Case) (answers : List NodeAnswer) (items : L
 items-audit n case answers items within are zip = record {
   each = λ k item e.
       let at = item-for n case answers items zip k item e in
-      (item-is n case (entry_at answers k) item within (are.affected k at.0) (are.answers k at.0) at.1, at.1.case);
+      (item-is n case (node_answer_at answers k) item within (are.affected k at.0) (are.answers k at.0) at.1, at.1.case);
   ascending = λ j k a b lt ea eb.
       let one = item-for n case answers items zip j a ea in
       let two = item-for n case answers items zip k b eb in

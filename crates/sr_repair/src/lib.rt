@@ -3,6 +3,7 @@
 
 mod answers;
 mod cases;
+mod computed;
 mod laws;
 mod made;
 mod passes;

@@ -11,9 +11,9 @@ ghost use Rattle.sr_repair.specs.Answers.{IsAnswered};
 ghost use Rattle.sr_repair.specs.Version.{version_of};
 ghost use Rattle.sr_repair.specs.Stack.{HasNoList, IsStackOf};
 
-use crate::answers::{Found, answers_of};
-use crate::made::{Made, made_of};
+use crate::computed::Computed;
 use crate::stack::list_labels;
+use sr_base::Numbered;
 use sr_encode::CaseAnswers;
 use sr_fib::Fib;
 use sr_labels::Net;
@@ -21,33 +21,33 @@ use sr_model::{Answer, Case, NodeNo};
 use sr_spf::{Steps, Trees};
 use std::alloc::{AllocError, Global};
 use std::marker::Model;
+use std::sync::Arc;
 use std::sync::ledger::Ledger;
 use std::thread::Threads;
 
 /// The net of an accepted commit, with its number, its trees, its label tables and the answers of all cases. Contracts
-/// see it as number and net: the rest is determined by these.
+/// see it as number and net: the rest is determined by these. Versions of the same net share all but their numbers.
 #[derive(Drop)]
 pub struct Version {
     number: u32,
-    net: Net,
-    trees: Trees,
-    fib: Fib,
-    found: Vec<Found>,
+    computed: Arc<Computed>,
 }
 
 impl Model for Version {
-    ghost use Rattle.sr_spf.specs.Trees.{AreTrees};
-    ghost use Rattle.sr_fib.specs.Tables.{IsFib};
-    ghost use Rattle.sr_repair.specs.Answers.{AreAllFound, case_count};
-    ghost use Rattle.sr_repair.specs.Version.{Numbered, version_of};
+    ghost use Rattle.std.specs.Arc.{arc_value};
+    ghost use Rattle.sr_repair.specs.Version.{NumberedNet, version_of};
 
-    ghost Value = { Numbered };
+    ghost Value = { NumberedNet };
 
-    ghost view = { λ v. version_of v.number v.net };
+    ghost view = { λ v. version_of v.number (arc_value v.computed) };
+}
 
-    ghost invariant = { λ v. AreTrees v.net.graph v.trees
-        × IsFib v.net v.fib
-        × AreAllFound v.net (case_count v.net.graph) v.found.items };
+impl Numbered for Version {
+    ghost number_of = { λ v. v.number };
+
+    fn number(&self) -> u32 {
+        self.number
+    }
 }
 
 impl Version {
@@ -83,18 +83,17 @@ impl Version {
         Version::numbered(rt, alloc, self.number + 1, net, steps)
     }
 
-    /// The version after this one, of the same net: nothing is computed.
-    pub fn renumbered(self) -> Version
-        requires { self.number < 65535 }
-        ensures { result ≡ version_of (self.number + 1) self.net }
+    /// The version after this one, of the same net: nothing is computed, and all but the number is shared. Fails only out
+    /// of memory.
+    pub fn renumbered(&self) -> Result<Version, AllocError>
+        requires { self.now.number < 65535 }
+        ensures { IfOk result (λ v. v ≡ version_of (self.now.number + 1) self.now.net) }
     {
-        Version {
+        let computed = Arc::try_clone(&self.computed)?;
+        Ok(Version {
             number: self.number + 1,
-            net: self.net,
-            trees: self.trees,
-            fib: self.fib,
-            found: self.found,
-        }
+            computed,
+        })
     }
 
     /// The version of this number and net.
@@ -109,14 +108,10 @@ impl Version {
         ensures most { steps.new ≤ steps.old + node_count net.graph + 3 * link_count net.graph }
         ensures least { steps.old ≤ steps.new }
     {
-        let trees = Trees::build(rt, alloc, net.graph(), steps)?;
-        let Made { fib, found } = made_of(rt, alloc, &net, &trees, steps)?;
+        let computed = Computed::of(rt, alloc, net, steps)?;
         Ok(Version {
             number,
-            net,
-            trees,
-            fib,
-            found,
+            computed: Arc::new(alloc, computed)?,
         })
     }
 
@@ -132,22 +127,21 @@ impl Version {
         ensures value { result.now ≡ self.now.net }
         ensures net { IsNet self.now.net }
     {
-        let _graph = self.net.graph();
-        &self.net
+        self.computed.net()
     }
 
     /// The distances and next hops of the net.
     pub fn trees(&self) -> &Trees
         ensures { AreTrees self.now.net.graph result.now }
     {
-        &self.trees
+        self.computed.trees()
     }
 
     /// The label tables of the net.
     pub fn fib(&self) -> &Fib
         ensures { IsFib self.now.net result.now }
     {
-        &self.fib
+        self.computed.fib()
     }
 
     /// The answers of the case for the destinations that it affects, ascending.
@@ -155,14 +149,14 @@ impl Version {
         requires case { IsCase self.now.net.graph case }
         ensures { AreAnswers self.now.net case result.now }
     {
-        answers_of(&self.net, &self.found, case)
+        self.computed.answers(case)
     }
 
     /// A law with nothing to run: each case has its answers.
     pub fn is_answered(&self)
         ensures { IsAnswered self.now.net }
     {
-        let _found = &self.found;
+        self.computed.is_answered();
     }
 
     /// The answer of the case for the destination (this project's rule). None exactly where the destination isn't
@@ -191,8 +185,9 @@ impl Version {
             (HasNoList self.now.net case destination.0)
             (λ labels. IsStackOf self.now.net case destination.0 labels.items)) }
     {
+        let net = self.net();
         match self.repair(case, destination) {
-            Some(answer) => list_labels(alloc, &self.net, case, destination, &answer),
+            Some(answer) => list_labels(alloc, net, case, destination, &answer),
             None => Ok(None),
         }
     }

@@ -1,0 +1,108 @@
+//! What is computed of a net: all of a version but its number.
+ghost use Rattle.std.specs.Prelude.{◌≡◌, ◌+◌, ◌*◌, ◌≤◌, IfOk};
+ghost use Rattle.sr_model.specs.Case.{IsCase};
+ghost use Rattle.sr_model.specs.Graph.{node_count, link_count};
+ghost use Rattle.sr_model.specs.Rule.{IsNet};
+ghost use Rattle.sr_spf.specs.Trees.{AreTrees};
+ghost use Rattle.sr_fib.specs.Tables.{IsFib};
+ghost use Rattle.sr_encode.specs.Answered.{AreAnswers};
+ghost use Rattle.sr_repair.specs.Answers.{IsAnswered};
+
+use crate::answers::{Found, answers_of};
+use crate::made::{Made, made_of};
+use sr_encode::CaseAnswers;
+use sr_fib::Fib;
+use sr_labels::Net;
+use sr_model::Case;
+use sr_spf::{Steps, Trees};
+use std::alloc::{AllocError, Global};
+use std::marker::Model;
+use std::sync::ledger::Ledger;
+use std::thread::Threads;
+
+/// A net with its trees, its label tables and the answers of all cases. Contracts see it as the net: the rest is
+/// determined by that.
+#[derive(Drop)]
+pub(crate) struct Computed {
+    net: Net,
+    trees: Trees,
+    fib: Fib,
+    found: Vec<Found>,
+}
+
+impl Model for Computed {
+    ghost use Rattle.sr_model.specs.Label.{Net};
+    ghost use Rattle.sr_spf.specs.Trees.{AreTrees};
+    ghost use Rattle.sr_fib.specs.Tables.{IsFib};
+    ghost use Rattle.sr_repair.specs.Answers.{AreAllFound, case_count};
+
+    ghost Value = { Net };
+
+    ghost view = { λ c. c.net };
+
+    ghost invariant = { λ c. AreTrees c.net.graph c.trees
+        × IsFib c.net c.fib
+        × AreAllFound c.net (case_count c.net.graph) c.found.items };
+}
+
+impl Computed {
+    /// All that is computed of this net. At most one search is counted for each node, and one for each case. The cases
+    /// are split among threads where there are any.
+    pub(crate) fn of<L: Ledger>(
+        rt: &(impl Threads + Sync),
+        alloc: Global,
+        net: Net,
+        steps: &mut Steps<L>,
+    ) -> Result<Computed, AllocError>
+        ensures net { IfOk result (λ c. c ≡ net) }
+        ensures most { steps.new ≤ steps.old + node_count net.graph + 3 * link_count net.graph }
+        ensures least { steps.old ≤ steps.new }
+    {
+        let trees = Trees::build(rt, alloc, net.graph(), steps)?;
+        let Made { fib, found } = made_of(rt, alloc, &net, &trees, steps)?;
+        Ok(Computed {
+            net,
+            trees,
+            fib,
+            found,
+        })
+    }
+
+    /// The net.
+    pub(crate) fn net(&self) -> &Net
+        ensures value { result.now ≡ self.now }
+        ensures net { IsNet self.now }
+    {
+        let _graph = self.net.graph();
+        &self.net
+    }
+
+    /// The distances and next hops of the net.
+    pub(crate) fn trees(&self) -> &Trees
+        ensures { AreTrees self.now.graph result.now }
+    {
+        &self.trees
+    }
+
+    /// The label tables of the net.
+    pub(crate) fn fib(&self) -> &Fib
+        ensures { IsFib self.now result.now }
+    {
+        &self.fib
+    }
+
+    /// The answers of the case for the destinations that it affects, ascending.
+    pub(crate) fn answers(&self, case: Case) -> &CaseAnswers
+        requires case { IsCase self.now.graph case }
+        ensures { AreAnswers self.now case result.now }
+    {
+        answers_of(&self.net, &self.found, case)
+    }
+
+    /// A law with nothing to run: each case has its answers.
+    pub(crate) fn is_answered(&self)
+        ensures { IsAnswered self.now }
+    {
+        let _found = &self.found;
+    }
+}
