@@ -1,0 +1,5 @@
+pub mod Reports
+pub mod Watched
+pub mod Works
+pub mod Started
+pub mod Reported
