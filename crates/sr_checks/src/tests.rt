@@ -1,6 +1,7 @@
 //! Whole runs of the program, over the sources and sinks in memory.
 
 mod audits;
+mod background;
 mod calls;
 mod cases;
 mod devices;
@@ -22,9 +23,12 @@ use edits::EDITS;
 use field::FIELD;
 use pairs::PAIRS;
 use rings::RINGS;
-use sr_base::{Runtime, SteadySink, SteadySource};
+use sr_base::{Runtime, Sink, Source, SteadySink, SteadySource};
 use sr_run::tilfa;
+use sr_store::Usage;
+use sr_watch::OpenGate;
 use std::alloc::{AllocError, AllocGlobal, Global};
+use std::sync::Arc;
 
 /// The command words that are these, split at spaces.
 fn words(alloc: Global, text: &str) -> Result<Vec<String>, AllocError> {
@@ -35,13 +39,28 @@ fn words(alloc: Global, text: &str) -> Result<Vec<String>, AllocError> {
     Ok(words)
 }
 
+/// Runs the program at an open gate, and gives its status.
+fn run<R: AllocGlobal + Runtime + 'static, S: Source, K: Sink>(
+    rt: &R,
+    words: &[String],
+    source: &mut S,
+    sink: &mut K,
+) -> Result<u8, AllocError> {
+    let gate = match Arc::new(rt.alloc(), OpenGate) {
+        Ok(gate) => gate,
+        Err(_) => return Err(AllocError),
+    };
+    let mut usage = Usage::new();
+    Ok(tilfa(rt, words, source, sink, &gate, &mut usage))
+}
+
 /// Whether the script is answered as the case says, with its status.
-fn agrees<R: AllocGlobal + Runtime>(rt: &R, case: &Case) -> Result<bool, AllocError> {
+fn agrees<R: AllocGlobal + Runtime + 'static>(rt: &R, case: &Case) -> Result<bool, AllocError> {
     let alloc = rt.alloc();
-    let run = words(alloc, "run")?;
+    let words = words(alloc, "run")?;
     let mut source = SteadySource::new(Vec::from_slice(alloc, case.script.as_bytes())?);
     let mut sink = SteadySink::new(alloc);
-    let status = tilfa(rt, run.as_slice(), &mut source, &mut sink);
+    let status = run(rt, words.as_slice(), &mut source, &mut sink)?;
     Ok(sink.bytes() == case.answers.as_bytes() && status == case.status)
 }
 
@@ -102,7 +121,7 @@ fn other_words_are_no_command(rt: HostRuntime) -> Result<(), AllocError> {
         let words = words(alloc, text)?;
         let mut source = SteadySource::new(Vec::from_slice(alloc, b"commit\n")?);
         let mut sink = SteadySink::new(alloc);
-        let status = tilfa(&rt, words.as_slice(), &mut source, &mut sink);
+        let status = run(&rt, words.as_slice(), &mut source, &mut sink)?;
         assert_eq!(rt; status, 2, "{text}");
         assert_eq!(rt; sink.bytes().len(), 0, "{text}");
     }

@@ -6,4 +6,5 @@ pub mod Forwarding
 pub mod Spaces
 pub mod Repairs
 pub mod Answers
+pub mod Work
 pub mod Told

@@ -1,21 +1,23 @@
 -- What is told to a line, and how that is spelled.
-use Rattle.std.specs.Prelude.{ℕ, Bool, true, false, List, [], ◌++◌, Option}
+use Rattle.std.specs.Prelude.{ℕ, Bool, true, false, List, [], ◌++◌, Option, length}
 use Rattle.sr_model.specs.declared.link.LinkNo.{LinkNo}
 use Rattle.sr_model.specs.declared.entry.Entry.{Entry}
 use Rattle.sr_model.specs.declared.case.Case.{Case}
 use Rattle.sr_model.specs.declared.repair.Answer.{Answer}
 use Rattle.sr_model.specs.declared.audit.Item.{Item}
 use Rattle.sr_model.specs.declared.audit.Counts.{Counts}
+use Rattle.sr_model.specs.declared.audit.RoundReport.{RoundReport}
 use Rattle.sr_model.specs.Audit.{counts_of}
 use Rattle.sr_model.specs.Graph.{Graph, node_count, link_count}
 use Rattle.sr_model.specs.Label.{Net}
-use Rattle.sr_repair.specs.Version.{Numbered}
+use Rattle.sr_repair.specs.Version.{NumberedNet}
 use Rattle.sr_print.specs.declared.refusal.Refusal.{Refusal}
 use Rattle.sr_print.specs.Printed.{staged_line, dropped_line, version_line, dist_line, show_line}
 use Rattle.sr_print.specs.Forwarding.{next_line, label_line, walk_line}
 use Rattle.sr_print.specs.Spaces.{spaces_lines}
 use Rattle.sr_print.specs.Repairs.{repair_line, uncovered_walk_line, item_lines, summary_line}
 use Rattle.sr_print.specs.Refused.{refused_line}
+use Rattle.sr_print.specs.Work.{hold_line, watch_line, report_lines, joined_line}
 
 -- what is shown of a session: the number of its last version, how many nodes and links that has, the accepted depth,
 -- and how many edits are staged
@@ -29,12 +31,14 @@ pub record Shown : Type 0 where
 -- what is told to a line: nothing; how many edits are staged, or were dropped; the version of a commit; a distance;
 -- next hops; what a label does; the links of a packet's walk from a node, where there is one; P, extended P and Q;
 -- the answer of a case for a destination, with its labels; why there is no repair whose packet could be walked; how
--- many answers of each sort the audit of a version has; that audit; what is shown; or why the line is refused
+-- many answers of each sort the audit of a version has; that audit; the version of a hold; the watchers of a watch, the
+-- rounds of each, and the version that it began with; the reports of background work; what is shown; or why the line
+-- is refused
 pub data Told : Type 0 where
   Nothing : Told
   Staged : ℕ → Told
   Dropped : ℕ → Told
-  Version : Numbered → Told
+  Version : NumberedNet → Told
   Distance : Option ℕ → Told
   NextHops : Net → List LinkNo → Told
   Lookup : Net → Option Entry → Told
@@ -43,7 +47,10 @@ pub data Told : Type 0 where
   Repair : Net → Case → ℕ → Answer → List ℕ → Told
   Uncovered : Answer → Told
   Summary : ℕ → Counts → Told
-  Audit : Numbered → List Item → Told
+  Audit : NumberedNet → List Item → Told
+  Hold : ℕ → Told
+  Watch : ℕ → ℕ → ℕ → Told
+  Joined : List RoundReport → Told
   Show : Shown → Told
   Refused : Refusal → Told
 
@@ -62,10 +69,29 @@ spelled number (Repair net case d answer labels) = repair_line net case d answer
 spelled number (Uncovered answer) = uncovered_walk_line answer
 spelled number (Summary version counts) = summary_line version counts
 spelled number (Audit version items) = item_lines version.net items ++ summary_line version.number (counts_of items)
+spelled number (Hold version) = hold_line version
+spelled number (Watch watchers rounds version) = watch_line watchers rounds version
+spelled number (Joined reports) = report_lines reports ++ joined_line (length reports)
 spelled number (Show shown) = show_line shown.version shown.nodes shown.links shown.depth shown.staged
 spelled number (Refused reason) = refused_line number reason
 
 -- whether it is a refusal
 abbrev pub is_refusal : Told → Bool
+is_refusal Nothing = false
+is_refusal (Staged count) = false
+is_refusal (Dropped count) = false
+is_refusal (Version version) = false
+is_refusal (Distance cost) = false
+is_refusal (NextHops net links) = false
+is_refusal (Lookup net found) = false
+is_refusal (Walk net start links) = false
+is_refusal (Spaces graph p extended q) = false
+is_refusal (Repair net case d answer labels) = false
+is_refusal (Uncovered answer) = false
+is_refusal (Summary version counts) = false
+is_refusal (Audit version items) = false
+is_refusal (Hold version) = false
+is_refusal (Watch watchers rounds version) = false
+is_refusal (Joined reports) = false
+is_refusal (Show shown) = false
 is_refusal (Refused reason) = true
-is_refusal _ = false

@@ -9,7 +9,7 @@ use std::alloc::AllocError;
 
 /// Appends how many answers of each sort there are, each behind its name.
 /// After an error a part of them may stand there; what stood before stays.
-fn put_counts(counts: Counts, out: &mut Vec<u8>) -> Result<(), AllocError>
+pub(crate) fn put_counts(counts: Counts, out: &mut Vec<u8>) -> Result<(), AllocError>
     ensures line { OnOk result (out.new.items ≡ out.old.items ++ counts_text counts) }
     ensures err { OnErr result (BeginsWith out.old.items out.new.items) }
 {

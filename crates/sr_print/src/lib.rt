@@ -17,6 +17,7 @@ mod spaces;
 mod tests;
 mod walk;
 mod way;
+mod work;
 
 pub use answers::put_answers;
 pub use audit::put_summary;
@@ -28,3 +29,4 @@ pub use refused::put_refused;
 pub use repair::{put_repair, put_walk_uncovered};
 pub use spaces::put_spaces;
 pub use walk::put_walk;
+pub use work::{put_hold, put_joined, put_report, put_watch};

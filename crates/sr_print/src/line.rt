@@ -1,4 +1,4 @@
-//! The lines of the words that are built.
+//! Short lines: what is staged, versions, distances and `show`.
 ghost use Rattle.std.specs.Prelude.{◌≡◌, ◌++◌, OnOk, OnErr, codes};
 ghost use Rattle.sr_print.specs.Printed.{BeginsWith, staged_line, dropped_line, version_line, dist_line};
 ghost use Rattle.sr_print.specs.Printed.{show_line, net_text, settings_text, numbered, ended};

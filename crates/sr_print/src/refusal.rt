@@ -53,6 +53,4 @@ pub enum Refusal {
     LineTooLong,
     /// As many commits were accepted as may be.
     VersionsFull,
-    /// The word isn't built yet.
-    NotBuilt,
 }

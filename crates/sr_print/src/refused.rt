@@ -61,7 +61,6 @@ fn name_of(refusal: &Refusal) -> &'static [u8]
         Refusal::WatchRunning => b"26 WatchRunning",
         Refusal::LineTooLong => b"27 LineTooLong",
         Refusal::VersionsFull => b"28 VersionsFull",
-        Refusal::NotBuilt => b"29 NotBuilt",
     }
 }
 
@@ -116,8 +115,7 @@ fn put_details(refusal: &Refusal, out: &mut Vec<u8>) -> Result<(), AllocError>
         | Refusal::NoVersion
         | Refusal::WatchRunning
         | Refusal::LineTooLong
-        | Refusal::VersionsFull
-        | Refusal::NotBuilt => Ok(()),
+        | Refusal::VersionsFull => Ok(()),
     }
 }
 

@@ -2,10 +2,10 @@
 
 use crate::refusal::Refusal;
 use crate::{
-    put_dist, put_dropped, put_refused, put_show, put_staged, put_summary, put_version,
-    put_walk_uncovered,
+    put_dist, put_dropped, put_hold, put_joined, put_refused, put_report, put_show, put_staged,
+    put_summary, put_version, put_walk_uncovered, put_watch,
 };
-use sr_model::{Answer, DomainRule, SystemId};
+use sr_model::{Answer, Counts, DomainRule, RoundReport, SystemId, WatchRound};
 use std::alloc::AllocError;
 
 #[test]
@@ -105,6 +105,54 @@ fn uncovered_walks_are_printed(rt: HostRuntime) -> Result<(), AllocError> {
     ] {
         let mut out = Vec::new(rt.alloc());
         put_walk_uncovered(&answer, &mut out)?;
+        assert_eq!(rt; out.as_slice(), line.as_bytes());
+    }
+    Ok(())
+}
+
+/// Counts that differ from sort to sort.
+const COUNTS: Counts = Counts {
+    covered: 40,
+    nopath: 0,
+    nolist: 1,
+    toodeep: 2,
+};
+
+#[test]
+fn words_of_background_work_are_printed(rt: HostRuntime) -> Result<(), AllocError> {
+    let mut out = Vec::new(rt.alloc());
+    put_hold(65_535, &mut out)?;
+    put_watch(8, 16, 3, &mut out)?;
+    put_joined(128, &mut out)?;
+    put_joined(0, &mut out)?;
+    let text = "hold version 65535\nwatch 8 16 from version 3\njoined 128\njoined 0\n";
+    assert_eq!(rt; out.as_slice(), text.as_bytes());
+    Ok(())
+}
+
+#[test]
+fn reports_are_printed(rt: HostRuntime) -> Result<(), AllocError> {
+    let made = WatchRound {
+        watcher: 8,
+        round: 16,
+    };
+    for (round, line) in [
+        (
+            None,
+            "report hold version 3 covered 40 nopath 0 nolist 1 toodeep 2\n",
+        ),
+        (
+            Some(made),
+            "report watch 8 16 version 3 covered 40 nopath 0 nolist 1 toodeep 2\n",
+        ),
+    ] {
+        let mut out = Vec::new(rt.alloc());
+        let report = RoundReport {
+            round,
+            version: 3,
+            counts: COUNTS,
+        };
+        put_report(&report, &mut out)?;
         assert_eq!(rt; out.as_slice(), line.as_bytes());
     }
     Ok(())

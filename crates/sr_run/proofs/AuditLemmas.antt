@@ -12,7 +12,7 @@ use Rattle.sr_model.specs.Label.{Net}
 use Rattle.sr_model.specs.Rule.{IsNet}
 use Rattle.sr_laws.proofs.Audits.{audit-one}
 use Rattle.sr_repair.specs.Answers.{case_count, IsAnswered}
-use Rattle.sr_repair.specs.Version.{Numbered}
+use Rattle.sr_repair.specs.Version.{NumberedNet}
 use Rattle.sr_audit.specs.Cases.{AreBetween}
 use Rattle.sr_audit.proofs.JoinLemmas.{between-none, between-append, between-audit}
 use Rattle.sr_audit.proofs.RestLemmas.{rest-there}
@@ -70,7 +70,7 @@ cases-stopped n m before now error net answered less r =
     (subst (λ (l : List ℕ). Breaks before now l (Memory error)) (append-nil (item_lines n r.items)) (breaks-then before now now (item_lines n r.items) [] (Memory error) r.says (breaks-nothing now error)))
 
 -- behind the lines of all cases the counts: a net has one audit, so they are those of its items
-pub audit-written : (version : Numbered) (before now after : Written) (result : Result (Unit {0}) SinkFault) → WritesCases version.net before now (Ok tt) → WritesCounts version now after result → WritesAudit (Some version) before after result
+pub audit-written : (version : NumberedNet) (before now after : Written) (result : Result (Unit {0}) SinkFault) → WritesCases version.net before now (Ok tt) → WritesCounts version now after result → WritesAudit (Some version) before after result
 audit-written version before now after (Ok done) cases counts =
     let same = audit-one version.net counts.0 cases.0 counts.1 cases.1 in
     let says : Says now after (summary_line version.number (counts_of cases.0)) = subst (λ (items : List Item). Says now after (summary_line version.number (counts_of items))) same counts.2 in
@@ -80,12 +80,12 @@ audit-written version before now after (Err fault) cases counts =
     let breaks : Breaks now after (summary_line version.number (counts_of cases.0)) fault = subst (λ (items : List Item). Breaks now after (summary_line version.number (counts_of items)) fault) same counts.2 in
     (cases.0, cases.1, breaks-then before now after (item_lines version.net cases.0) (summary_line version.number (counts_of cases.0)) fault cases.2 breaks)
 
-pub audit-broke : (version : Numbered) (before after : Written) (fault : SinkFault) → WritesCases version.net before after (Err fault) → WritesAudit (Some version) before after (Err fault)
+pub audit-broke : (version : NumberedNet) (before after : Written) (fault : SinkFault) → WritesCases version.net before after (Err fault) → WritesAudit (Some version) before after (Err fault)
 audit-broke version before after fault cases =
     (cases.0, cases.1, breaks-more before after (item_lines version.net cases.0) (summary_line version.number (counts_of cases.0)) fault cases.2)
 
 -- memory ran out before the first case
-pub audit-stopped : (version : Numbered) (a : Written) (error : AllocError) → IsNet version.net → IsAnswered version.net → WritesAudit (Some version) a a (Err (Memory error))
+pub audit-stopped : (version : NumberedNet) (a : Written) (error : AllocError) → IsNet version.net → IsAnswered version.net → WritesAudit (Some version) a a (Err (Memory error))
 audit-stopped version a error net answered =
     let all = rest-there version.net net answered 0 (omega arith) in
     (all.0, between-audit version.net all.0 all.1, breaks-more a a [] (audit_text version all.0) (Memory error) (breaks-nothing a error))

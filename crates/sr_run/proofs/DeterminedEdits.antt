@@ -18,7 +18,7 @@ use Rattle.sr_script.specs.declared.name.LinkName.{LinkName}
 use Rattle.sr_print.specs.declared.refusal.Refusal.TheVariants.{Stale, StagedFull, VersionsFull, Rule}
 use Rattle.sr_print.specs.Told.{Told}
 use Rattle.sr_print.specs.Told.Told.{Staged, Dropped, Version, Refused}
-use Rattle.sr_repair.specs.Version.{Numbered, version_of}
+use Rattle.sr_repair.specs.Version.{NumberedNet, version_of}
 use Rattle.sr_run.specs.Domain.{Domain, with_staged, with_dropped, with_net}
 use Rattle.sr_run.specs.Edits.{Refuses, StagesEdit, StagesPdu, Announces, EditsNamed, DropsStaged, Commits, malformed_pdu}
 use Rattle.sr_run.proofs.DeterminedTold.{AreOne, alike, one-refused}
@@ -66,7 +66,7 @@ module _ (old : Domain) (a b : Told) (new next : Domain) where
       pdu-one p.0 p.2 (subst (λ (lsp : Lsp). StagesPdu lsp old b next) e q.2)
 
   -- a name means one announced link, or what is missing of it is one thing
-  pub link-edited-one : (edit : LinkKey → Edit) (link : LinkName) (version : Numbered) → IsNamed version.net.graph → EditsNamed edit link (Some version) old a new → EditsNamed edit link (Some version) old b next → AreOne a b new next
+  pub link-edited-one : (edit : LinkKey → Edit) (link : LinkName) (version : NumberedNet) → IsNamed version.net.graph → EditsNamed edit link (Some version) old a new → EditsNamed edit link (Some version) old b next → AreOne a b new next
   link-edited-one edit link version named =
       of-announced (AreOne a b new next) (Refuses old a new) (Refuses old b next) (one-refused old a b new next) version.net named link _ _ (λ key. staged-one (edit key))
 

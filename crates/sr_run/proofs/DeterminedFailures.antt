@@ -28,7 +28,7 @@ use Rattle.sr_print.specs.Printed.{ended}
 use Rattle.sr_print.specs.Spaces.{node_words, set_line, spaces_lines}
 use Rattle.sr_print.specs.Told.{Told, spelled, is_refusal}
 use Rattle.sr_print.specs.Told.Told.{Spaces, Repair, Walk, Uncovered, Summary, Audit}
-use Rattle.sr_repair.specs.Version.{Numbered}
+use Rattle.sr_repair.specs.Version.{NumberedNet}
 use Rattle.sr_run.specs.Failures.{AreCaseSpaces, IsRepaired, IsRepairWalked, TellsSpaces, TellsRepair, TellsRepairWalk, TellsSummary, TellsAudit}
 use Rattle.sr_run.specs.Questions.{IsRefused}
 use Rattle.sr_run.proofs.DeterminedTold.{AreAlike, alike, alike-refused}
@@ -122,7 +122,7 @@ WalkIs n choice told case d = (links : List LinkNo) × IsRepairWalked n case d c
 not-both : (n : Net) (choice : ℕ) (told other : Told) (case : Case) (d : ℕ) → IsUncovered n told case d → WalkIs n choice other case d → ⊥
 not-both n choice told other case d x y = least-not_other x.0 y.1.list (case-answer-one n case d x.0 (Least y.1.list) x.1 y.1.answer) x.2
 
-module _ (version : Numbered) (net : IsNet version.net) (a b : Told) where
+module _ (version : NumberedNet) (net : IsNet version.net) (a b : Told) where
   spaces-told : (case : Case) (d : ℕ) → SpacesAre version.net a case d → SpacesAre version.net b case d → AreAlike a b
   spaces-told case d x y = record {
     text = λ number. ap (spelled number) x.4 ∙ spaces-one version.net.graph case d x.0 x.1 x.2 y.0 y.1 y.2 x.3 y.3 ∙ sym (ap (spelled number) y.4);

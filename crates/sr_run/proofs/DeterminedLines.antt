@@ -1,5 +1,5 @@
 -- A line has one answer, and one next state.
-use Rattle.std.proofs.Common.{◌≡◌, ℕ, ◌+◌, ⊎_elim, List, [], ◌∷◌, length, All, refl, sym, subst, ◌∙◌, inl, inr}
+use Rattle.std.proofs.Common.{◌≡◌, ℕ, ◌+◌, ⊎_elim, List, [], ◌∷◌, length, All, Option, Some, None, refl, sym, ap, subst, ◌∙◌, inl, inr}
 use Rattle.std.proofs.lemmas.List.Elements.{All-head}
 use Rattle.sr_model.specs.declared.name.LinkKey.{LinkKey}
 use Rattle.sr_model.specs.Key.{pair_of}
@@ -17,19 +17,22 @@ use Rattle.sr_script.specs.declared.line.LineFault.TheVariants as fault
 use Rattle.sr_script.specs.LineSays.{LineSays, IsLineFault, IsMemory}
 use Rattle.sr_print.specs.declared.refusal.Refusal.{Refusal}
 use Rattle.sr_print.specs.declared.refusal.Refusal.TheVariants as refusal
-use Rattle.sr_print.specs.Told.{Told}
-use Rattle.sr_print.specs.Told.Told.{Nothing}
-use Rattle.sr_repair.specs.Version.{Numbered, version_of}
-use Rattle.sr_run.specs.Domain.{Domain, last_version}
+use Rattle.sr_print.specs.Told.{Told, spelled, is_refusal}
+use Rattle.sr_print.specs.Told.Told.{Nothing, Hold as HoldTold, Watch as WatchTold, Joined}
+use Rattle.sr_repair.specs.Version.{NumberedNet, version_of}
+use Rattle.sr_run.specs.Domain.{Domain, Background, last_version, with_hold, with_watch}
+use Rattle.sr_run.specs.Domain.Background.{AtRest, OfHold, OfWatch}
 use Rattle.sr_run.specs.Edits.{Refuses, EditsNamed}
 use Rattle.sr_run.specs.Questions.{TellsDistance, TellsNextHops, TellsLookup, TellsWalk}
 use Rattle.sr_run.specs.Failures.{TellsSpaces, TellsRepair, TellsRepairWalk, TellsSummary, TellsAudit}
 use Rattle.sr_run.specs.Session.{TellsOf, Asks, Tells, TellsLine, IsRefusedAs}
-use Rattle.sr_run.specs.Laws.{AreNets, LinesHaveOneAnswer}
+use Rattle.sr_run.specs.Background.{BeginsWork, JoinsWork, watch_from}
+use Rattle.sr_run.specs.Laws.{AreNets, JoinsMoved, LinesHaveOneAnswer}
 use Rattle.sr_script.proofs.LineLemmas.{one-thing, faults-agree, said-agrees}
 use Rattle.sr_run.proofs.DeterminedTold.{AreAlike, AreOne, alike, alike-refused, one-refused}
 use Rattle.sr_run.proofs.DeterminedEdits.{staged-one, announces-one, link-edited-one, dropped-one, commit-one}
 use Rattle.sr_run.proofs.DeterminedQuestions.{distance-alike, hops-alike, lookup-alike, walk-alike}
+use Rattle.sr_run.proofs.DeterminedReports.{due-one, joins-unmoved}
 use Rattle.sr_run.proofs.DeterminedFailures.{spaces-alike, repair-alike, repair-walk-alike, summary-alike, audit-alike}
 
 -- no line is refused because memory ran out
@@ -60,12 +63,12 @@ words-one line c d x y = let e : Word c ≡ Word d = one-thing line (Word c) (Wo
 
 module _ (old : Domain) (nets : AreNets old) (a b : Told) (new next : Domain) where
   -- a question about the last version
-  told-alike : (last : List Net) → All IsNet last → (tells : Numbered → Told → Type 0) → ((version : Numbered) → IsNet version.net → tells version a → tells version b → AreAlike a b)
+  told-alike : (last : List Net) → All IsNet last → (tells : NumberedNet → Told → Type 0) → ((version : NumberedNet) → IsNet version.net → tells version a → tells version b → AreAlike a b)
       → TellsOf tells (last_version last) a → TellsOf tells (last_version last) b → AreAlike a b
   told-alike [] are tells one p q = alike-refused a b refusal.NoVersion p q
   told-alike (net ∷ earlier) are tells one p q = one (version_of (length earlier + 1) net) (All-head IsNet net earlier are) p q
 
-  asked-one : (tells : Numbered → Told → Type 0) → ((version : Numbered) → IsNet version.net → tells version a → tells version b → AreAlike a b) → Asks tells old a new → Asks tells old b next → AreOne a b new next
+  asked-one : (tells : NumberedNet → Told → Type 0) → ((version : NumberedNet) → IsNet version.net → tells version a → tells version b → AreAlike a b) → Asks tells old a new → Asks tells old b next → AreOne a b new next
   asked-one tells one p q = record { told = told-alike old.nets nets tells one p.0 q.0; state = p.1 ∙ sym q.1 }
 
   -- an edit of a link
@@ -73,28 +76,55 @@ module _ (old : Domain) (nets : AreNets old) (a b : Told) (new next : Domain) wh
   edited-one edit link [] are p q = one-refused old a b new next refusal.NoVersion p q
   edited-one edit link (net ∷ earlier) are p q = link-edited-one old a b new next edit link (version_of (length earlier + 1) net) (All-head IsNet net earlier are).named p q
 
-  -- a command
-  pub tells-one : (command : Command) → Tells old command a new → Tells old command b next → AreOne a b new next
-  tells-one (Lsp octets) p q = announces-one old a b new next octets p q
-  tells-one (Cost link metric) p q = edited-one (λ key. SetCost key metric) link old.nets nets p q
-  tells-one (Down link) p q = edited-one (λ key. TakeDown (pair_of key)) link old.nets nets p q
-  tells-one (Up link) p q = edited-one (λ key. BringUp (pair_of key)) link old.nets nets p q
-  tells-one (Depth depth) p q = staged-one old a b new next (SetDepth depth) p q
-  tells-one Commit p q = commit-one old a b new next p q
-  tells-one DropStaged p q = dropped-one old a b new next p q
-  tells-one (Dist ends) p q = asked-one (TellsDistance ends) (λ version net. distance-alike version net a b ends) p q
-  tells-one (Next ends) p q = asked-one (TellsNextHops ends) (λ version net. hops-alike version net a b ends) p q
-  tells-one (Label node label) p q = asked-one (TellsLookup node label) (λ version net. lookup-alike version net a b node label) p q
-  tells-one (Spaces repair) p q = asked-one (TellsSpaces repair) (λ version net. spaces-alike version net a b repair) p q
-  tells-one (Repair repair) p q = asked-one (TellsRepair repair) (λ version net. repair-alike version net a b repair) p q
-  tells-one (Walk ends choice) p q = asked-one (TellsWalk ends choice) (λ version net. walk-alike version net a b ends choice) p q
-  tells-one (WalkRepair repair choice) p q = asked-one (TellsRepairWalk repair choice) (λ version net. repair-walk-alike version net a b repair choice) p q
-  tells-one Audit p q = asked-one TellsSummary (λ version net. summary-alike version net a b) p q
-  tells-one AuditFull p q = asked-one TellsAudit (λ version net. audit-alike version net a b) p q
-  tells-one Hold p q = one-refused old a b new next refusal.NotBuilt p q
-  tells-one (Watch watchers rounds) p q = one-refused old a b new next refusal.NotBuilt p q
-  tells-one Join p q = one-refused old a b new next refusal.NotBuilt p q
-  tells-one Show p q = record { told = alike a b _ _ p.0 q.0 refl; state = p.1 ∙ sym q.1 }
+  -- work begins on one version, or is refused for one reason
+  begun-one : (tells : NumberedNet → Told) (goes : NumberedNet → Domain) (last : Option NumberedNet) (background : Background)
+      → BeginsWork (Refuses old a new) (λ version. (a ≡ tells version) × (new ≡ goes version)) last background
+      → BeginsWork (Refuses old b next) (λ version. (b ≡ tells version) × (next ≡ goes version)) last background → AreOne a b new next
+  begun-one tells goes None background p q = one-refused old a b new next refusal.NoVersion p q
+  begun-one tells goes (Some version) AtRest p q = record { told = alike a b (tells version) (tells version) p.0 q.0 refl; state = p.1 ∙ sym q.1 }
+  begun-one tells goes (Some version) (OfHold held) p q = one-refused old a b new next refusal.WatchRunning p q
+  begun-one tells goes (Some version) (OfWatch watch) p q = one-refused old a b new next refusal.WatchRunning p q
+
+  -- two answers to a line: both are refusals or neither is, the next states are the same, and the texts, unless the line joins a watch during which a commit was accepted
+  pub record HasOne (line : List ℕ) : Type 0 where
+    pub refused : is_refusal a ≡ is_refusal b
+    pub state : new ≡ next
+    pub text : ¬ JoinsMoved old line → (number : ℕ) → spelled number a ≡ spelled number b
+
+  has-one : (line : List ℕ) → AreOne a b new next → HasOne line
+  has-one line one = record { refused = one.told.refusal; state = one.state; text = λ still. one.told.text }
+
+  joined-one : (line : List ℕ) → LineSays line (Word Join) → JoinsWork old a new → JoinsWork old b next → HasOne line
+  joined-one line says p q = record {
+    refused = ap is_refusal p.2 ∙ sym (ap is_refusal q.2);
+    state = p.1.1 ∙ sym q.1.1;
+    text = λ still number.
+        let same : p.0 ≡ q.0 = due-one old.background old.nets p.0 q.0 (joins-unmoved old line says still) p.1.0 q.1.0 in
+        ap (spelled number) (p.2 ∙ ap Joined same ∙ sym q.2);
+  }
+
+  -- a line that says a command
+  said-one : (line : List ℕ) (command : Command) → LineSays line (Word command) → Tells old command a new → Tells old command b next → HasOne line
+  said-one line (Lsp octets) says p q = has-one line (announces-one old a b new next octets p q)
+  said-one line (Cost link metric) says p q = has-one line (edited-one (λ key. SetCost key metric) link old.nets nets p q)
+  said-one line (Down link) says p q = has-one line (edited-one (λ key. TakeDown (pair_of key)) link old.nets nets p q)
+  said-one line (Up link) says p q = has-one line (edited-one (λ key. BringUp (pair_of key)) link old.nets nets p q)
+  said-one line (Depth depth) says p q = has-one line (staged-one old a b new next (SetDepth depth) p q)
+  said-one line Commit says p q = has-one line (commit-one old a b new next p q)
+  said-one line DropStaged says p q = has-one line (dropped-one old a b new next p q)
+  said-one line (Dist ends) says p q = has-one line (asked-one (TellsDistance ends) (λ version net. distance-alike version net a b ends) p q)
+  said-one line (Next ends) says p q = has-one line (asked-one (TellsNextHops ends) (λ version net. hops-alike version net a b ends) p q)
+  said-one line (Label node label) says p q = has-one line (asked-one (TellsLookup node label) (λ version net. lookup-alike version net a b node label) p q)
+  said-one line (Spaces repair) says p q = has-one line (asked-one (TellsSpaces repair) (λ version net. spaces-alike version net a b repair) p q)
+  said-one line (Repair repair) says p q = has-one line (asked-one (TellsRepair repair) (λ version net. repair-alike version net a b repair) p q)
+  said-one line (Walk ends choice) says p q = has-one line (asked-one (TellsWalk ends choice) (λ version net. walk-alike version net a b ends choice) p q)
+  said-one line (WalkRepair repair choice) says p q = has-one line (asked-one (TellsRepairWalk repair choice) (λ version net. repair-walk-alike version net a b repair choice) p q)
+  said-one line Audit says p q = has-one line (asked-one TellsSummary (λ version net. summary-alike version net a b) p q)
+  said-one line AuditFull says p q = has-one line (asked-one TellsAudit (λ version net. audit-alike version net a b) p q)
+  said-one line Hold says p q = has-one line (begun-one (λ version. HoldTold version.number) (with_hold old) (last_version old.nets) old.background p q)
+  said-one line (Watch watchers rounds) says p q = has-one line (begun-one (λ version. WatchTold watchers rounds version.number) (λ version. with_watch old (watch_from watchers rounds version)) (last_version old.nets) old.background p q)
+  said-one line Join says p q = joined-one line says p q
+  said-one line Show says p q = has-one line (record { told = alike a b _ _ p.0 q.0 refl; state = p.1 ∙ sym q.1 })
 
   -- a line has one fault that is told
   faults-one : (line : List ℕ) (fault also : LineFault) (reason other : Refusal) → IsLineFault line fault → IsLineFault line also → IsRefusedAs fault reason → IsRefusedAs also other → Refuses old a new reason → Refuses old b next other → AreOne a b new next
@@ -107,21 +137,21 @@ module _ (old : Domain) (nets : AreNets old) (a b : Told) (new next : Domain) wh
       (faults-agree line fault also x y)
 
   -- a line
-  pub line-one : (line : List ℕ) → TellsLine old line a new → TellsLine old line b next → AreOne a b new next
-  line-one line (inl p) (inl q) = faults-one line p.0 q.0 p.1 q.1 p.2 q.2 p.3 q.3 p.4 q.4
+  pub line-one : (line : List ℕ) → TellsLine old line a new → TellsLine old line b next → HasOne line
+  line-one line (inl p) (inl q) = has-one line (faults-one line p.0 q.0 p.1 q.1 p.2 q.2 p.3 q.3 p.4 q.4)
   line-one line (inl p) (inr (inl q)) = absurd (said-not_told line NoWord p.0 p.1 q.0 p.2 p.3)
   line-one line (inl p) (inr (inr q)) = absurd (said-not_told line (Word q.0) p.0 p.1 q.1 p.2 p.3)
   line-one line (inr (inl p)) (inl q) = absurd (said-not_told line NoWord q.0 q.1 p.0 q.2 q.3)
-  line-one line (inr (inl p)) (inr (inl q)) = record { told = alike a b Nothing Nothing p.1 q.1 refl; state = p.2 ∙ sym q.2 }
+  line-one line (inr (inl p)) (inr (inl q)) = has-one line (record { told = alike a b Nothing Nothing p.1 q.1 refl; state = p.2 ∙ sym q.2 })
   line-one line (inr (inl p)) (inr (inr q)) = absurd (nothing-not_word line q.0 p.0 q.1)
   line-one line (inr (inr p)) (inl q) = absurd (said-not_told line (Word p.0) q.0 q.1 p.1 q.2 q.3)
   line-one line (inr (inr p)) (inr (inl q)) = absurd (nothing-not_word line p.0 q.0 p.1)
   line-one line (inr (inr p)) (inr (inr q)) =
       let same : q.0 ≡ p.0 = words-one line q.0 p.0 q.1 p.1 in
-      tells-one p.0 p.2 (subst (λ (c : Command). Tells old c b next) same q.2)
+      said-one line p.0 p.1 p.2 (subst (λ (c : Command). Tells old c b next) same q.2)
 
--- from a state, a line has one answer, is refused or not, and has one next state
+-- from a state, a line is refused or not, and has one next state; and it has one answer, unless it joins a watch during which a commit was accepted
 pub lines-determined : LinesHaveOneAnswer
 lines-determined old number line out other refused again new next nets p q =
     let one = line-one old nets p.0 q.0 new next line p.1 q.1 in
-    (p.2 ∙ one.told.text number ∙ sym q.2, p.3 ∙ one.told.refusal ∙ sym q.3, one.state)
+    (p.3 ∙ one.refused ∙ sym q.3, one.state, λ still. p.2 ∙ one.text still number ∙ sym q.2)

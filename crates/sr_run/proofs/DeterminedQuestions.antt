@@ -19,7 +19,7 @@ use Rattle.sr_script.specs.declared.name.EndNames.{EndNames}
 use Rattle.sr_print.specs.declared.refusal.Refusal.TheVariants.{NoDestination}
 use Rattle.sr_print.specs.Told.{Told}
 use Rattle.sr_print.specs.Told.Told.{Distance, NextHops, Lookup, Walk}
-use Rattle.sr_repair.specs.Version.{Numbered}
+use Rattle.sr_repair.specs.Version.{NumberedNet}
 use Rattle.sr_run.specs.Questions.{IsRefused, IsForwarded, TellsDistance, TellsNextHops, TellsLookup, TellsWalk, TellsWalkOf}
 use Rattle.sr_run.proofs.DeterminedTold.{AreAlike, alike, alike-refused}
 use Rattle.sr_run.proofs.DeterminedNames.{link-is, none-not_some, of-node, of-ends}
@@ -84,7 +84,7 @@ forwarded-one n net first second choice links more p q =
 
 -- ---- the questions
 
-module _ (version : Numbered) (net : IsNet version.net) (a b : Told) where
+module _ (version : NumberedNet) (net : IsNet version.net) (a b : Told) where
   -- the distance
   pub distance-alike : (ends : EndNames) → TellsDistance ends version a → TellsDistance ends version b → AreAlike a b
   distance-alike ends =

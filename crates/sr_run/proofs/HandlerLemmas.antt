@@ -14,34 +14,23 @@ use Rattle.sr_lsdb.specs.Edit.Edit.{Announce}
 use Rattle.sr_lsdb.specs.Editing.{Editing, with_accepted, with_none_staged}
 use Rattle.sr_lsdb.specs.Staging.{Stages, StagesLsp}
 use Rattle.sr_domain.specs.Net.{IsNetOf}
-use Rattle.sr_domain.specs.Rules.{IsFirstBroken}
+use Rattle.sr_domain.specs.Rules.{IsFirstBrokenRule}
 use Rattle.sr_script.specs.declared.command.Command.{Command}
-use Rattle.sr_script.specs.declared.command.Command.TheVariants.{AuditFull}
 use Rattle.sr_script.specs.declared.name.LinkName.{LinkName}
-use Rattle.sr_repair.specs.Version.{Numbered, version_of}
-use Rattle.sr_model.specs.declared.audit.Item.{Item}
-use Rattle.sr_model.specs.Audit.{IsAudit}
-use Rattle.std.specs.declared.alloc.AllocError.{AllocError}
-use Rattle.sr_base.specs.declared.SinkFault.{SinkFault}
-use Rattle.sr_base.specs.declared.SinkFault.TheVariants.{Memory as Wanting}
-use Rattle.sr_engine.proofs.Answering.{breaks-nothing}
-use Rattle.sr_engine.specs.Replies.{Gives}
-use Rattle.sr_engine.specs.Written.{Written, Puts}
-use Rattle.sr_print.specs.Refused.{refused_line}
+use Rattle.sr_repair.specs.Version.{NumberedNet, version_of}
 use Rattle.sr_print.specs.declared.refusal.Refusal.{Refusal}
 use Rattle.sr_print.specs.declared.refusal.Refusal.TheVariants.{Rule, VersionsFull}
 use Rattle.sr_print.specs.Told.{Told, Shown, spelled, is_refusal}
-use Rattle.sr_print.specs.Told.Told.{Staged, Dropped, Version, Show, Refused, Audit as AuditTold}
+use Rattle.sr_print.specs.Told.Told.{Staged, Dropped, Version, Show, Refused}
 use Rattle.sr_run.specs.declared.commit.TheConstants.{MOST_VERSIONS}
 use Rattle.sr_run.specs.declared.stop.Stop.{Stop}
 use Rattle.sr_run.specs.declared.stop.Stop.TheVariants.{Refused as Refusing, Memory}
 use Rattle.sr_run.specs.declared.session.Reply.{Reply}
-use Rattle.sr_run.specs.Failures.{TellsAudit}
 use Rattle.sr_run.specs.Domain.{Domain, last_version, number_of, with_staged, with_dropped, with_net}
 use Rattle.sr_run.specs.Edits.{Refuses, StagesEdit, Announces, EditsNamed, EditsLink, DropsStaged, Commits}
-use Rattle.sr_run.specs.State.{IsKeptState, IsNext, State, shown}
+use Rattle.sr_run.specs.State.{IsKeptState, IsNext, State, shown, with_version}
 use Rattle.sr_run.specs.Session.{Asks, Tells, TellsOf, Shows, shown_of, version_nodes, version_links}
-use Rattle.sr_run.specs.Handlers.{PutsTold, Carries, Moves, RepliesTo, IsReply, IsNoRefusal, GivesCommand, WritesAudit, WritesRefusal, audit_text, TellsStaged, IsAnnounced, LacksAnnounced}
+use Rattle.sr_run.specs.Handlers.{PutsTold, Carries, Moves, RepliesTo, IsReply, TellsStaged, IsAnnounced, LacksAnnounced}
 use Rattle.sr_run.proofs.NameLemmas.{has-announced, lacks-announced, announced-weaker}
 
 -- what is told so is told so
@@ -51,19 +40,19 @@ carries-weaker P Q before after (Err (Refusing reason)) f c = f _ c
 carries-weaker P Q before after (Err (Memory error)) f c = tt
 
 -- a question about the last version is told to whatever domain the session shows
-pub asked : (tells : Numbered → Told → Type 0) (state : State) (told : Told) → TellsOf tells state.current told → Moves (Asks tells) state state told
+pub asked : (tells : NumberedNet → Told → Type 0) (state : State) (told : Told) → TellsOf tells state.current told → Moves (Asks tells) state state told
 asked tells state told is domain same =
-    (domain, same, (subst (λ (o : Option Numbered). TellsOf tells o told) (sym (ap (λ (s : State). s.current) same)) is, refl))
+    (domain, same, (subst (λ (o : Option NumberedNet). TellsOf tells o told) (sym (ap (λ (s : State). s.current) same)) is, refl))
 
 -- what is told of the last version
-pub told-of : (tells : Numbered → Told → Type 0) (current : Option Numbered) (version : Numbered) (told : Told) → current ≡ Some version → tells version told → TellsOf tells current told
-told-of tells current version told is t = subst (λ (o : Option Numbered). TellsOf tells o told) (sym is) t
+pub told-of : (tells : NumberedNet → Told → Type 0) (current : Option NumberedNet) (version : NumberedNet) (told : Told) → current ≡ Some version → tells version told → TellsOf tells current told
+told-of tells current version told is t = subst (λ (o : Option NumberedNet). TellsOf tells o told) (sym is) t
 
 -- what is told of the last version, and was appended
-pub puts-of : (tells : Numbered → Told → Type 0) (current : Option Numbered) (version : Numbered) (before after : List ℕ) (told : Told)
+pub puts-of : (tells : NumberedNet → Told → Type 0) (current : Option NumberedNet) (version : NumberedNet) (before after : List ℕ) (told : Told)
     → current ≡ Some version → tells version told → is_refusal told ≡ false → ((number : ℕ) → after ≡ before ++ spelled number told) → PutsTold (TellsOf tells current) before after
 puts-of tells current version before after told is t accepted appended =
-    record { told = told; is = subst (λ (o : Option Numbered). TellsOf tells o told) (sym is) t; accepted = accepted; appended = appended }
+    record { told = told; is = subst (λ (o : Option NumberedNet). TellsOf tells o told) (sym is) t; accepted = accepted; appended = appended }
 
 -- ---- what a session shows of a domain
 
@@ -73,7 +62,7 @@ with-editing domain editing new e = ap (λ (x : Editing). (let s : State = recor
 same-current : (old : State) (domain : Domain) (new : Editing) → old ≡ shown domain → (let s : State = record { editing = new; current = last_version domain.nets } in s) ≡ record { editing = new; current = old.current }
 same-current old domain new here = ap (λ (x : State). (let s : State = record { editing = new; current = x.current } in s)) (sym here)
 
-last-shown : (old now : State) (domain : Domain) (version : Numbered) → old ≡ now → old.current ≡ Some version → shown domain ≡ now → last_version domain.nets ≡ Some version
+last-shown : (old now : State) (domain : Domain) (version : NumberedNet) → old ≡ now → old.current ≡ Some version → shown domain ≡ now → last_version domain.nets ≡ Some version
 last-shown old now domain version is some same = ap (λ (s : State). s.current) (same ∙ sym is) ∙ some
 
 -- ---- edits
@@ -95,24 +84,24 @@ stages-told edit old now new staged told is s t domain same =
     (next.0, next.1 ∙ same-current old domain new here, next.2)
 
 -- the same of an edit of a link that is named
-pub link-told : (edit : LinkKey → Edit) (link : LinkName) (old now : State) (version : Numbered) (key : LinkKey) (new : Editing) (staged : Result ℕ StageFault) (told : Told)
+pub link-told : (edit : LinkKey → Edit) (link : LinkName) (old now : State) (version : NumberedNet) (key : LinkKey) (new : Editing) (staged : Result ℕ StageFault) (told : Told)
     → old ≡ now → old.current ≡ Some version → IsAnnounced version.net link key → Stages (edit key) old.editing new staged → TellsStaged staged told
     → Moves (EditsLink edit link) now (record { editing = new; current = old.current }) told
 link-told edit link old now version key new staged told is some announced s t domain same =
     let next = stages-told (edit key) old now new staged told is s t domain same in (
       next.0,
       next.1,
-      subst (λ (o : Option Numbered). EditsNamed edit link o domain told next.0) (sym (last-shown old now domain version is some same))
+      subst (λ (o : Option NumberedNet). EditsNamed edit link o domain told next.0) (sym (last-shown old now domain version is some same))
           (has-announced (Refuses domain told next.0) version.net link key (λ k. StagesEdit (edit k) domain told next.0) announced next.2),
     )
 
 -- a link that is missing
-pub link-missing : (edit : LinkKey → Edit) (link : LinkName) (old now : State) (version : Numbered) (reason : Refusal)
+pub link-missing : (edit : LinkKey → Edit) (link : LinkName) (old now : State) (version : NumberedNet) (reason : Refusal)
     → old ≡ now → old.current ≡ Some version → LacksAnnounced version.net link reason → Moves (EditsLink edit link) now now (Refused reason)
 link-missing edit link old now version reason is some lacks domain same = (
   domain,
   same,
-  subst (λ (o : Option Numbered). EditsNamed edit link o domain (Refused reason) domain) (sym (last-shown old now domain version is some same))
+  subst (λ (o : Option NumberedNet). EditsNamed edit link o domain (Refused reason) domain) (sym (last-shown old now domain version is some same))
       (lacks-announced (Refuses domain (Refused reason) domain) reason (refl, refl) version.net link (λ k. StagesEdit (edit k) domain (Refused reason) domain) lacks),
 )
 
@@ -153,30 +142,31 @@ number-length [] = refl
 number-length (net ∷ earlier) = omega arith
 
 -- a state is its parts
-state-parts : (s : State) (editing : Editing) (current : Option Numbered) → s.editing ≡ editing → s.current ≡ current → (let x : State = record { editing = editing; current = current } in x) ≡ s
+pub state-parts : (s : State) (editing : Editing) (current : Option NumberedNet) → s.editing ≡ editing → s.current ≡ current → (let x : State = record { editing = editing; current = current } in x) ≡ s
 state-parts s editing current e c =
-    ap (λ (x : Editing). (let y : State = record { editing = x; current = current } in y)) (sym e) ∙ ap (λ (x : Option Numbered). (let y : State = record { editing = s.editing; current = x } in y)) (sym c)
+    ap (λ (x : Editing). (let y : State = record { editing = x; current = current } in y)) (sym e) ∙ ap (λ (x : Option NumberedNet). (let y : State = record { editing = s.editing; current = x } in y)) (sym c)
 
 -- a state with the version after the last one is kept
-pub next-kept : (old : State) (editing : Editing) (version : Numbered) → editing ≡ old.editing → number_of old.current < MOST_VERSIONS → IsNext old version → IsKeptState (record { editing = with_accepted editing; current = Some version })
+pub next-kept : (old : State) (editing : Editing) (version : NumberedNet) → editing ≡ old.editing → number_of old.current < MOST_VERSIONS → IsNext old version → IsKeptState (record { editing = with_accepted editing; current = Some version })
 next-kept old editing version same room next =
     record { few = omega (arith, room, next.counted); counted = omega (arith, next.counted); fresh = subst (λ (e : Editing). IsNetOf e.tentative version.net) (sym same) next.net }
 
 -- the state whose net is accepted
-pub accepts-told : (now new : State) (version : Numbered) → number_of now.current < MOST_VERSIONS → IsNext now version → new.editing ≡ with_accepted now.editing → new.current ≡ Some version → Moves Commits now new (Version version)
-accepts-told now new version room next editing current domain same =
-    let edited : domain.editing ≡ now.editing = ap (λ (x : State). x.editing) same in
+pub accepted-next : (old : State) (version : NumberedNet) → number_of old.current < MOST_VERSIONS → IsNext old version → (domain : Domain) → shown domain ≡ old
+    → (shown (with_net domain version.net) ≡ with_version old version) × Commits domain (Version version) (with_net domain version.net) × (version ≡ version_of (length domain.nets + 1) version.net)
+accepted-next old version room next domain same =
+    let edited : domain.editing ≡ old.editing = ap (λ (x : State). x.editing) same in
     let net : IsNetOf domain.editing.tentative version.net = subst (λ (e : Editing). IsNetOf e.tentative version.net) (sym edited) next.net in
-    let number : number_of now.current ≡ length domain.nets = ap (λ (x : State). number_of x.current) (sym same) ∙ number-length domain.nets in
+    let number : number_of old.current ≡ length domain.nets = ap (λ (x : State). number_of x.current) (sym same) ∙ number-length domain.nets in
     let count : version.number ≡ length domain.nets + 1 = omega (arith, next.counted, number) in
     let one : version ≡ version_of (length domain.nets + 1) version.net = ap (λ (k : ℕ). version_of k version.net) count in (
-      with_net domain version.net,
-      state-parts new (with_accepted domain.editing) (Some (version_of (length domain.nets + 1) version.net)) (editing ∙ ap with_accepted (sym edited)) (current ∙ ap (λ (v : Numbered). Some v) one),
+      state-parts (with_version old version) (with_accepted domain.editing) (Some (version_of (length domain.nets + 1) version.net)) (ap with_accepted (sym edited)) (ap (λ (v : NumberedNet). Some v) one),
       inr (omega (arith, room, number), inr (record { net = version.net; is_net = net; told_is = ap Version one; accepted = refl })),
+      one,
     )
 
 -- the state whose tentative facts are rejected
-pub rejects-told : (now new : State) (rule : DomainRule) → number_of now.current < MOST_VERSIONS → IsFirstBroken now.editing.tentative rule → new.editing ≡ with_none_staged now.editing → new.current ≡ now.current → Moves Commits now new (Refused (Rule rule))
+pub rejects-told : (now new : State) (rule : DomainRule) → number_of now.current < MOST_VERSIONS → IsFirstBrokenRule now.editing.tentative rule → new.editing ≡ with_none_staged now.editing → new.current ≡ now.current → Moves Commits now new (Refused (Rule rule))
 rejects-told now new rule room broken editing current domain same =
     let edited : domain.editing ≡ now.editing = ap (λ (x : State). x.editing) same in
     let number : number_of now.current ≡ length domain.nets = ap (λ (x : State). number_of x.current) (sym same) ∙ number-length domain.nets in (
@@ -184,7 +174,7 @@ rejects-told now new rule room broken editing current domain same =
       state-parts new (with_none_staged domain.editing) (last_version domain.nets) (editing ∙ ap with_none_staged (sym edited)) (current ∙ sym (ap (λ (x : State). x.current) same)),
       inr (
         omega (arith, room, number),
-        inl (record { rule = rule; broken = subst (λ (e : Editing). IsFirstBroken e.tentative rule) (sym edited) broken; told_is = refl; dropped = refl }),
+        inl (record { rule = rule; broken = subst (λ (e : Editing). IsFirstBrokenRule e.tentative rule) (sym edited) broken; told_is = refl; dropped = refl }),
       ),
     )
 
@@ -205,7 +195,7 @@ shows-told old now version nodes links depth staged is v n l d s domain same =
 
 -- ---- how a command is answered
 
-edits-same : (edit other : LinkKey → Edit) (link : LinkName) (last : Option Numbered) (domain : Domain) (told : Told) (next : Domain) → ((k : LinkKey) → edit k ≡ other k) → EditsNamed edit link last domain told next → EditsNamed other link last domain told next
+edits-same : (edit other : LinkKey → Edit) (link : LinkName) (last : Option NumberedNet) (domain : Domain) (told : Told) (next : Domain) → ((k : LinkKey) → edit k ≡ other k) → EditsNamed edit link last domain told next → EditsNamed other link last domain told next
 edits-same edit other link None domain told next same e = e
 edits-same edit other link (Some version) domain told next same e =
     announced-weaker (Refuses domain told next) (Refuses domain told next) version.net link (λ k. StagesEdit (edit k) domain told next) (λ k. StagesEdit (other k) domain told next)
@@ -230,54 +220,3 @@ edits-told command edit other link old new before after (Err (Refusing reason)) 
     subst (λ (x : Result Reply Stop). RepliesTo command old new before after x) (sym r) (edits-moved command edit other link old new (Refused reason) same means c)
 edits-told command edit other link old new before after (Err (Memory error)) result same means c r =
     subst (λ (x : Result Reply Stop). RepliesTo command old new before after x) (sym r) tt
-
--- ---- what is written
-
--- a text that tells is written, or a beginning of it
-pub gives-told : (command : Command) (number : ℕ) (old new : State) (before after : Written) (text : List ℕ) (put : Result (Unit {0}) SinkFault) (result : Result Bool SinkFault)
-    → PutsTold (Moves (λ domain t next. Tells domain command t next) old new) [] text → Puts before after text put → IsNoRefusal put result → Gives (GivesCommand command number old) before after result new
-gives-told command number old new before after text (Ok done) result t p r =
-    subst (λ (x : Result Bool SinkFault). Gives (GivesCommand command number old) before after x new) (sym r)
-    (record { said = text; says = p; is = (t.told, t.is, t.appended number, sym t.accepted) })
-gives-told command number old new before after text (Err fault) result t p r =
-    subst (λ (x : Result Bool SinkFault). Gives (GivesCommand command number old) before after x new) (sym r)
-    (record { text = text; breaks = p; begins = inr (record { refused = false; new = new; is = (t.told, t.is, t.appended number, sym t.accepted) }) })
-
--- the audit of a version is told to whatever domain shows it
-audit-moved : (state : State) (version : Numbered) (items : List Item) → state.current ≡ Some version → IsAudit version.net items → Moves (λ domain t next. Tells domain AuditFull t next) state state (AuditTold version items)
-audit-moved state version items some audit domain same =
-    (domain, same, (subst (λ (o : Option Numbered). TellsOf TellsAudit o (AuditTold version items)) (sym (ap (λ (s : State). s.current) same ∙ some)) (items, audit, refl), refl))
-
-gives-whole : (number : ℕ) (state : State) (current : Option Numbered) (before after : Written) (put : Result (Unit {0}) SinkFault) (result : Result Bool SinkFault)
-    → state.current ≡ current → WritesAudit current before after put → IsNoRefusal put result → Gives (GivesCommand AuditFull number state) before after result state
-gives-whole number state None before after put result is w r = absurd w
-gives-whole number state (Some version) before after (Ok done) result is w r =
-    subst (λ (x : Result Bool SinkFault). Gives (GivesCommand AuditFull number state) before after x state) (sym r)
-    (record { said = audit_text version w.0; says = w.2; is = (AuditTold version w.0, audit-moved state version w.0 is w.1, refl, refl) })
-gives-whole number state (Some version) before after (Err fault) result is w r =
-    subst (λ (x : Result Bool SinkFault). Gives (GivesCommand AuditFull number state) before after x state) (sym r)
-    (record { text = audit_text version w.0; breaks = w.2; begins = inr (record { refused = false; new = state; is = (AuditTold version w.0, audit-moved state version w.0 is w.1, refl, refl) }) })
-
-pub gives-audit : (command : Command) (number : ℕ) (old new : State) (before after : Written) (put : Result (Unit {0}) SinkFault) (result : Result Bool SinkFault)
-    → command ≡ AuditFull → new ≡ old → WritesAudit new.current before after put → IsNoRefusal put result → Gives (GivesCommand command number old) before after result new
-gives-audit command number old new before after put result is same w r =
-    subst (λ (k : Command). Gives (GivesCommand k number old) before after result new) (sym is)
-    (subst (λ (s : State). Gives (GivesCommand AuditFull number s) before after result new) same (gives-whole number new new.current before after put result refl w r))
-
--- a refusal is written, or a beginning of it
-pub gives-refusal : (command : Command) (number : ℕ) (old new : State) (before after : Written) (reason : Refusal) (result : Result Bool SinkFault)
-    → Moves (λ domain t next. Tells domain command t next) old new (Refused reason) → WritesRefusal number reason before after result → Gives (GivesCommand command number old) before after result new
-gives-refusal command number old new before after reason (Ok refused) m w = record { said = refused_line number reason; says = w.1; is = (Refused reason, m, refl, w.0) }
-gives-refusal command number old new before after reason (Err fault) m w =
-    record { text = refused_line number reason; breaks = w; begins = inr (record { refused = true; new = new; is = (Refused reason, m, refl, refl) }) }
-
--- memory was wanted before anything was answered
-pub gives-nothing : (command : Command) (number : ℕ) (old new : State) (before : Written) (error : AllocError) → Gives (GivesCommand command number old) before before (Err (Wanting error)) new
-gives-nothing command number old new before error = record { text = []; breaks = breaks-nothing before error; begins = inl refl }
-
--- the same place and the same result
-pub gives-at : (command : Command) (number : ℕ) (old new : State) (before after place : Written) (result given : Result Bool SinkFault)
-    → place ≡ after → given ≡ result → Gives (GivesCommand command number old) before after result new → Gives (GivesCommand command number old) before place given new
-gives-at command number old new before after place result given p r g =
-    subst (λ (w : Written). Gives (GivesCommand command number old) before w given new) (sym p)
-    (subst (λ (x : Result Bool SinkFault). Gives (GivesCommand command number old) before after x new) (sym r) g)

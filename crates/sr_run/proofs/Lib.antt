@@ -1,5 +1,8 @@
 pub mod NameLemmas
 pub mod HandlerLemmas
+pub mod SessionLemmas
+pub mod ReportLemmas
+pub mod WritingLemmas
 pub mod LineLemmas
 pub mod ForwardLemmas
 pub mod FailureLemmas
@@ -7,12 +10,16 @@ pub mod AuditLemmas
 pub mod RepairedLemmas
 pub mod Likeness
 pub mod Simulation
+pub mod UsageLemmas
 pub mod ProgramLemmas
+pub mod StepLemmas
+pub mod VersionLemmas
 pub mod AcceptedNets
 pub mod DeterminedTold
 pub mod DeterminedNames
 pub mod DeterminedQuestions
 pub mod DeterminedFailures
 pub mod DeterminedEdits
+pub mod DeterminedReports
 pub mod DeterminedLines
 pub mod DeterminedScripts

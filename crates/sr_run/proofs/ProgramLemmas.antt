@@ -11,70 +11,75 @@ use Rattle.sr_engine.specs.Endings.{Devices, Ran, CountsShow, OutputIs, status_o
 use Rattle.sr_engine.specs.declared.end.End.{End}
 use Rattle.sr_engine.specs.declared.end.End.TheVariants.{Done, ReadFailed, WriteFailed, Memory, TooMuch}
 use Rattle.sr_run.specs.Domain.{opening}
-use Rattle.sr_run.specs.State.{State, shown}
+use Rattle.sr_store.specs.declared.usage.Usage.{Usage}
+use Rattle.sr_run.specs.State.{Session, IsShown, session_before}
+use Rattle.sr_run.specs.Usage.{ServesWatches}
 use Rattle.sr_run.specs.Session.{conduct}
-use Rattle.sr_run.specs.Handlers.{session_conduct}
+use Rattle.sr_run.specs.Handlers.{RunsLent, session_conduct}
 use Rattle.sr_make.specs.Making.{MakingShows, Makes}
 use Rattle.sr_make.specs.Script.{made_script}
 use Rattle.sr_words.specs.declared.task.Task.{Task}
 use Rattle.sr_words.specs.declared.task.Task.TheVariants as task
 use Rattle.sr_words.specs.Tasks.{Asked, BeginWithMake, IsTaskOf}
 use Rattle.sr_words.proofs.TaskLemmas.{one-task}
-use Rattle.sr_run.specs.Program.{Run, EndShows, TaskShows, MakesScript, StatusShows, RunsTo, RunsThrough}
+use Rattle.sr_run.specs.Program.{Execution, EndShows, TaskShows, MakesScript, StatusShows, RunsTo, RunsThrough}
 use Rattle.sr_run.proofs.Likeness.{answered-like, script-like, begins-like}
-use Rattle.sr_run.proofs.Simulation.{IsShown, session-follows, script-delivers}
+use Rattle.sr_run.proofs.Simulation.{session-follows, script-delivers}
+use Rattle.sr_run.proofs.UsageLemmas.{shown-first, serves-all}
 
 -- what a run of the session shows holds of the domain that it shows
-end-shows : (run : Run) (end : End) (final : State) → OutputIs session_conduct run.new.left (record { opening = shown opening; taken = run.taken; out = run.out; final = final }) end
-    → CountsShow run.old run.new end → EndShows run end
-end-shows run (Done refused) final output counts =
-    let script = script-like session_conduct conduct IsShown session-follows (shown opening) final opening run.taken run.out refused output.2 refl in
+end-shows : (run : Execution) (end : End) (final : Session) → OutputIs session_conduct run.new.left (record { opening = session_before run.used; taken = run.taken; out = run.out; final = final }) end
+    → CountsShow run.old run.new end → run.usage ≡ final.usage → EndShows run end
+end-shows run (Done refused) final output counts usage =
+    let script = script-like session_conduct conduct (IsShown run.used) (session-follows run.used) (session_before run.used) final opening run.taken run.out refused output.2 (shown-first run.used) in
     record {
       at_end = output.0;
       few = output.1;
       final = script.0;
       script = script.1;
       delivers = script-delivers run.taken run.out refused script.0 script.1;
+      serves = λ fresh. subst (ServesWatches script.0.totals) (sym usage) (serves-all run.taken run.out refused script.0 final output.1 script.1 (script.2.usage fresh) script.2.work);
       reads = counts.0;
       writes = counts.1;
     }
-end-shows run ReadFailed final output counts = (answered-like session_conduct conduct IsShown session-follows (shown opening) opening run.taken run.out output refl, counts.0, counts.1)
-end-shows run WriteFailed final output counts = (begins-like session_conduct conduct IsShown session-follows (shown opening) opening run.new.left run.taken run.out output refl, counts.0, counts.1)
-end-shows run Memory final output counts = (begins-like session_conduct conduct IsShown session-follows (shown opening) opening run.new.left run.taken run.out output refl, counts.0, counts.1)
-end-shows run TooMuch final output counts = (output.0, answered-like session_conduct conduct IsShown session-follows (shown opening) opening _ run.out output.1 refl, counts.0, counts.1)
+end-shows run ReadFailed final output counts usage = (answered-like session_conduct conduct (IsShown run.used) (session-follows run.used) (session_before run.used) opening run.taken run.out output (shown-first run.used), counts.0, counts.1)
+end-shows run WriteFailed final output counts usage = (begins-like session_conduct conduct (IsShown run.used) (session-follows run.used) (session_before run.used) opening run.new.left run.taken run.out output (shown-first run.used), counts.0, counts.1)
+end-shows run Memory final output counts usage = (begins-like session_conduct conduct (IsShown run.used) (session-follows run.used) (session_before run.used) opening run.new.left run.taken run.out output (shown-first run.used), counts.0, counts.1)
+end-shows run TooMuch final output counts usage = (output.0, answered-like session_conduct conduct (IsShown run.used) (session-follows run.used) (session_before run.used) opening _ run.out output.1 (shown-first run.used), counts.0, counts.1)
 
 -- a run over a script
-pub runs-to : (words : List (String Global)) (old new : Devices) (end : End) (final : State) (status : ℕ) → Asked words task.Run
-    → Ran session_conduct (shown opening) old new end final → CountsShow old new end → status ≡ status_of end → RunsTo words old new status
-runs-to words old new end final status ask ran counts is =
-    let run : Run = record { old = old; new = new; taken = ran.taken; out = ran.out } in
+pub runs-to : (words : List (String Global)) (old new : Devices) (used usage : Usage) (end : End) (status : ℕ) → Asked words task.Run
+    → RunsLent old new used usage end → status ≡ status_of end → RunsTo words old new used usage status
+runs-to words old new used usage end status ask lent is =
+    let ran = lent.ran in
+    let run : Execution = record { old = old; new = new; taken = ran.taken; out = ran.out; used = used; usage = usage } in
     record {
       taken = ran.taken;
       took = ran.took;
       few = ran.few;
       out = ran.out;
       appended = ran.appended;
-      shows = inl (record { asked = task.Run; asks = ask; end = end; is = is; shows = end-shows run end final ran.output counts });
+      shows = inl (record { asked = task.Run; asks = ask; end = end; is = is; shows = end-shows run end lent.final ran.output lent.counts lent.usage_is });
     }
 
 -- the making of a script
-pub makes-to : (words : List (String Global)) (nodes start : ℕ) (old new : Devices) (end : End) (status : ℕ) → Asked words (task.Make nodes start)
-    → new.left ≡ old.left → new.read_faults ≡ old.read_faults → Makes (made_script nodes start) old.held new.held old.write_faults new.write_faults end → status ≡ status_of end → RunsTo words old new status
-makes-to words nodes start old new end status ask left reads makes is =
-    let run : Run = record { old = old; new = new; taken = []; out = makes.out } in
+pub makes-to : (words : List (String Global)) (nodes start : ℕ) (old new : Devices) (used : Usage) (end : End) (status : ℕ) → Asked words (task.Make nodes start)
+    → new.left ≡ old.left → new.read_faults ≡ old.read_faults → Makes (made_script nodes start) old.held new.held old.write_faults new.write_faults end → status ≡ status_of end → RunsTo words old new used used status
+makes-to words nodes start old new used end status ask left reads makes is =
+    let run : Execution = record { old = old; new = new; taken = []; out = makes.out; used = used; usage = used } in
     record {
       taken = [];
       took = subst (λ (o : Option (List ℕ)). Consumes old.left o []) (sym left) (Consumes-nil old.left);
       few = omega arith;
       out = makes.out;
       appended = makes.appended;
-      shows = inl (record { asked = task.Make nodes start; asks = ask; end = end; is = is; shows = record { taken = refl; reads = reads; shows = makes.shows } });
+      shows = inl (record { asked = task.Make nodes start; asks = ask; end = end; is = is; shows = record { taken = refl; reads = reads; usage = refl; shows = makes.shows } });
     }
 
 -- nothing was done
-runs-nowhere : (words : List (String Global)) (devices : Devices) (status : ℕ)
-    → StatusShows words (record { old = devices; new = devices; taken = []; out = [] }) status → RunsTo words devices devices status
-runs-nowhere words devices status shows = record {
+runs-nowhere : (words : List (String Global)) (devices : Devices) (used : Usage) (status : ℕ)
+    → StatusShows words (record { old = devices; new = devices; taken = []; out = []; used = used; usage = used }) status → RunsTo words devices devices used used status
+runs-nowhere words devices used status shows = record {
   taken = [];
   took = Consumes-nil devices.left;
   few = omega arith;
@@ -84,19 +89,19 @@ runs-nowhere words devices status shows = record {
 }
 
 -- words that are no command
-pub runs-nothing : (words : List (String Global)) (devices : Devices) → IsTaskOf words None → RunsTo words devices devices 2
-runs-nothing words devices none = runs-nowhere words devices 2 (inr (inl (none, refl, record { taken = refl; out = refl; reads = refl; writes = refl })))
+pub runs-nothing : (words : List (String Global)) (devices : Devices) (used : Usage) → IsTaskOf words None → RunsTo words devices devices used used 2
+runs-nothing words devices used none = runs-nowhere words devices used 2 (inr (inl (none, refl, record { taken = refl; out = refl; reads = refl; writes = refl; usage = refl })))
 
 -- words that couldn't be read
-pub runs-unread : (words : List (String Global)) (devices : Devices) (status : ℕ) → BeginWithMake words → status ≡ status_of Memory → RunsTo words devices devices status
-runs-unread words devices status begin is = runs-nowhere words devices status (inr (inr (begin, is, record { taken = refl; out = refl; reads = refl; writes = refl })))
+pub runs-unread : (words : List (String Global)) (devices : Devices) (used : Usage) (status : ℕ) → BeginWithMake words → status ≡ status_of Memory → RunsTo words devices devices used used status
+runs-unread words devices used status begin is = runs-nowhere words devices used status (inr (inr (begin, is, record { taken = refl; out = refl; reads = refl; writes = refl; usage = refl })))
 
 took-few : (bytes taken : List ℕ) (left : Option (List ℕ)) → Consumes (Some bytes) left taken → length taken ≤ length bytes
 took-few bytes taken None t = absurd t
 took-few bytes taken (Some rest) t = omega (arith, ap length t, length-append taken rest)
 
 -- a run that meets no fault ends with 0, 1 or 5
-end-known : (run : Run) (end : End) (status : ℕ) → length run.taken ≤ most_bytes → ¬ Rose run.old.read_faults run.new.read_faults → ¬ Rose run.old.write_faults run.new.write_faults
+end-known : (run : Execution) (end : End) (status : ℕ) → length run.taken ≤ most_bytes → ¬ Rose run.old.read_faults run.new.read_faults → ¬ Rose run.old.write_faults run.new.write_faults
     → status ≡ status_of end → EndShows run end → (status ≡ 0) ⊎ (status ≡ 1) ⊎ (status ≡ 5)
 end-known run (Done false) status few reads writes is shows = inl is
 end-known run (Done true) status few reads writes is shows = inr (inl is)
@@ -114,7 +119,7 @@ made-known script out before now WriteFailed status writes is shows = absurd (wr
 made-known script out before now Memory status writes is shows = inr is
 made-known script out before now TooMuch status writes is shows = absurd shows
 
-module _ (words : List (String Global)) (run : Run) (status : ℕ) where
+module _ (words : List (String Global)) (run : Execution) (status : ℕ) where
   -- a script that is answered
   answered-through : Asked words task.Run → length run.taken ≤ most_bytes → ¬ Rose run.old.read_faults run.new.read_faults → ¬ Rose run.old.write_faults run.new.write_faults
       → StatusShows words run status → (status ≡ 0) ⊎ (status ≡ 1) ⊎ (status ≡ 5)
@@ -131,9 +136,9 @@ module _ (words : List (String Global)) (run : Run) (status : ℕ) where
   made-through nodes start ask writes (inr (inl none)) = absurd (none.0 (task.Make nodes start) ask)
   made-through nodes start ask writes (inr (inr unread)) = inr unread.1
 
-pub completes : (words : List (String Global)) (old new : Devices) (status : ℕ) → RunsTo words old new status → RunsThrough words old new status
-completes words old new status r =
-    let run : Run = record { old = old; new = new; taken = r.taken; out = r.out } in
+pub completes : (words : List (String Global)) (old new : Devices) (used usage : Usage) (status : ℕ) → RunsTo words old new used usage status → RunsThrough words old new status
+completes words old new used usage status r =
+    let run : Execution = record { old = old; new = new; taken = r.taken; out = r.out; used = used; usage = usage } in
     record {
       answers = λ bytes is ask few reads writes.
           let took : length r.taken ≤ length bytes = took-few bytes r.taken new.left (subst (λ (o : Option (List ℕ)). Consumes o new.left r.taken) is r.took) in

@@ -1,29 +1,76 @@
 -- The state of a domain between two lines of a script.
-use Rattle.std.specs.Prelude.{ℕ, ◌+◌, List, [], ◌∷◌, length, Option, Some, None}
+use Rattle.std.specs.Prelude.{ℕ, ◌+◌, ◌-◌, ◌*◌, List, [], ◌∷◌, length, take, reverse, Option, Some, None}
 use Rattle.sr_model.specs.Label.{Net}
 use Rattle.sr_lsdb.specs.Editing.{Editing, opening as no_edits, with_edit, with_accepted, with_none_staged}
 use Rattle.sr_lsdb.specs.Edit.{Edit}
-use Rattle.sr_repair.specs.Version.{Numbered, version_of}
+use Rattle.sr_repair.specs.Version.{NumberedNet, version_of}
 
--- the accepted and the tentative facts with how many edits are staged, and the nets of the accepted commits, the last
--- one first
+-- a watch: its watchers, the rounds of each, and the number of the version that was current when it began
+pub record BegunWatch : Type 0 where
+  pub watchers : ℕ
+  pub rounds : ℕ
+  pub from : ℕ
+
+-- what runs in the background: nothing, a hold of a version, or a watch
+pub data Background : Type 0 where
+  AtRest : Background
+  OfHold : NumberedNet → Background
+  OfWatch : BegunWatch → Background
+
+-- of all watches of a script: the places that they asked for, one for each watcher; the rounds that all watchers owe;
+-- and the commits that were accepted while a watch ran
+pub record WatchTotals : Type 0 where
+  pub places : ℕ
+  pub rounds : ℕ
+  pub commits : ℕ
+
+-- the accepted and the tentative facts with how many edits are staged; the nets of the accepted commits, the last one
+-- first; what runs in the background; and what was asked of all watches
 pub record Domain : Type 0 where
   pub editing : Editing
   pub nets : List Net
+  pub background : Background
+  pub totals : WatchTotals
+
+-- before the first watch
+abbrev pub no_watches : WatchTotals
+no_watches = record { places = 0; rounds = 0; commits = 0 }
 
 -- before the first line
 abbrev pub opening : Domain
-opening = record { editing = no_edits; nets = [] }
+opening = record { editing = no_edits; nets = []; background = AtRest; totals = no_watches }
 
 -- the version of the last of these nets: its number is how many there are
-abbrev pub last_version : List Net → Option Numbered
+abbrev pub last_version : List Net → Option NumberedNet
 last_version [] = None
 last_version (net ∷ earlier) = Some (version_of (length earlier + 1) net)
 
 -- the number of the last version, and 0 before the first
-abbrev pub number_of : Option Numbered → ℕ
+abbrev pub number_of : Option NumberedNet → ℕ
 number_of None = 0
 number_of (Some version) = version.number
+
+-- the versions of all these nets, the last one first
+abbrev pub versions_of : List Net → List NumberedNet
+versions_of [] = []
+versions_of (net ∷ earlier) = version_of (length earlier + 1) net ∷ versions_of earlier
+
+-- the versions from this number on, in order
+abbrev pub versions_since : ℕ → List Net → List NumberedNet
+versions_since from nets = reverse (take (length nets + 1 - from) (versions_of nets))
+
+-- after a watch is begun
+abbrev pub with_watch_begun : WatchTotals → BegunWatch → WatchTotals
+with_watch_begun totals watch = record totals {
+  places = totals.places + watch.watchers;
+  rounds = totals.rounds + watch.watchers * watch.rounds;
+}
+
+-- after a commit is accepted while this runs: those during a watch are counted
+abbrev pub with_commit_during : Background → WatchTotals → WatchTotals
+with_commit_during AtRest totals = totals
+with_commit_during (OfHold version) totals = totals
+with_commit_during (OfWatch watch) totals = record totals { commits = totals.commits + 1 }
 
 -- after an edit is staged
 abbrev pub with_staged : Domain → Edit → Domain
@@ -35,4 +82,20 @@ with_dropped domain = record domain { editing = with_none_staged domain.editing 
 
 -- after the tentative facts are accepted, of which this is the net
 abbrev pub with_net : Domain → Net → Domain
-with_net domain net = record { editing = with_accepted domain.editing; nets = net ∷ domain.nets }
+with_net domain net = record domain {
+  editing = with_accepted domain.editing;
+  nets = net ∷ domain.nets;
+  totals = with_commit_during domain.background domain.totals;
+}
+
+-- after a hold of this version is begun
+abbrev pub with_hold : Domain → NumberedNet → Domain
+with_hold domain version = record domain { background = OfHold version }
+
+-- after this watch is begun
+abbrev pub with_watch : Domain → BegunWatch → Domain
+with_watch domain watch = record domain { background = OfWatch watch; totals = with_watch_begun domain.totals watch }
+
+-- after what runs is joined
+abbrev pub with_joined : Domain → Domain
+with_joined domain = record domain { background = AtRest }

@@ -13,13 +13,13 @@ use Rattle.sr_lsdb.specs.Facts.{IsTaken, stored_under}
 use Rattle.sr_lsdb.specs.declared.limits.TheConstants.{MOST_STAGED}
 use Rattle.sr_lsdb.specs.Staging.{IsStale}
 use Rattle.sr_domain.specs.Net.{IsNetOf}
-use Rattle.sr_domain.specs.Rules.{IsFirstBroken}
+use Rattle.sr_domain.specs.Rules.{IsFirstBrokenRule}
 use Rattle.sr_script.specs.declared.name.LinkName.{LinkName}
 use Rattle.sr_print.specs.declared.refusal.Refusal.{Refusal}
 use Rattle.sr_print.specs.declared.refusal.Refusal.TheVariants.{Malformed as MalformedPdu, Stale, StagedFull, NoVersion, VersionsFull, Rule}
 use Rattle.sr_print.specs.Told.{Told}
 use Rattle.sr_print.specs.Told.Told.{Staged, Dropped, Version, Refused}
-use Rattle.sr_repair.specs.Version.{Numbered, version_of}
+use Rattle.sr_repair.specs.Version.{NumberedNet, version_of}
 use Rattle.sr_run.specs.declared.commit.TheConstants.{MOST_VERSIONS}
 use Rattle.sr_run.specs.Domain.{Domain, last_version, with_staged, with_dropped, with_net}
 use Rattle.sr_run.specs.Names.{OfAnnounced}
@@ -51,7 +51,7 @@ Announces octets old told new =
     ⊎ ((lsp : Lsp) × Reads octets lsp × StagesPdu lsp old told new)
 
 -- an edit of the announced link of this name in the last version
-abbrev pub EditsNamed : (LinkKey → Edit) → LinkName → Option Numbered → Domain → Told → Domain → Type 0
+abbrev pub EditsNamed : (LinkKey → Edit) → LinkName → Option NumberedNet → Domain → Told → Domain → Type 0
 EditsNamed edit link None old told new = Refuses old told new NoVersion
 EditsNamed edit link (Some version) old told new =
     OfAnnounced (Refuses old told new) version.net link (λ key. StagesEdit (edit key) old told new)
@@ -67,7 +67,7 @@ DropsStaged old told new = (told ≡ Dropped old.editing.staged) × (new ≡ wit
 -- the first rule that the tentative facts break is named, and the staged edits are dropped
 pub record Rejects (old : Domain) (told : Told) (new : Domain) : Type 0 where
   pub rule : DomainRule
-  pub broken : IsFirstBroken old.editing.tentative rule
+  pub broken : IsFirstBrokenRule old.editing.tentative rule
   pub told_is : told ≡ Refused (Rule rule)
   pub dropped : new ≡ with_dropped old
 

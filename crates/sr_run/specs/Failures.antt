@@ -19,7 +19,7 @@ use Rattle.sr_fib.specs.Entries.{numbers}
 use Rattle.sr_script.specs.declared.name.RepairName.{RepairName}
 use Rattle.sr_print.specs.Told.{Told}
 use Rattle.sr_print.specs.Told.Told.{Spaces, Repair, Walk, Uncovered, Summary, Audit}
-use Rattle.sr_repair.specs.Version.{Numbered}
+use Rattle.sr_repair.specs.Version.{NumberedNet}
 use Rattle.sr_repair.specs.Delivery.{RepairDelivers}
 use Rattle.sr_run.specs.Names.{OfFailure, OfAffected}
 use Rattle.sr_run.specs.Questions.{IsRefused}
@@ -39,7 +39,7 @@ TellsSpacesOf net case d told =
     × AreCaseSpaces net.graph case d p extended q × (told ≡ Spaces net.graph p extended q)
 
 -- `spaces`: those of the case and the destination that are named
-abbrev pub TellsSpaces : RepairName → Numbered → Told → Type 0
+abbrev pub TellsSpaces : RepairName → NumberedNet → Told → Type 0
 TellsSpaces repair version told = OfFailure (IsRefused told) version.net repair (λ case d. TellsSpacesOf version.net case d told)
 
 -- the answer of a case of the net for a node that it affects
@@ -61,7 +61,7 @@ abbrev pub TellsRepairOf : Net → Case → ℕ → Told → Type 0
 TellsRepairOf net case d told = (answer : Answer) × (labels : List ℕ) × IsRepaired net case d answer labels × (told ≡ Repair net case d answer labels)
 
 -- `repair`: that of the case and the destination that are named
-abbrev pub TellsRepair : RepairName → Numbered → Told → Type 0
+abbrev pub TellsRepair : RepairName → NumberedNet → Told → Type 0
 TellsRepair repair version told = OfAffected (IsRefused told) version.net repair (λ case d. TellsRepairOf version.net case d told)
 
 -- the packet of the repair crosses its first link, and goes on under its stack by the choice number, the failed links
@@ -85,13 +85,13 @@ TellsRepairWalkOf net case d choice told =
     ⊎ ((links : List LinkNo) × IsRepairWalked net case d choice links × (told ≡ Walk net (source_of net.graph case) (Some links)))
 
 -- `walk` of a repaired packet: of the case and the destination that are named
-abbrev pub TellsRepairWalk : RepairName → ℕ → Numbered → Told → Type 0
+abbrev pub TellsRepairWalk : RepairName → ℕ → NumberedNet → Told → Type 0
 TellsRepairWalk repair choice version told = OfAffected (IsRefused told) version.net repair (λ case d. TellsRepairWalkOf version.net case d choice told)
 
 -- `audit`: how many answers of each sort the audit has
-abbrev pub TellsSummary : Numbered → Told → Type 0
+abbrev pub TellsSummary : NumberedNet → Told → Type 0
 TellsSummary version told = (items : List Item) × IsAudit version.net items × (told ≡ Summary version.number (counts_of items))
 
 -- `audit full`: the audit, item by item, and how many answers of each sort it has
-abbrev pub TellsAudit : Numbered → Told → Type 0
+abbrev pub TellsAudit : NumberedNet → Told → Type 0
 TellsAudit version told = (items : List Item) × IsAudit version.net items × (told ≡ Audit version items)

@@ -15,20 +15,24 @@ use Rattle.sr_script.specs.declared.name.EndNames.{EndNames}
 use Rattle.sr_script.specs.declared.name.LinkName.{LinkName}
 use Rattle.sr_script.specs.declared.name.RepairName.{RepairName}
 use Rattle.sr_script.specs.declared.command.Command.{Command}
-use Rattle.sr_script.specs.declared.command.TheConstants.{MOST_METRIC, MOST_DEPTH}
-use Rattle.sr_script.specs.declared.command.Command.TheVariants.{Cost, Depth, AuditFull}
+use Rattle.sr_model.specs.declared.link.TheConstants.{MOST_METRIC}
+use Rattle.sr_script.specs.declared.command.TheConstants.{MOST_DEPTH, MOST_WATCHERS, MOST_ROUNDS}
+use Rattle.sr_script.specs.declared.command.Command.TheVariants.{Cost, Depth, Commit, AuditFull, Hold, Watch, Join}
 use Rattle.sr_print.specs.declared.refusal.Refusal.{Refusal}
 use Rattle.sr_print.specs.declared.refusal.Refusal.TheVariants as refusal
 use Rattle.sr_print.specs.Told.{Told, spelled, is_refusal}
-use Rattle.sr_print.specs.Told.Told.{Staged, Refused as RefusedTold}
+use Rattle.sr_print.specs.Told.Told.{Staged, Version, Joined, Refused as RefusedTold}
+use Rattle.sr_engine.specs.Endings.{Devices, Ran, CountsShow}
 use Rattle.sr_engine.specs.Replies.{Allowed, Conduct}
+use Rattle.sr_engine.specs.declared.end.End.{End}
 use Rattle.sr_engine.specs.Written.{Written, Says, Breaks, Puts}
 use Rattle.sr_base.specs.declared.SinkFault.{SinkFault}
 use Rattle.sr_model.specs.declared.audit.Item.{Item}
+use Rattle.sr_model.specs.declared.audit.RoundReport.{RoundReport}
 use Rattle.sr_model.specs.Audit.{IsAudit, counts_of}
 use Rattle.sr_print.specs.Repairs.{item_lines, summary_line}
 use Rattle.sr_print.specs.Refused.{refused_line}
-use Rattle.sr_repair.specs.Version.{Numbered}
+use Rattle.sr_repair.specs.Version.{NumberedNet}
 use Rattle.sr_script.specs.declared.line.LineFault.{LineFault}
 use Rattle.sr_run.specs.declared.stop.Stop.{Stop}
 use Rattle.sr_run.specs.declared.stop.Stop.TheVariants.{Refused, Memory}
@@ -36,10 +40,17 @@ use Rattle.sr_run.specs.declared.edits.LinkEdit.{LinkEdit}
 use Rattle.sr_run.specs.declared.edits.LinkEdit.TheVariants.{Cost as CostEdit, Down as DownEdit, Up as UpEdit}
 use Rattle.sr_run.specs.declared.session.Reply.{Reply}
 use Rattle.sr_run.specs.declared.session.Reply.TheVariants.{Text, Audit}
-use Rattle.sr_run.specs.Domain.{Domain}
+use Rattle.sr_store.specs.declared.usage.Usage.{Usage}
+use Rattle.sr_work.specs.declared.work.Work.{Work}
+use Rattle.sr_work.specs.declared.work.Work.TheVariants.{Idle, Holds, Watches}
+use Rattle.sr_work.specs.Works.{after_publishing, usage_published}
+use Rattle.sr_run.specs.declared.commit.TheConstants.{MOST_VERSIONS}
+use Rattle.sr_run.specs.Domain.{Domain, number_of}
+use Rattle.sr_run.specs.Edits.{Commits}
+use Rattle.sr_run.specs.Background.{Joins}
 use Rattle.sr_run.specs.Names.{IsNamedNode, NamesNode, OfEnds, OfAnnounced, OfFailure, OfAffected, IsLinkOf, key_meant}
-use Rattle.sr_run.specs.Session.{Tells, Answers, IsRefusedAs}
-use Rattle.sr_run.specs.State.{State, shown}
+use Rattle.sr_run.specs.Session.{Tells, Answers, EndsScript, IsRefusedAs}
+use Rattle.sr_run.specs.State.{State, Session, IsShown, CanReport, HasAudit, IsNext, session_before, shown, with_version}
 
 -- what is told was appended, and it is no refusal: so it is spelled whatever the line's number
 pub record PutsTold (tells : Told → Type 0) (before after : List ℕ) : Type 0 where
@@ -62,24 +73,44 @@ Moves tells old new told = (domain : Domain) → shown domain ≡ old → (next 
 abbrev pub CarriesOut : Command → State → State → List ℕ → List ℕ → Result (Unit {0}) Stop → Type 0
 CarriesOut command old new before after result = Carries (Moves (λ domain told next. Tells domain command told next) old new) before after result
 
--- what a session in the first state answers to a line, whatever domain it shows
-abbrev pub SessionAnswers : State → ℕ → List ℕ → List ℕ → Bool → State → Type 0
-SessionAnswers old number line out refused new =
-    (domain : Domain) → shown domain ≡ old → (next : Domain) × (shown next ≡ new) × Answers domain number line out refused next
+-- the second session has something to report of its work; and whatever domain the first one shows, there is one after
+-- this step that the second one shows
+pub record StepsAs (step : Domain → Domain → Type 0) (old new : Session) : Type 0 where
+  pub reports : CanReport new.work
+  pub steps : (lent : Usage) (domain : Domain) → IsShown lent old domain
+      → (next : Domain) × IsShown lent new next × step domain next
 
--- the end of a script says nothing, and the session stays
-abbrev pub SessionEnds : State → List ℕ → State → Type 0
-SessionEnds old out new = (out ≡ []) × (new ≡ old)
+-- this is told, and the second session is the one after it
+abbrev pub SessionTells : (Domain → Told → Domain → Type 0) → Session → Session → Told → Type 0
+SessionTells tells old new told = StepsAs (λ domain next. tells domain told next) old new
+
+-- what a session answers to a line
+abbrev pub SessionAnswers : Session → ℕ → List ℕ → List ℕ → Bool → Session → Type 0
+SessionAnswers old number line out refused new =
+    StepsAs (λ domain next. Answers domain number line out refused next) old new
+
+-- what a session answers at the end of a script
+abbrev pub SessionEnds : Session → List ℕ → Session → Type 0
+SessionEnds old out new = StepsAs (λ domain next. EndsScript domain out next) old new
 
 -- the conduct of a session
-abbrev pub session_conduct : Conduct State
+abbrev pub session_conduct : Conduct Session
 session_conduct = record { answers = SessionAnswers; ends = SessionEnds }
 
 -- the arguments of an edit are in range, as those of each command that a line says
 abbrev pub IsAsked : Command → Type 0
 IsAsked (Cost link metric) = (0 < metric) × (metric ≤ MOST_METRIC)
 IsAsked (Depth depth) = depth ≤ MOST_DEPTH
+IsAsked (Watch watchers rounds) = (0 < watchers) × (watchers ≤ MOST_WATCHERS) × (rounds ≤ MOST_ROUNDS)
 IsAsked _ = Unit {0}
+
+-- the command neither begins nor joins background work, nor publishes to it
+abbrev pub IsOfDomain : Command → Type 0
+IsOfDomain Commit = ⊥
+IsOfDomain Hold = ⊥
+IsOfDomain (Watch watchers rounds) = ⊥
+IsOfDomain Join = ⊥
+IsOfDomain _ = Unit {0}
 
 -- the two systems are these nodes
 abbrev pub AreEnds : Net → EndNames → ℕ → ℕ → Type 0
@@ -146,22 +177,32 @@ RepliesTo command old new before after (Ok Text) = CarriesOut command old new be
 RepliesTo command old new before after (Ok Audit) = (command ≡ AuditFull) × (is_some old.current ≡ true) × (new ≡ old) × (after ≡ before)
 RepliesTo command old new before after (Err stop) = CarriesOut command old new before after (Err stop)
 
+-- a session carries a command out: the same
+abbrev pub SessionReplies : Command → Session → Session → List ℕ → List ℕ → Result Reply Stop → Type 0
+SessionReplies command old new before after (Ok Text) =
+    PutsTold (SessionTells (λ domain told next. Tells domain command told next) old new) before after
+SessionReplies command old new before after (Ok Audit) =
+    (command ≡ AuditFull) × (is_some old.state.current ≡ true) × (new ≡ old) × (after ≡ before) × CanReport new.work
+SessionReplies command old new before after (Err stop) =
+    Carries (SessionTells (λ domain told next. Tells domain command told next) old new) before after (Err stop)
+
 -- what a command gives, with the line of this number
-abbrev pub GivesCommand : Command → ℕ → State → Allowed State
+abbrev pub GivesCommand : Command → ℕ → Session → Allowed Session
 GivesCommand command number old = λ said refused new.
-    (told : Told) × Moves (λ domain told next. Tells domain command told next) old new told × (said ≡ spelled number told) × (refused ≡ is_refusal told)
+    (told : Told) × SessionTells (λ domain told next. Tells domain command told next) old new told
+    × (said ≡ spelled number told) × (refused ≡ is_refusal told)
 
 -- what a line of this number with a fault gives
-abbrev pub RefusesLine : LineFault → ℕ → State → Allowed State
+abbrev pub RefusesLine : LineFault → ℕ → Session → Allowed Session
 RefusesLine fault number old = λ said refused new.
     (reason : Refusal) × IsRefusedAs fault reason × (said ≡ refused_line number reason) × (refused ≡ true) × (new ≡ old)
 
 -- the lines of an audit of the version, and of how many answers of each sort it has
-abbrev pub audit_text : Numbered → List Item → List ℕ
+abbrev pub audit_text : NumberedNet → List Item → List ℕ
 audit_text version items = item_lines version.net items ++ summary_line version.number (counts_of items)
 
 -- the audit of the version is written, or a beginning of it
-abbrev pub WritesAudit : Option Numbered → Written → Written → Result (Unit {0}) SinkFault → Type 0
+abbrev pub WritesAudit : Option NumberedNet → Written → Written → Result (Unit {0}) SinkFault → Type 0
 WritesAudit None before after result = ⊥
 WritesAudit (Some version) before after result = (items : List Item) × IsAudit version.net items × Puts before after (audit_text version items) result
 
@@ -170,11 +211,11 @@ abbrev pub WritesCases : Net → Written → Written → Result (Unit {0}) SinkF
 WritesCases net before after result = (items : List Item) × IsAudit net items × Puts before after (item_lines net items) result
 
 -- how many answers of each sort an audit of the version has is written, or a beginning of it
-abbrev pub WritesCounts : Numbered → Written → Written → Result (Unit {0}) SinkFault → Type 0
+abbrev pub WritesCounts : NumberedNet → Written → Written → Result (Unit {0}) SinkFault → Type 0
 WritesCounts version before after result = (items : List Item) × IsAudit version.net items × Puts before after (summary_line version.number (counts_of items)) result
 
 -- there is a version, of which the audit is yet to be written, or that there is none is refused
-abbrev pub BeginsAudit : Option Numbered → Result Reply Stop → Type 0
+abbrev pub BeginsAudit : Option NumberedNet → Result Reply Stop → Type 0
 BeginsAudit None result = result ≡ Err (Refused refusal.NoVersion)
 BeginsAudit (Some version) result = result ≡ Ok Audit
 
@@ -187,6 +228,52 @@ WritesRefusal number reason before after result =
 abbrev pub IsReply : Result (Unit {0}) Stop → Result Reply Stop → Type 0
 IsReply told result = MatchResult told (λ _. result ≡ Ok Text) (λ stop. result ≡ Err stop)
 
+-- the commit is accepted with the next version, and told; or it is refused, and that is told, or memory ran out, and
+-- the last version stays
+abbrev pub CommitsVersion : State → State → List ℕ → List ℕ → Result (Unit {0}) Stop → Type 0
+CommitsVersion old new before after (Ok done) =
+    (version : NumberedNet) × IsNext old version × (new ≡ with_version old version)
+    × (number_of old.current < MOST_VERSIONS) × ((number : ℕ) → after ≡ before ++ spelled number (Version version))
+CommitsVersion old new before after (Err (Refused reason)) = (new.current ≡ old.current) × Moves Commits old new (RefusedTold reason)
+CommitsVersion old new before after (Err (Memory error)) = new.current ≡ old.current
+
 -- an answer that was written is no refusal, or there was the fault
 abbrev pub IsNoRefusal : Result (Unit {0}) SinkFault → Result Bool SinkFault → Type 0
 IsNoRefusal written result = MatchResult written (λ _. result ≡ Ok false) (λ fault. result ≡ Err fault)
+
+-- work may begin on this version, which has an audit
+pub record MayBegin (session : Session) (version : NumberedNet) : Type 0 where
+  pub current : session.state.current ≡ Some version
+  pub idle : session.work ≡ Idle
+  pub audit : HasAudit version
+
+-- this refusal says why no work may begin
+abbrev pub IsHindrance : Option NumberedNet → Work → Refusal → Type 0
+IsHindrance None work reason = reason ≡ refusal.NoVersion
+IsHindrance (Some version) Idle reason = ⊥
+IsHindrance (Some version) (Holds held) reason = reason ≡ refusal.WatchRunning
+IsHindrance (Some version) (Watches watched) reason = reason ≡ refusal.WatchRunning
+
+-- no work may begin for this reason, or memory ran out
+abbrev pub MayNotBegin : Session → Stop → Type 0
+MayNotBegin session (Refused reason) = IsHindrance session.state.current session.work reason
+MayNotBegin session (Memory error) = Unit {0}
+
+-- the last version, where there is one, was published to the work
+abbrev pub IsPublished : Option NumberedNet → Work → Usage → Work → Usage → Type 0
+IsPublished None work usage published counted = (published ≡ work) × (counted ≡ usage)
+IsPublished (Some version) work usage published counted =
+    (published ≡ after_publishing work version) × (counted ≡ usage_published work usage)
+
+-- the work is joined, and its reports were appended
+pub record PutsJoined (old new : Session) (before after : List ℕ) : Type 0 where
+  pub reports : List RoundReport
+  pub joins : StepsAs (λ domain next. Joins domain reports next) old new
+  pub appended : (number : ℕ) → after ≡ before ++ spelled number (Joined reports)
+
+-- the run of a script with a usage that was lent: how it ended, and that the session's usage was given back
+pub record RunsLent (old new : Devices) (used usage : Usage) (end : End) : Type 0 where
+  pub final : Session
+  pub ran : Ran session_conduct (session_before used) old new end final
+  pub counts : CountsShow old new end
+  pub usage_is : usage ≡ final.usage

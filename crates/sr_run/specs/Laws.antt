@@ -1,11 +1,15 @@
 -- Laws of sessions, over every line and every script.
-use Rattle.std.specs.Prelude.{◌≡◌, ℕ, ◌+◌, ◌^◌, Bool, List, All}
+use Rattle.std.specs.Prelude.{◌≡◌, ℕ, ◌+◌, ◌<◌, ◌^◌, Bool, List, length, All}
 use Rattle.sr_model.specs.Rule.{IsNet}
 use Rattle.sr_wire.specs.declared.registry.TheConstants.{ADJ_SID_BACKUP, ADJ_SID_IPV6, ADJ_SID_SET, LSP_OVERLOAD, MAXIMUM_METRIC, PREFIX_SID_EXPLICIT_NULL, PREFIX_SID_NODE, PREFIX_SID_NO_POP, PREFIX_SID_READVERTISED}
 use Rattle.sr_lsdb.specs.declared.limits.TheConstants.{MOST_STAGED}
 use Rattle.sr_make.specs.declared.making.TheConstants.{FEWEST_NODES, MOST_NODES}
 use Rattle.sr_engine.specs.Replies.{Answered, Script}
-use Rattle.sr_run.specs.Domain.{Domain, opening}
+use Rattle.sr_script.specs.declared.command.Command.TheVariants.{Join}
+use Rattle.sr_script.specs.declared.line.Line.TheVariants.{Word}
+use Rattle.sr_script.specs.LineSays.{LineSays}
+use Rattle.sr_run.specs.Domain.{Domain, BegunWatch, opening}
+use Rattle.sr_run.specs.Domain.Background.{OfWatch}
 use Rattle.sr_run.specs.Session.{Answers, conduct}
 use Rattle.sr_run.specs.Program.{EachDelivers}
 
@@ -13,18 +17,26 @@ use Rattle.sr_run.specs.Program.{EachDelivers}
 abbrev pub AreNets : Domain → Type 0
 AreNets domain = All IsNet domain.nets
 
--- from a state with such nets, a line has at most one answer, with which it is refused or not, and at most one next
--- state
+-- the line joins a watch during which a commit was accepted: its reports may name one version or another
+pub record JoinsMoved (old : Domain) (line : List ℕ) : Type 0 where
+  pub watch : BegunWatch
+  pub runs : old.background ≡ OfWatch watch
+  pub moved : watch.from < length old.nets
+  pub joins : LineSays line (Word Join)
+
+-- from a state with such nets, a line is refused or not, and has at most one next state; and it has at most one
+-- answer, unless it joins a watch during which a commit was accepted
 abbrev pub LinesHaveOneAnswer : Type 0
 LinesHaveOneAnswer = (old : Domain) (number : ℕ) (line out other : List ℕ) (refused again : Bool) (new next : Domain)
     → AreNets old → Answers old number line out refused new → Answers old number line other again next
-    → (out ≡ other) × (refused ≡ again) × (new ≡ next)
+    → (refused ≡ again) × (new ≡ next) × (¬ JoinsMoved old line → out ≡ other)
 
--- a script has at most one output, and at most one last state
+-- a script has at most one last state, and it is told once whether a line was refused; and it has at most one output,
+-- unless a commit was accepted while a watch ran
 abbrev pub ScriptsHaveOneOutput : Type 0
 ScriptsHaveOneOutput = (bytes out other : List ℕ) (refused again : Bool) (final last : Domain)
     → Script conduct opening bytes out refused final → Script conduct opening bytes other again last
-    → (out ≡ other) × (refused ≡ again) × (final ≡ last)
+    → (refused ≡ again) × (final ≡ last) × (final.totals.commits ≡ 0 → out ≡ other)
 
 -- whatever lines were answered, in the net of each accepted commit every repair of every case has a stack, and
 -- delivers under it

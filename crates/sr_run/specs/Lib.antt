@@ -1,9 +1,11 @@
 pub mod Domain
 pub mod Names
 pub mod Edits
+pub mod Background
 pub mod Questions
 pub mod Failures
 pub mod Session
+pub mod Usage
 pub mod Program
 pub mod State
 pub mod Handlers

@@ -14,87 +14,96 @@ use Rattle.sr_make.specs.Script.{made_script}
 use Rattle.sr_words.specs.declared.task.Task.{Task}
 use Rattle.sr_words.specs.declared.task.Task.TheVariants as task
 use Rattle.sr_words.specs.Tasks.{Asked, IsTaskOf, BeginWithMake}
+use Rattle.sr_store.specs.declared.usage.Usage.{Usage}
 use Rattle.sr_run.specs.Domain.{Domain, opening}
 use Rattle.sr_run.specs.Session.{Answers, conduct}
+use Rattle.sr_run.specs.Usage.{unused, ServesWatches}
 
--- a run of the program: the devices before and after it, the bytes that it took, and those that it wrote
-pub record Run : Type 0 where
+-- an execution of the program: the devices before and after it, the bytes that it took, those that it wrote, and the
+-- usage of stores before and after it
+pub record Execution : Type 0 where
   pub old : Devices
   pub new : Devices
   pub taken : List ℕ
   pub out : List ℕ
+  pub used : Usage
+  pub usage : Usage
 
 -- the count of failed reads stayed
-abbrev pub ReadsWell : Run → Type 0
+abbrev pub ReadsWell : Execution → Type 0
 ReadsWell run = run.new.read_faults ≡ run.old.read_faults
 
 -- the count of failed writes stayed
-abbrev pub WritesWell : Run → Type 0
+abbrev pub WritesWell : Execution → Type 0
 WritesWell run = run.new.write_faults ≡ run.old.write_faults
 
 -- the count of failed reads rose, or stands at its last value
-abbrev pub FailsReading : Run → Type 0
+abbrev pub FailsReading : Execution → Type 0
 FailsReading run = Rose run.old.read_faults run.new.read_faults
 
 -- the count of failed writes rose, or stands at its last value
-abbrev pub FailsWriting : Run → Type 0
+abbrev pub FailsWriting : Execution → Type 0
 FailsWriting run = Rose run.old.write_faults run.new.write_faults
 
 -- in the net of each accepted commit every repair of every case has a stack, and delivers under it
 abbrev pub EachDelivers : Domain → Type 0
 EachDelivers domain = All EachRepairDelivers domain.nets
 
--- the script was read to its end, both counts of faults stayed, all of it was answered, and every repair of each
--- accepted net has a stack and delivers under it
-pub record AnswersScript (run : Run) (refused : Bool) : Type 0 where
+-- the script was read to its end, both counts of faults stayed, all of it was answered, every repair of each accepted
+-- net has a stack and delivers under it, and the usage, unless it was used before, shows what the watches took
+pub record AnswersScript (run : Execution) (refused : Bool) : Type 0 where
   pub at_end : IsAtEnd run.new.left
   pub few : length run.taken ≤ most_bytes
   pub final : Domain
   pub script : Script conduct opening run.taken run.out refused final
   pub delivers : EachDelivers final
+  pub serves : run.used ≡ unused → ServesWatches final.totals run.usage
   pub reads : ReadsWell run
   pub writes : WritesWell run
 
 -- all lines that end within these first bytes were answered
-abbrev pub AnswersLines : Run → List ℕ → Type 0
+abbrev pub AnswersLines : Execution → List ℕ → Type 0
 AnswersLines run bytes = Answered Answers opening bytes run.out
 
 -- what was written is a beginning of what may be answered to some first lines, or to the whole script
-abbrev pub BeginsToAnswer : Run → Type 0
+abbrev pub BeginsToAnswer : Execution → Type 0
 BeginsToAnswer run = BeginsOutput conduct opening run.new.left run.taken run.out
 
 -- how a run over a script ended says of it: the script was read to its end; the count of failed reads rose, or stands
 -- at its last value, and all lines before were answered; the count of failed writes did so, or memory ran out, and a
 -- beginning was written; or there are too many bytes, and the lines within the first of them were answered
-abbrev pub EndShows : Run → End → Type 0
+abbrev pub EndShows : Execution → End → Type 0
 EndShows run (Done refused) = AnswersScript run refused
 EndShows run ReadFailed = AnswersLines run run.taken × FailsReading run × WritesWell run
 EndShows run WriteFailed = BeginsToAnswer run × FailsWriting run × ReadsWell run
 EndShows run Memory = BeginsToAnswer run × ReadsWell run × WritesWell run
 EndShows run TooMuch = (most_bytes < length run.taken) × AnswersLines run (script_of run.taken) × ReadsWell run × WritesWell run
 
--- nothing was taken and the count of failed reads stayed, and the ending says how much of the script was written
-pub record MakesScript (nodes start : ℕ) (run : Run) (end : End) : Type 0 where
+-- nothing was taken, the count of failed reads and the usage stayed, and the ending says how much of the script was
+-- written
+pub record MakesScript (nodes start : ℕ) (run : Execution) (end : End) : Type 0 where
   pub taken : run.taken ≡ []
   pub reads : ReadsWell run
+  pub usage : run.usage ≡ run.used
   pub shows : MakingShows (made_script nodes start) run.out run.old.write_faults run.new.write_faults end
 
 -- what the ending of a task says of the run, which answers a script or makes one
-abbrev pub TaskShows : Task → Run → End → Type 0
+abbrev pub TaskShows : Task → Execution → End → Type 0
 TaskShows task.Run run end = EndShows run end
 TaskShows (task.Make nodes start) run end = MakesScript nodes start run end
 
--- nothing was taken and nothing written, and both counts of faults stayed
-pub record DoesNothing (run : Run) : Type 0 where
+-- nothing was taken and nothing written, and both counts of faults and the usage stayed
+pub record DoesNothing (run : Execution) : Type 0 where
   pub taken : run.taken ≡ []
   pub out : run.out ≡ []
   pub reads : ReadsWell run
   pub writes : WritesWell run
+  pub usage : run.usage ≡ run.used
 
 -- the words ask for this task, and the status tells how it ended: 0 or 1 where it was done, by whether a line was
 -- refused, 3 where a read failed, 4 where a write failed, 5 where memory ran out, 6 where there are too many
 -- bytes
-pub record DoesTask (words : List (String Global)) (run : Run) (status : ℕ) : Type 0 where
+pub record DoesTask (words : List (String Global)) (run : Execution) (status : ℕ) : Type 0 where
   pub asked : Task
   pub asks : Asked words asked
   pub end : End
@@ -104,21 +113,22 @@ pub record DoesTask (words : List (String Global)) (run : Run) (status : ℕ) : 
 -- the task that the words ask for was done as far as the status tells; or they ask for none, the status is 2, and
 -- nothing was done; or they begin with `make`, memory ran out before it was known what they ask for, the status is
 -- 5, and nothing was done
-abbrev pub StatusShows : List (String Global) → Run → ℕ → Type 0
+abbrev pub StatusShows : List (String Global) → Execution → ℕ → Type 0
 StatusShows words run status =
     DoesTask words run status
     ⊎ (IsTaskOf words None × (status ≡ 2) × DoesNothing run)
     ⊎ (BeginWithMake words × (status ≡ status_of Memory) × DoesNothing run)
 
 -- these bytes were taken from the source, none past the first one too many, those were appended to the sink, and
--- the status says what they are
-pub record RunsTo (words : List (String Global)) (old new : Devices) (status : ℕ) : Type 0 where
+-- the status says what they are, and what the usage shows
+pub record RunsTo (words : List (String Global)) (old new : Devices) (used usage : Usage) (status : ℕ) : Type 0 where
   pub taken : List ℕ
   pub took : Consumes old.left new.left taken
   pub few : length taken ≤ most_bytes + 1
   pub out : List ℕ
   pub appended : Appends old.held new.held out
-  pub shows : StatusShows words (record { old = old; new = new; taken = taken; out = out }) status
+  pub shows : StatusShows words
+      (record { old = old; new = new; taken = taken; out = out; used = used; usage = usage }) status
 
 -- where the words ask for `run`, and the source tells what it has left: a script that isn't too long is answered
 -- to its end, or memory runs out, unless a count of faults rose or stands at its last value

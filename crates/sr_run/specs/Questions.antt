@@ -14,7 +14,7 @@ use Rattle.sr_print.specs.declared.refusal.Refusal.{Refusal}
 use Rattle.sr_print.specs.declared.refusal.Refusal.TheVariants.{NoDestination}
 use Rattle.sr_print.specs.Told.{Told}
 use Rattle.sr_print.specs.Told.Told.{Distance, NextHops, Lookup, Walk, Refused}
-use Rattle.sr_repair.specs.Version.{Numbered}
+use Rattle.sr_repair.specs.Version.{NumberedNet}
 use Rattle.sr_run.specs.Names.{OfNode, OfEnds}
 
 -- a refusal is told
@@ -22,17 +22,17 @@ abbrev pub IsRefused : Told → Refusal → Type 0
 IsRefused told reason = told ≡ Refused reason
 
 -- `dist`: the distance
-abbrev pub TellsDistance : EndNames → Numbered → Told → Type 0
+abbrev pub TellsDistance : EndNames → NumberedNet → Told → Type 0
 TellsDistance ends version told = OfEnds (IsRefused told) version.net.graph ends (λ from to.
     (cost : Option ℕ) × IsDistanceOf version.net.graph [] from to cost × (told ≡ Distance cost))
 
 -- `next`: the next hops
-abbrev pub TellsNextHops : EndNames → Numbered → Told → Type 0
+abbrev pub TellsNextHops : EndNames → NumberedNet → Told → Type 0
 TellsNextHops ends version told = OfEnds (IsRefused told) version.net.graph ends (λ from to.
     (hops : List LinkNo) × AreNextHops version.net.graph from to hops × (told ≡ NextHops version.net hops))
 
 -- `label`: what a label does at a node
-abbrev pub TellsLookup : ℕ → ℕ → Numbered → Told → Type 0
+abbrev pub TellsLookup : ℕ → ℕ → NumberedNet → Told → Type 0
 TellsLookup system label version told = OfNode (IsRefused told) version.net.graph system (λ node.
     (found : Option Entry) × IsLookup version.net node label found × (told ≡ Lookup version.net found))
 
@@ -59,5 +59,5 @@ TellsWalkTo net system from to choice told =
     ⊎ ((is_some (labels_at net to).index ≡ true) × TellsWalkOf net from to choice told)
 
 -- `walk` from one node to another
-abbrev pub TellsWalk : EndNames → ℕ → Numbered → Told → Type 0
+abbrev pub TellsWalk : EndNames → ℕ → NumberedNet → Told → Type 0
 TellsWalk ends choice version told = OfEnds (IsRefused told) version.net.graph ends (λ from to. TellsWalkTo version.net ends.to from to choice told)

@@ -1,5 +1,5 @@
 -- What is told to each line of a script, and the state after it.
-use Rattle.std.specs.Prelude.{◌≡◌, ℕ, ◌⊎◌, Bool, List, [], Option, Some, None}
+use Rattle.std.specs.Prelude.{◌≡◌, ℕ, ◌⊎◌, Bool, List, Option, Some, None}
 use Rattle.sr_model.specs.Key.{pair_of}
 use Rattle.sr_model.specs.Graph.{node_count, link_count}
 use Rattle.sr_lsdb.specs.Edit.Edit.{SetCost, TakeDown, BringUp, SetDepth}
@@ -13,29 +13,30 @@ use Rattle.sr_print.specs.declared.refusal.Refusal.{Refusal}
 use Rattle.sr_print.specs.declared.refusal.Refusal.TheVariants as refusal
 use Rattle.sr_print.specs.Told.{Shown, Told, spelled, is_refusal}
 use Rattle.sr_print.specs.Told.Told.{Nothing, Refused, Show as ShowTold}
-use Rattle.sr_repair.specs.Version.{Numbered}
+use Rattle.sr_repair.specs.Version.{NumberedNet}
 use Rattle.sr_engine.specs.Replies.{Conduct}
 use Rattle.sr_run.specs.Domain.{Domain, last_version, number_of}
 use Rattle.sr_run.specs.Edits.{Refuses, Announces, EditsLink, StagesEdit, DropsStaged, Commits}
+use Rattle.sr_run.specs.Background.{BeginsHold, BeginsWatch, JoinsWork, EndsWork}
 use Rattle.sr_run.specs.Questions.{TellsDistance, TellsNextHops, TellsLookup, TellsWalk}
 use Rattle.sr_run.specs.Failures.{TellsSpaces, TellsRepair, TellsRepairWalk, TellsSummary, TellsAudit}
 
 -- this is told of the version, or there is none, which is refused
-abbrev pub TellsOf : (Numbered → Told → Type 0) → Option Numbered → Told → Type 0
+abbrev pub TellsOf : (NumberedNet → Told → Type 0) → Option NumberedNet → Told → Type 0
 TellsOf tells None told = told ≡ Refused refusal.NoVersion
 TellsOf tells (Some version) told = tells version told
 
 -- a question about the last version, which changes nothing
-abbrev pub Asks : (Numbered → Told → Type 0) → Domain → Told → Domain → Type 0
+abbrev pub Asks : (NumberedNet → Told → Type 0) → Domain → Told → Domain → Type 0
 Asks tells old told new = TellsOf tells (last_version old.nets) told × (new ≡ old)
 
 -- how many nodes the last version has, and 0 before the first
-abbrev pub version_nodes : Option Numbered → ℕ
+abbrev pub version_nodes : Option NumberedNet → ℕ
 version_nodes None = 0
 version_nodes (Some version) = node_count version.net.graph
 
 -- how many links the last version has, and 0 before the first
-abbrev pub version_links : Option Numbered → ℕ
+abbrev pub version_links : Option NumberedNet → ℕ
 version_links None = 0
 version_links (Some version) = link_count version.net.graph
 
@@ -71,9 +72,9 @@ Tells old (Walk ends choice) told new = Asks (TellsWalk ends choice) old told ne
 Tells old (WalkRepair repair choice) told new = Asks (TellsRepairWalk repair choice) old told new
 Tells old Audit told new = Asks TellsSummary old told new
 Tells old AuditFull told new = Asks TellsAudit old told new
-Tells old Hold told new = Refuses old told new refusal.NotBuilt
-Tells old (Watch watchers rounds) told new = Refuses old told new refusal.NotBuilt
-Tells old Join told new = Refuses old told new refusal.NotBuilt
+Tells old Hold told new = BeginsHold old told new
+Tells old (Watch watchers rounds) told new = BeginsWatch watchers rounds old told new
+Tells old Join told new = JoinsWork old told new
 Tells old Show told new = Shows old told new
 
 -- a line with this fault is refused for this reason; running out of memory ends the run
@@ -97,9 +98,9 @@ abbrev pub Answers : Domain → ℕ → List ℕ → List ℕ → Bool → Domai
 Answers old number line out refused new =
     (told : Told) × TellsLine old line told new × (out ≡ spelled number told) × (refused ≡ is_refusal told)
 
--- the end of the script says nothing, and changes nothing
+-- the end of the script joins what runs
 abbrev pub EndsScript : Domain → List ℕ → Domain → Type 0
-EndsScript old out new = (out ≡ []) × (new ≡ old)
+EndsScript old out new = EndsWork old.background old out new
 
 -- what a session may answer to lines, and at the end of the script
 abbrev pub conduct : Conduct Domain

@@ -1,15 +1,27 @@
 -- What a session shows of a domain, and what it keeps.
-use Rattle.std.specs.Prelude.{◌≡◌, ◌+◌, ◌<◌, ◌≤◌, Option, Some, IfSome}
+use Rattle.std.specs.Prelude.{◌≡◌, ℕ, ◌+◌, ◌-◌, ◌*◌, ◌<◌, ◌≤◌, Bool, true, false, List, length, slice_get, Option, Some, IfSome}
+use Rattle.sr_model.specs.declared.audit.Counts.{Counts}
+use Rattle.sr_model.specs.Label.{Net}
 use Rattle.sr_lsdb.specs.Editing.{Editing, with_accepted}
 use Rattle.sr_domain.specs.Net.{IsNetOf}
-use Rattle.sr_repair.specs.Version.{Numbered}
+use Rattle.sr_repair.specs.Version.{NumberedNet}
+use Rattle.sr_audit.specs.Counted.{AreAuditCounts}
+use Rattle.sr_script.specs.declared.command.TheConstants.{MOST_ROUNDS}
+use Rattle.sr_store.specs.Counts.{counted}
+use Rattle.sr_store.specs.declared.usage.Usage.{Usage}
+use Rattle.sr_work.specs.Watched.{Watched}
+use Rattle.sr_work.specs.Works.{MayFollow}
+use Rattle.sr_work.specs.declared.work.Work.{Work}
+use Rattle.sr_work.specs.declared.work.Work.TheVariants.{Idle, Holds, Watches}
 use Rattle.sr_run.specs.declared.commit.TheConstants.{MOST_VERSIONS}
-use Rattle.sr_run.specs.Domain.{Domain, last_version, number_of}
+use Rattle.sr_run.specs.Domain.{Domain, opening, Background, BegunWatch, WatchTotals, last_version, number_of, versions_since}
+use Rattle.sr_run.specs.Domain.Background.{AtRest, OfHold, OfWatch}
+use Rattle.sr_run.specs.Usage.{unused}
 
 -- the accepted and the tentative facts with how many edits are staged, and the version of the last accepted commit
 pub record State : Type 0 where
   pub editing : Editing
-  pub current : Option Numbered
+  pub current : Option NumberedNet
 
 -- what a session shows of the domain: of its nets the last one, with their number
 abbrev pub shown : Domain → State
@@ -23,10 +35,84 @@ pub record IsKeptState (state : State) : Type 0 where
   pub fresh : IfSome state.current (λ version. IsNetOf state.editing.accepted version.net)
 
 -- the state after the tentative facts are accepted with this version
-abbrev pub with_version : State → Numbered → State
+abbrev pub with_version : State → NumberedNet → State
 with_version state version = record { editing = with_accepted state.editing; current = Some version }
 
 -- the version after the last one, of the net of the tentative facts
-pub record IsNext (state : State) (version : Numbered) : Type 0 where
+pub record IsNext (state : State) (version : NumberedNet) : Type 0 where
   pub counted : version.number ≡ number_of state.current + 1
   pub net : IsNetOf state.editing.tentative version.net
+
+-- a session between two lines: its state, the work that runs beside it, and the usage of the work's stores
+pub record Session : Type 0 where
+  pub state : State
+  pub work : Work
+  pub usage : Usage
+
+-- whether work runs
+abbrev pub is_running : Work → Bool
+is_running Idle = false
+is_running (Holds version) = true
+is_running (Watches watched) = true
+
+-- a session before its first line
+abbrev pub session_before : Usage → Session
+session_before usage = record { state = shown opening; work = Idle; usage = usage }
+
+-- the version has an audit
+abbrev pub HasAudit : NumberedNet → Type 0
+HasAudit version = (counts : Counts) × AreAuditCounts version.net counts
+
+-- the work has something to report: the version of a hold has an audit, and so has the first of a watch
+abbrev pub CanReport : Work → Type 0
+CanReport Idle = Unit {0}
+CanReport (Holds version) = HasAudit version
+CanReport (Watches watched) =
+    (version : NumberedNet) × (slice_get watched.versions 0 ≡ Some version) × HasAudit version
+
+-- what a session keeps of its work: it has something to report, and the next version may be published to it
+pub record IsKeptWork (state : State) (work : Work) : Type 0 where
+  pub reports : CanReport work
+  pub follows : (next : NumberedNet) → next.number ≡ number_of state.current + 1 → MayFollow work next
+
+-- this is the running watch that was begun so
+pub record IsWatchOf (nets : List Net) (begun : BegunWatch) (watched : Watched) : Type 0 where
+  pub watchers : watched.watchers ≡ begun.watchers
+  pub rounds : watched.rounds ≡ begun.rounds
+  pub versions : watched.versions ≡ versions_since begun.from nets
+  pub since : begun.from ≤ length nets
+
+-- the work is what runs in the background of a domain with these nets
+abbrev pub IsWorkOf : List Net → Background → Work → Type 0
+IsWorkOf nets AtRest Idle = Unit {0}
+IsWorkOf nets AtRest (Holds version) = ⊥
+IsWorkOf nets AtRest (Watches watched) = ⊥
+IsWorkOf nets (OfHold held) Idle = ⊥
+IsWorkOf nets (OfHold held) (Holds version) = version ≡ held
+IsWorkOf nets (OfHold held) (Watches watched) = ⊥
+IsWorkOf nets (OfWatch begun) Idle = ⊥
+IsWorkOf nets (OfWatch begun) (Holds version) = ⊥
+IsWorkOf nets (OfWatch begun) (Watches watched) = IsWatchOf nets begun watched
+
+-- the turns that running readers take until they are joined
+abbrev pub turns_due : Work → ℕ
+turns_due Idle = 0
+turns_due (Holds version) = 0
+turns_due (Watches watched) = watched.given * watched.rounds
+
+-- what the counts of a usage, each of which stops at its last value, show of all watches so far
+pub record ShowsWatches (totals : WatchTotals) (work : Work) (usage : Usage) : Type 0 where
+  pub places : usage.places ≡ counted totals.places
+  pub published : usage.published ≡ counted totals.commits
+  pub given : ℕ
+  pub given_is : usage.given ≡ counted given
+  pub few : given ≤ totals.places
+  pub turns : ℕ
+  pub turns_are : usage.turns ≡ counted turns
+  pub enough : totals.rounds ≤ turns + turns_due work + MOST_ROUNDS * (totals.places - given)
+
+-- the session, which was lent this usage, shows the domain
+pub record IsShown (lent : Usage) (session : Session) (domain : Domain) : Type 0 where
+  pub state : shown domain ≡ session.state
+  pub work : IsWorkOf domain.nets domain.background session.work
+  pub usage : lent ≡ unused → ShowsWatches domain.totals session.work session.usage

@@ -7,7 +7,7 @@ ghost use Rattle.sr_run.specs.Session.{TellsOf};
 ghost use Rattle.sr_run.specs.Failures.{TellsSummary};
 ghost use Rattle.sr_run.specs.Handlers.{BeginsAudit, Carries, WritesAudit, WritesCases, WritesCounts};
 
-use crate::names::last_version;
+use crate::current::{CurrentVersion, last_version};
 use crate::session::Reply;
 use crate::stop::{Stop, found};
 use sr_audit::counts;
@@ -34,7 +34,7 @@ fn put_counts(number: u32, counts: Counts, out: &mut Vec<u8>) -> Result<(), Allo
 }
 
 /// `audit`: appends how many answers of each sort the audit of the last version has.
-pub(crate) fn audit_counts(current: &Option<Version>, out: &mut Vec<u8>) -> Result<(), Stop>
+pub(crate) fn audit_counts(current: &CurrentVersion, out: &mut Vec<u8>) -> Result<(), Stop>
     ensures { Carries (TellsOf TellsSummary current.now) out.old.items out.new.items result }
 {
     let version = found!(last_version(current));
@@ -43,7 +43,7 @@ pub(crate) fn audit_counts(current: &Option<Version>, out: &mut Vec<u8>) -> Resu
 }
 
 /// `audit full`: whether there is a version of which the audit can be written.
-pub(crate) fn begin_audit(current: &Option<Version>) -> Result<Reply, Stop>
+pub(crate) fn begin_audit(current: &CurrentVersion) -> Result<Reply, Stop>
     ensures { BeginsAudit current.now result }
 {
     let _version = found!(last_version(current));
@@ -98,7 +98,7 @@ fn write_counts<K: Sink>(
 /// Writes the audit of the last version, which there is: the answers of all cases, and how many there are of each sort.
 pub(crate) fn put_audit<K: Sink>(
     alloc: Global,
-    current: &Option<Version>,
+    current: &CurrentVersion,
     text: &mut Vec<u8>,
     out: &mut Answers,
     sink: &mut K,
@@ -108,9 +108,9 @@ pub(crate) fn put_audit<K: Sink>(
         (written (K.held sink.old) (K.faults sink.old) out.old)
         (written (K.held sink.new) (K.faults sink.new) out.new) result }
 {
-    let version = match current {
-        Some(version) => version,
-        None => unreachable!(),
+    let version = match last_version(current) {
+        Ok(version) => version,
+        Err(_) => unreachable!(),
     };
     version.is_answered();
     let names = match Names::of(alloc, version.net()) {

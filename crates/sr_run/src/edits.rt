@@ -6,7 +6,8 @@ ghost use Rattle.sr_script.specs.declared.command.TheConstants.{MOST_DEPTH};
 ghost use Rattle.sr_run.specs.Edits.{EditsLink, malformed_pdu};
 ghost use Rattle.sr_run.specs.Handlers.{Carries, CarriesOut, IsLinkEdit, Moves, TellsStaged, edit_of};
 
-use crate::names::{find_announced, last_version};
+use crate::current::last_version;
+use crate::names::find_announced;
 use crate::session::DomainSession;
 use crate::stop::{Stop, found};
 use sr_lsdb::{Editor, StageFault};
@@ -65,7 +66,9 @@ fn stage(editor: &mut Editor, key: &LinkKey, edit: LinkEdit) -> Result<u32, Stag
 impl DomainSession {
     /// `lsp HEX`: stages the PDU that the octets are read as.
     pub(crate) fn lsp(&mut self, octets: &[u8], out: &mut Vec<u8>) -> Result<(), Stop>
-        ensures { CarriesOut (LspWord octets.now) self.old self.new out.old.items out.new.items result }
+        ensures told { CarriesOut (LspWord octets.now) self.old self.new
+            out.old.items out.new.items result }
+        ensures current { self.new.current ≡ self.old.current }
     {
         match read_lsp(self.alloc, octets) {
             Ok(lsp) => {
@@ -85,8 +88,9 @@ impl DomainSession {
         out: &mut Vec<u8>,
     ) -> Result<(), Stop>
         requires { IsLinkEdit edit }
-        ensures { Carries (Moves (EditsLink (edit_of edit) link.now) self.old self.new)
+        ensures told { Carries (Moves (EditsLink (edit_of edit) link.now) self.old self.new)
             out.old.items out.new.items result }
+        ensures current { self.new.current ≡ self.old.current }
     {
         let version = found!(last_version(&self.current));
         let key = found!(find_announced(version, link));
@@ -97,7 +101,8 @@ impl DomainSession {
     /// `depth K`: stages how many segments a repair list may have.
     pub(crate) fn depth(&mut self, depth: u8, out: &mut Vec<u8>) -> Result<(), Stop>
         requires { depth ≤ MOST_DEPTH }
-        ensures { CarriesOut (Depth depth) self.old self.new out.old.items out.new.items result }
+        ensures told { CarriesOut (Depth depth) self.old self.new out.old.items out.new.items result }
+        ensures current { self.new.current ≡ self.old.current }
     {
         let staged = self.editor.stage_depth(depth);
         put_stage(staged, out)
@@ -105,7 +110,8 @@ impl DomainSession {
 
     /// `drop`: drops the staged edits.
     pub(crate) fn drop_staged(&mut self, out: &mut Vec<u8>) -> Result<(), Stop>
-        ensures { CarriesOut DropStaged self.old self.new out.old.items out.new.items result }
+        ensures told { CarriesOut DropStaged self.old self.new out.old.items out.new.items result }
+        ensures current { self.new.current ≡ self.old.current }
     {
         let dropped = self.editor.drop_staged();
         put_dropped(dropped, out)?;

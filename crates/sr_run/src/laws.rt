@@ -2,8 +2,9 @@
 //! stands in `specs/`.
 ghost use Rattle.sr_run.specs.Laws.{AcceptedNetsDeliver, AdjSidFlags, LinesHaveOneAnswer, LinkStateNumbers, PrefixSidFlags, ProjectLimits, ScriptsHaveOneOutput};
 
-/// From a state whose nets give what accepted ones do, a line has at most one answer and at most one next state. A script
-/// has at most one output, and at most one last state.
+/// From a state whose nets give what accepted ones do, a line has at most one next state, and at most one answer unless it
+/// joins a watch during which a commit was accepted. A script has at most one last state, and at most one output unless a
+/// commit was accepted while a watch ran.
 pub fn answers_are_determined()
     ensures lines { LinesHaveOneAnswer }
     ensures scripts { ScriptsHaveOneOutput }

@@ -2,7 +2,9 @@
 #![tactic(auto)]
 
 mod audits;
+mod background;
 mod commit;
+mod current;
 mod distances;
 mod edits;
 mod failures;

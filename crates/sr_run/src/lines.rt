@@ -6,15 +6,16 @@ ghost use Rattle.sr_engine.specs.Replies.{Gives, ToLast};
 ghost use Rattle.sr_engine.specs.Written.{written};
 ghost use Rattle.sr_run.specs.Handlers.{session_conduct};
 
-use crate::session::DomainSession;
+use crate::background::ScriptSession;
 use sr_base::{Runtime, Sink, SinkFault, Source};
 use sr_engine::{Answers, End, Fill, Script, read_on};
+use sr_watch::Gate;
 use std::alloc::Global;
 
 /// Answers a last line without a line feed, where there is one, and the end of the script.
-fn answer_last<R: Runtime, K: Sink>(
+fn answer_last<R: Runtime + 'static, K: Sink, G: Gate + 'static>(
     rt: &R,
-    session: &mut DomainSession,
+    session: &mut ScriptSession<G>,
     number: u32,
     line: &[u8],
     out: &mut Answers,
@@ -25,15 +26,21 @@ fn answer_last<R: Runtime, K: Sink>(
         (written (K.held sink.new) (K.faults sink.new) out.new) result session.new }
 {
     if line.is_empty() {
-        return Ok(false);
+        return session.finish(rt, out, sink);
     }
-    session.answer(rt, number, line, out, sink)
+    match session.answer(rt, number, line, out, sink) {
+        Ok(refused) => match session.finish(rt, out, sink) {
+            Ok(_) => Ok(refused),
+            Err(fault) => Err(fault),
+        },
+        Err(fault) => Err(fault),
+    }
 }
 
 /// Reads the lines and answers each.
-fn read_all<R: Runtime, S: Source, K: Sink>(
+fn read_all<R: Runtime + 'static, S: Source, K: Sink, G: Gate + 'static>(
     rt: &R,
-    session: &mut DomainSession,
+    session: &mut ScriptSession<G>,
     script: &mut Script,
     out: &mut Answers,
     source: &mut S,
@@ -76,10 +83,10 @@ fn read_all<R: Runtime, S: Source, K: Sink>(
 }
 
 /// Runs a script: reads it from the source, and writes the session's answers to the sink.
-pub(crate) fn run_script<R: Runtime, S: Source, K: Sink>(
+pub(crate) fn run_script<R: Runtime + 'static, S: Source, K: Sink, G: Gate + 'static>(
     rt: &R,
     alloc: Global,
-    session: &mut DomainSession,
+    session: &mut ScriptSession<G>,
     source: &mut S,
     sink: &mut K,
 ) -> End

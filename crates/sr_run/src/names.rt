@@ -10,18 +10,6 @@ use sr_print::Refusal;
 use sr_repair::Version;
 use sr_script::{EndNames, LinkName, RepairName};
 
-/// The version of the last commit, or the refusal where nothing was committed yet.
-pub(crate) fn last_version(current: &Option<Version>) -> Result<&Version, Refusal>
-    ensures { MatchResult result
-        (λ version. current.now ≡ Some version.now)
-        (λ reason. (current.now ≡ None) × (reason ≡ Refusal.NoVersion)) }
-{
-    match current {
-        Some(version) => Ok(version),
-        None => Err(Refusal::NoVersion),
-    }
-}
-
 /// The node of this system id, or the refusal that names it.
 pub(crate) fn find_node(version: &Version, system: SystemId) -> Result<NodeNo, Refusal>
     ensures { MatchResult result

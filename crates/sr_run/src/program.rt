@@ -1,14 +1,44 @@
 //! The program over any source and any sink.
 ghost use Rattle.sr_engine.specs.Endings.{devices_of};
+ghost use Rattle.sr_run.specs.Handlers.{RunsLent};
 ghost use Rattle.sr_run.specs.Program.{RunsTo, RunsThrough};
 
+use crate::background::ScriptSession;
 use crate::lines::run_script;
-use crate::session::DomainSession;
 use sr_base::{Runtime, Sink, Source};
 use sr_engine::End;
 use sr_make::make;
+use sr_store::Usage;
+use sr_watch::Gate;
 use sr_words::{Task, task_of};
 use std::alloc::AllocGlobal;
+use std::mem::replace;
+use std::sync::Arc;
+
+/// Runs a script: reads it from the source, and writes the answers to the sink. Work that still runs at an early end is
+/// joined.
+fn run_lent<R: AllocGlobal + Runtime + 'static, S: Source, K: Sink, G: Gate + 'static>(
+    rt: &R,
+    source: &mut S,
+    sink: &mut K,
+    gate: &Arc<G>,
+    usage: &mut Usage,
+) -> End
+    ensures { RunsLent
+        (devices_of (S.left source.old) (K.held sink.old) (S.faults source.old) (K.faults sink.old))
+        (devices_of (S.left source.new) (K.held sink.new) (S.faults source.new) (K.faults sink.new))
+        usage.old usage.new result }
+{
+    let alloc = rt.alloc();
+    let gate = match Arc::try_clone(gate) {
+        Ok(gate) => gate,
+        Err(_) => return End::Memory,
+    };
+    let mut session = ScriptSession::new(alloc, gate, replace(usage, Usage::new()));
+    let end = run_script(rt, alloc, &mut session, source, sink);
+    *usage = session.end(rt);
+    end
+}
 
 /// The program: where the words ask for `run`, it reads a script from the source and writes the answers to the sink.
 /// Where they ask for `make`, it reads nothing, and writes the script that is made from their numbers. The answer is the
@@ -18,26 +48,28 @@ use std::alloc::AllocGlobal;
 /// read to its end, and a line was refused; 2: the words aren't a command, and nothing was read; 3: a read failed; 4: a
 /// write failed; 5: memory ran out; 6: the script has more than 33,554,432 bytes.
 ///
-/// A commit splits its cases among threads where there are any: the answers are the same without.
-pub fn tilfa<R: AllocGlobal + Runtime, S: Source, K: Sink>(
+/// A commit splits its cases among threads where there are any: the answers are the same without. Each round of a watch
+/// passes the gate before it looks at a version. The usage counts, from what it counted before, the places that watches asked
+/// for, the readers that they were given, the versions that were published to them and their turns.
+pub fn tilfa<R: AllocGlobal + Runtime + 'static, S: Source, K: Sink, G: Gate + 'static>(
     rt: &R,
     words: &[String],
     source: &mut S,
     sink: &mut K,
+    gate: &Arc<G>,
+    usage: &mut Usage,
 ) -> u8
     ensures outcome { RunsTo words.now
         (devices_of (S.left source.old) (K.held sink.old) (S.faults source.old) (K.faults sink.old))
-        (devices_of (S.left source.new) (K.held sink.new) (S.faults source.new) (K.faults sink.new)) result }
+        (devices_of (S.left source.new) (K.held sink.new) (S.faults source.new) (K.faults sink.new))
+        usage.old usage.new result }
     ensures completes { RunsThrough words.now
         (devices_of (S.left source.old) (K.held sink.old) (S.faults source.old) (K.faults sink.old))
         (devices_of (S.left source.new) (K.held sink.new) (S.faults source.new) (K.faults sink.new)) result }
 {
     let alloc = rt.alloc();
     match task_of(alloc, words) {
-        Ok(Some(Task::Run)) => {
-            let mut session = DomainSession::new(alloc);
-            run_script(rt, alloc, &mut session, source, sink).status()
-        }
+        Ok(Some(Task::Run)) => run_lent(rt, source, sink, gate, usage).status(),
         Ok(Some(Task::Make { nodes, start })) => make(alloc, nodes, start, sink).status(),
         Ok(None) => 2,
         Err(_) => End::Memory.status(),

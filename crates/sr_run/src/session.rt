@@ -1,37 +1,32 @@
 //! The session: the facts that a script edits, and the version of the last commit.
 ghost use Rattle.std.specs.Prelude.{◌≡◌, MatchOption};
 ghost use Rattle.sr_script.specs.LineSays.{IsMemory};
-ghost use Rattle.sr_engine.specs.Replies.{Gives, ToHead};
 ghost use Rattle.sr_engine.specs.Written.{written};
 ghost use Rattle.sr_run.specs.Session.{IsRefusedAs, version_links, version_nodes};
 ghost use Rattle.sr_run.specs.Handlers.{IsNoRefusal, IsReply, WritesRefusal};
 
-use crate::audits::{audit_counts, begin_audit, put_audit};
-use crate::commit::last_number;
+use crate::audits::{audit_counts, begin_audit};
+use crate::current::{CurrentVersion, last_number, last_version};
 use crate::distances::{dist, next};
 use crate::edits::LinkEdit;
 use crate::failures::{repair, spaces};
 use crate::forwarding::{label, walk_packet};
 use crate::repaired::walk_repair;
 use crate::stop::Stop;
-use sr_base::{Runtime, Sink, SinkFault};
+use sr_base::{Sink, SinkFault};
 use sr_engine::Answers;
 use sr_lsdb::Editor;
 use sr_print::{Refusal, put_refused, put_show};
-use sr_repair::Version;
-use sr_script::{Command, Line, LineFault, read_line};
-use std::alloc::{AllocError, Global};
+use sr_script::{Command, LineFault};
+use std::alloc::Global;
 use std::marker::Model;
-use std::mem::replace;
 
 /// The facts that a script edits, and the version of the last accepted commit. Contracts see these alone.
 #[derive(Drop)]
 pub(crate) struct DomainSession {
     pub(crate) alloc: Global,
     pub(crate) editor: Editor,
-    pub(crate) current: Option<Version>,
-    /// The memory in which the answer to a line is put together.
-    text: Vec<u8>,
+    pub(crate) current: CurrentVersion,
 }
 
 /// How a command is answered.
@@ -56,7 +51,7 @@ impl Model for DomainSession {
 }
 
 /// Writes the refusal of the line of this number.
-fn write_refusal<K: Sink>(
+pub(crate) fn write_refusal<K: Sink>(
     number: u32,
     reason: &Refusal,
     text: &mut Vec<u8>,
@@ -78,7 +73,7 @@ fn write_refusal<K: Sink>(
 }
 
 /// The refusal of a line that says no command. None exactly where memory ran out.
-fn refusal_of_fault(fault: &LineFault) -> Option<Refusal>
+pub(crate) fn refusal_of_fault(fault: &LineFault) -> Option<Refusal>
     ensures { MatchOption result (IsMemory fault.now) (IsRefusedAs fault.now) }
 {
     match fault {
@@ -91,7 +86,7 @@ fn refusal_of_fault(fault: &LineFault) -> Option<Refusal>
 }
 
 /// That a line whose answer was written was not refused, or the fault.
-fn accepted(written: Result<(), SinkFault>) -> Result<bool, SinkFault>
+pub(crate) fn accepted(written: Result<(), SinkFault>) -> Result<bool, SinkFault>
     ensures { IsNoRefusal written result }
 {
     match written {
@@ -101,7 +96,7 @@ fn accepted(written: Result<(), SinkFault>) -> Result<bool, SinkFault>
 }
 
 /// How a command is answered whose answer was appended, or why there is none.
-fn replied(told: Result<(), Stop>) -> Result<Reply, Stop>
+pub(crate) fn replied(told: Result<(), Stop>) -> Result<Reply, Stop>
     ensures { IsReply told result }
 {
     match told {
@@ -118,16 +113,16 @@ struct NetSize {
 }
 
 /// How many nodes and links the net of the last version has: none before the first.
-fn size_of(current: &Option<Version>) -> NetSize
+fn size_of(current: &CurrentVersion) -> NetSize
     ensures nodes { result.nodes ≡ version_nodes current.now }
     ensures links { result.links ≡ version_links current.now }
 {
-    match current {
-        Some(version) => NetSize {
+    match last_version(current) {
+        Ok(version) => NetSize {
             nodes: version.net().graph().node_count(),
             links: version.net().graph().link_count(),
         },
-        None => NetSize { nodes: 0, links: 0 },
+        Err(_) => NetSize { nodes: 0, links: 0 },
     }
 }
 
@@ -135,7 +130,7 @@ impl DomainSession {
     ghost use Rattle.sr_script.specs.declared.command.Command.TheVariants.{Show};
     ghost use Rattle.sr_run.specs.Domain.{opening};
     ghost use Rattle.sr_run.specs.State.{shown};
-    ghost use Rattle.sr_run.specs.Handlers.{CarriesOut, GivesCommand, IsAsked, RefusesLine, RepliesTo, SessionAnswers};
+    ghost use Rattle.sr_run.specs.Handlers.{CarriesOut, IsAsked, IsOfDomain, RepliesTo};
 
     /// A session before its first line.
     pub(crate) fn new(alloc: Global) -> DomainSession
@@ -144,9 +139,20 @@ impl DomainSession {
         DomainSession {
             alloc,
             editor: Editor::new(alloc),
-            current: None,
-            text: Vec::new(alloc),
+            current: CurrentVersion::none(),
         }
+    }
+
+    /// The allocator.
+    pub(crate) fn alloc(&self) -> Global {
+        self.alloc
+    }
+
+    /// The last version, where there is one.
+    pub(crate) fn current(&self) -> &CurrentVersion
+        ensures { result.now ≡ self.now.current }
+    {
+        &self.current
     }
 
     /// `show`: appends the last version, the accepted depth, and how many edits are staged.
@@ -167,15 +173,13 @@ impl DomainSession {
         Ok(())
     }
 
-    /// Carries a command out, and appends the answer; of `audit full` nothing is appended.
-    fn tell(
-        &mut self,
-        rt: &impl Runtime,
-        command: Command,
-        out: &mut Vec<u8>,
-    ) -> Result<Reply, Stop>
-        requires { IsAsked command }
-        ensures { RepliesTo command self.old self.new out.old.items out.new.items result }
+    /// Carries out a command that leaves background work alone, and appends the answer; of `audit full` nothing is
+    /// appended.
+    pub(crate) fn tell(&mut self, command: Command, out: &mut Vec<u8>) -> Result<Reply, Stop>
+        requires asked { IsAsked command }
+        requires domain { IsOfDomain command }
+        ensures told { RepliesTo command self.old self.new out.old.items out.new.items result }
+        ensures current { self.new.current ≡ self.old.current }
     {
         let alloc = self.alloc;
         let current = &self.current;
@@ -189,7 +193,6 @@ impl DomainSession {
             Command::Down { link } => replied(self.edit_link(&link, LinkEdit::Down, out)),
             Command::Up { link } => replied(self.edit_link(&link, LinkEdit::Up, out)),
             Command::Depth { depth } => replied(self.depth(depth, out)),
-            Command::Commit => replied(self.commit(rt, out)),
             Command::DropStaged => replied(self.drop_staged(out)),
             Command::Dist { ends } => replied(dist(current, &ends, out)),
             Command::Next { ends } => replied(next(current, &ends, out)),
@@ -208,93 +211,10 @@ impl DomainSession {
             } => replied(walk_repair(alloc, current, &name, choice, out)),
             Command::Audit => replied(audit_counts(current, out)),
             Command::AuditFull => begin_audit(current),
-            Command::Hold | Command::Watch { .. } | Command::Join => {
-                Err(Stop::Refused(Refusal::NotBuilt))
+            Command::Commit | Command::Hold | Command::Watch { .. } | Command::Join => {
+                unreachable!()
             }
             Command::Show => replied(self.show(out)),
         }
-    }
-
-    /// Carries a command out, and writes the answer. Was it refused?
-    fn carry_out<R: Runtime, K: Sink>(
-        &mut self,
-        rt: &R,
-        number: u32,
-        command: Command,
-        text: &mut Vec<u8>,
-        out: &mut Answers,
-        sink: &mut K,
-    ) -> Result<bool, SinkFault>
-        requires { IsAsked command }
-        ensures { Gives (GivesCommand command number self.old)
-            (written (K.held sink.old) (K.faults sink.old) out.old)
-            (written (K.held sink.new) (K.faults sink.new) out.new) result self.new }
-    {
-        text.clear();
-        match self.tell(rt, command, text) {
-            Ok(Reply::Text) => accepted(out.put(sink, text)),
-            Ok(Reply::Audit) => accepted(put_audit(self.alloc, &self.current, text, out, sink)),
-            Err(Stop::Refused(reason)) => write_refusal(number, &reason, text, out, sink),
-            Err(Stop::Memory(error)) => Err(SinkFault::Memory(error)),
-        }
-    }
-
-    /// Refuses a line that says no command.
-    fn refuse<K: Sink>(
-        &mut self,
-        number: u32,
-        fault: &LineFault,
-        text: &mut Vec<u8>,
-        out: &mut Answers,
-        sink: &mut K,
-    ) -> Result<bool, SinkFault>
-        ensures { Gives (RefusesLine fault.now number self.old)
-            (written (K.held sink.old) (K.faults sink.old) out.old)
-            (written (K.held sink.new) (K.faults sink.new) out.new) result self.new }
-    {
-        match refusal_of_fault(fault) {
-            Some(reason) => write_refusal(number, &reason, text, out, sink),
-            None => Err(SinkFault::Memory(AllocError)),
-        }
-    }
-
-    /// Answers the line of this number, by its head, with the answer put together in this memory.
-    fn answer_in<R: Runtime, K: Sink>(
-        &mut self,
-        rt: &R,
-        number: u32,
-        line: &[u8],
-        text: &mut Vec<u8>,
-        out: &mut Answers,
-        sink: &mut K,
-    ) -> Result<bool, SinkFault>
-        ensures { Gives (ToHead SessionAnswers self.old number line.now)
-            (written (K.held sink.old) (K.faults sink.old) out.old)
-            (written (K.held sink.new) (K.faults sink.new) out.new) result self.new }
-    {
-        match read_line(self.alloc, line) {
-            Ok(Line::Nothing) => Ok(false),
-            Ok(Line::Word(command)) => self.carry_out(rt, number, command, text, out, sink),
-            Err(fault) => self.refuse(number, &fault, text, out, sink),
-        }
-    }
-
-    /// Answers the line of this number, by its head: at most its first 140,001 bytes. Was it refused?
-    pub(crate) fn answer<R: Runtime, K: Sink>(
-        &mut self,
-        rt: &R,
-        number: u32,
-        line: &[u8],
-        out: &mut Answers,
-        sink: &mut K,
-    ) -> Result<bool, SinkFault>
-        ensures { Gives (ToHead SessionAnswers self.old number line.now)
-            (written (K.held sink.old) (K.faults sink.old) out.old)
-            (written (K.held sink.new) (K.faults sink.new) out.new) result self.new }
-    {
-        let mut text = replace(&mut self.text, Vec::new(self.alloc));
-        let answered = self.answer_in(rt, number, line, &mut text, out, sink);
-        self.text = text;
-        answered
     }
 }

@@ -9,10 +9,13 @@ ghost use Rattle.sr_run.specs.Program.{RunsThrough, RunsTo};
 
 use sr_base::{Runtime, Sink, Source, StdSink, StdSource};
 use sr_run::tilfa;
+use sr_store::Usage;
+use sr_watch::{Gate, OpenGate};
 use std::alloc::AllocGlobal;
 use std::env;
 use std::io::ErrorKind;
 use std::process::ExitCode;
+use std::sync::Arc;
 
 /// The status where the words aren't a command.
 const NO_COMMAND: u8 = 2;
@@ -46,30 +49,45 @@ fn words(rt: &HostRuntime) -> Result<Vec<String>, u8>
 }
 
 /// Does what the words say, and ends with the status that this has.
-fn run<R: AllocGlobal + Runtime, S: Source, K: Sink>(
+fn run<R: AllocGlobal + Runtime + 'static, S: Source, K: Sink, G: Gate + 'static>(
     rt: &R,
     words: &[String],
     source: &mut S,
     sink: &mut K,
+    gate: &Arc<G>,
+    usage: &mut Usage,
 ) -> ExitCode
     ensures outcome { RunsTo words.now
         (devices_of (S.left source.old) (K.held sink.old) (S.faults source.old) (K.faults sink.old))
         (devices_of (S.left source.new) (K.held sink.new) (S.faults source.new) (K.faults sink.new))
-        (exit_status result) }
+        usage.old usage.new (exit_status result) }
     ensures completes { RunsThrough words.now
         (devices_of (S.left source.old) (K.held sink.old) (S.faults source.old) (K.faults sink.old))
         (devices_of (S.left source.new) (K.held sink.new) (S.faults source.new) (K.faults sink.new))
         (exit_status result) }
 {
-    ExitCode::from(tilfa(rt, words, source, sink))
+    ExitCode::from(tilfa(rt, words, source, sink, gate, usage))
 }
 
 fn main(rt: HostRuntime) -> ExitCode {
     let code = match words(&rt) {
         Ok(words) => {
-            let mut source = StdSource::new(rt.stdin());
-            let mut sink = StdSink::new(rt.stdout());
-            run(&rt, words.as_slice(), &mut source, &mut sink)
+            match Arc::new(rt.alloc(), OpenGate) {
+                Ok(gate) => {
+                    let mut source = StdSource::new(rt.stdin());
+                    let mut sink = StdSink::new(rt.stdout());
+                    let mut usage = Usage::new();
+                    run(
+                        &rt,
+                        words.as_slice(),
+                        &mut source,
+                        &mut sink,
+                        &gate,
+                        &mut usage,
+                    )
+                }
+                Err(_) => ExitCode::from(NO_MEMORY),
+            }
         }
         Err(status) => ExitCode::from(status),
     };

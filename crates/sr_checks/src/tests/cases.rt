@@ -386,12 +386,15 @@ pub const CASES: [Case; 24] = [
                 show version 1 nodes 0 links 0 depth 3 staged 1\n\
                 dropped 1\n\
                 refused 18 2 BadForm\n\
-                refused 19 29 NotBuilt\n\
+                watch 1 1 from version 1\n\
                 audit version 1 covered 0 nopath 0 nolist 0 toodeep 0\n\
                 refused 21 2 BadForm\n\
-                refused 22 29 NotBuilt\n\
-                refused 23 29 NotBuilt\n\
-                refused 24 1 UnknownWord\n",
+                report watch 1 1 version 1 covered 0 nopath 0 nolist 0 toodeep 0\n\
+                joined 1\n\
+                hold version 1\n\
+                refused 24 1 UnknownWord\n\
+                report hold version 1 covered 0 nopath 0 nolist 0 toodeep 0\n\
+                joined 1\n",
         status: 1,
     },
 ];

@@ -1,8 +1,7 @@
 //! Sources and sinks that fail.
 
-use super::words;
+use super::{run, words};
 use sr_base::{MemorySink, MemorySource, SteadySink, SteadySource};
-use sr_run::tilfa;
 use std::alloc::{AllocError, Global};
 
 /// Two routers, a commit and a distance.
@@ -37,7 +36,7 @@ fn a_read_fails(rt: HostRuntime) -> Result<(), AllocError> {
             only(alloc, given as u64)?,
         );
         let mut sink = SteadySink::new(alloc);
-        let status = tilfa(&rt, words.as_slice(), &mut source, &mut sink);
+        let status = run(&rt, words.as_slice(), &mut source, &mut sink)?;
         assert_eq!(rt; status, 3, "after {given} bytes");
         assert_eq!(rt; sink.bytes(), answers, "after {given} bytes");
     }
@@ -55,7 +54,7 @@ fn a_write_fails(rt: HostRuntime) -> Result<(), AllocError> {
             Vec::new(alloc),
         );
         let mut sink = MemorySink::new(alloc, only(alloc, call)?);
-        let status = tilfa(&rt, words.as_slice(), &mut source, &mut sink);
+        let status = run(&rt, words.as_slice(), &mut source, &mut sink)?;
         assert_eq!(rt; status, 4, "at call {call}");
         assert_eq!(rt; sink.bytes(), answers, "at call {call}");
     }
@@ -69,11 +68,11 @@ fn nothing_is_answered_where_the_first_call_fails(rt: HostRuntime) -> Result<(),
     let script = Vec::from_slice(alloc, TWO_NODES)?;
     let mut source = MemorySource::new(script, Vec::new(alloc), only(alloc, 0)?);
     let mut sink = SteadySink::new(alloc);
-    assert_eq!(rt; tilfa(&rt, words.as_slice(), &mut source, &mut sink), 3);
+    assert_eq!(rt; run(&rt, words.as_slice(), &mut source, &mut sink)?, 3);
     assert_eq!(rt; sink.bytes().len(), 0);
     let mut source = SteadySource::new(Vec::from_slice(alloc, TWO_NODES)?);
     let mut sink = MemorySink::new(alloc, only(alloc, 0)?);
-    assert_eq!(rt; tilfa(&rt, words.as_slice(), &mut source, &mut sink), 4);
+    assert_eq!(rt; run(&rt, words.as_slice(), &mut source, &mut sink)?, 4);
     assert_eq!(rt; sink.bytes().len(), 0);
     Ok(())
 }

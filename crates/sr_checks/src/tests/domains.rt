@@ -1,10 +1,9 @@
 //! Domains at the limits of nodes and links.
 
-use super::words;
+use super::{run, words};
 use sr_base::{Runtime, SteadySink, SteadySource};
 use sr_lsp::{Capability, Lsp, LspId, Part, Prefix, Reach, in_range, write_lsp};
 use sr_model::{Range, SystemId};
-use sr_run::tilfa;
 use sr_seq::{Few, Seq};
 use sr_subtlv::{LinkIds, PrefixSid, Sid, SrCap};
 use std::alloc::{AllocError, AllocGlobal, Global};
@@ -129,7 +128,7 @@ struct Ran {
 }
 
 /// What the program answers to the nodes' PDUs, a commit, and a question, with its status.
-fn answers<R: AllocGlobal + Runtime>(
+fn answers<R: AllocGlobal + Runtime + 'static>(
     rt: &R,
     nodes: u32,
     pairs: &[Pair],
@@ -145,13 +144,13 @@ fn answers<R: AllocGlobal + Runtime>(
     let words = words(alloc, "run")?;
     let mut source = SteadySource::new(script);
     let mut sink = SteadySink::new(alloc);
-    let status = tilfa(rt, words.as_slice(), &mut source, &mut sink);
+    let status = run(rt, words.as_slice(), &mut source, &mut sink)?;
     let text = Vec::from_slice(alloc, sink.bytes())?;
     Ok(Ran { status, text })
 }
 
 /// The last line that the program answers to them, with its status.
-fn last_answer<R: AllocGlobal + Runtime>(
+fn last_answer<R: AllocGlobal + Runtime + 'static>(
     rt: &R,
     nodes: u32,
     pairs: &[Pair],

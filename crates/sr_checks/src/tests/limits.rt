@@ -1,8 +1,7 @@
 //! The longest line, the longest script, and as many edits and versions as there may be.
 
-use super::words;
+use super::{run, words};
 use sr_base::{SteadySink, SteadySource};
-use sr_run::tilfa;
 use std::alloc::{AllocError, Global};
 
 #[test]
@@ -12,7 +11,7 @@ fn a_script_has_at_most_33_554_432_bytes(rt: HostRuntime) -> Result<(), AllocErr
     for (bytes, wanted) in [(33_554_432, 0), (33_554_433, 6)] {
         let mut source = SteadySource::new(vec![in alloc; b'\n'; bytes]?);
         let mut sink = SteadySink::new(alloc);
-        let status = tilfa(&rt, words.as_slice(), &mut source, &mut sink);
+        let status = run(&rt, words.as_slice(), &mut source, &mut sink)?;
         assert_eq!(rt; status, wanted, "{bytes} bytes");
         assert_eq!(rt; sink.bytes().len(), 0, "{bytes} bytes");
     }
@@ -38,7 +37,7 @@ fn a_line_has_at_most_140_000_bytes(rt: HostRuntime) -> Result<(), AllocError> {
     for (bytes, answers) in cases {
         let mut source = SteadySource::new(letters(alloc, bytes)?);
         let mut sink = SteadySink::new(alloc);
-        let status = tilfa(&rt, words.as_slice(), &mut source, &mut sink);
+        let status = run(&rt, words.as_slice(), &mut source, &mut sink)?;
         assert_eq!(rt; sink.bytes(), answers, "{bytes} bytes");
         assert_eq!(rt; status, 1, "{bytes} bytes");
     }
@@ -76,7 +75,7 @@ fn edits_and_versions_have_a_most(rt: HostRuntime) -> Result<(), AllocError> {
     for (line, times, last, answers) in cases {
         let mut source = SteadySource::new(repeated(alloc, line, times, last)?);
         let mut sink = SteadySink::new(alloc);
-        let status = tilfa(&rt, words.as_slice(), &mut source, &mut sink);
+        let status = run(&rt, words.as_slice(), &mut source, &mut sink)?;
         assert!(rt; sink.bytes().ends_with(answers), "{times} lines");
         assert_eq!(rt; status, 1, "{times} lines");
     }

@@ -1,8 +1,7 @@
 //! Scripts that are made from two numbers, and then run. The answers are those of an independent program.
 
-use super::words;
+use super::{run, words};
 use sr_base::{MemorySink, Runtime, SteadySink, SteadySource};
-use sr_run::tilfa;
 use std::alloc::{AllocError, AllocGlobal};
 
 /// The answers to the script of three nodes from 0.
@@ -41,7 +40,7 @@ const SIXTY_FOUR_FROM_7: &str =
 
 /// Whether these words end with 0, and make a script of this many bytes, and whether the script is answered like this,
 /// with 0.
-fn is_answered<R: AllocGlobal + Runtime>(
+fn is_answered<R: AllocGlobal + Runtime + 'static>(
     rt: &R,
     text: &str,
     bytes: usize,
@@ -51,11 +50,11 @@ fn is_answered<R: AllocGlobal + Runtime>(
     let make = words(alloc, text)?;
     let mut unread = SteadySource::new(Vec::new(alloc));
     let mut script = SteadySink::new(alloc);
-    let made = tilfa(rt, make.as_slice(), &mut unread, &mut script);
-    let run = words(alloc, "run")?;
+    let made = run(rt, make.as_slice(), &mut unread, &mut script)?;
+    let command = words(alloc, "run")?;
     let mut source = SteadySource::new(Vec::from_slice(alloc, script.bytes())?);
     let mut sink = SteadySink::new(alloc);
-    let status = tilfa(rt, run.as_slice(), &mut source, &mut sink);
+    let status = run(rt, command.as_slice(), &mut source, &mut sink)?;
     Ok(
         made == 0
             && script.bytes().len() == bytes
@@ -77,11 +76,11 @@ fn a_script_is_made_over_a_failing_sink(rt: HostRuntime) -> Result<(), AllocErro
     let make = words(alloc, "make --nodes 3 --start 0")?;
     let mut source = SteadySource::new(Vec::from_slice(alloc, b"commit\n")?);
     let mut sink = MemorySink::new(alloc, vec![in alloc; 0u64; 1]?);
-    assert_eq!(rt; tilfa(&rt, make.as_slice(), &mut source, &mut sink), 4);
+    assert_eq!(rt; run(&rt, make.as_slice(), &mut source, &mut sink)?, 4);
     assert_eq!(rt; sink.bytes().len(), 0);
     // The source is as it was: a run over it answers its line.
-    let run = words(alloc, "run")?;
-    assert_eq!(rt; tilfa(&rt, run.as_slice(), &mut source, &mut sink), 0);
+    let command = words(alloc, "run")?;
+    assert_eq!(rt; run(&rt, command.as_slice(), &mut source, &mut sink)?, 0);
     assert_eq!(rt; sink.bytes(), b"version 1 nodes 0 links 0\n".as_slice());
     Ok(())
 }

@@ -9,12 +9,12 @@ pub returns-in-Ok-Some-Run-clause-outcome : goal.returns-in-Ok-Some-Run-clause-o
 returns-in-Ok-Some-Run-clause-outcome g c =
     let is : c.in-Ok-Some-Run.field-0 ≡ Some task.Run = cc (c.in-Ok-Some-Run.field-0-is, c.in-Ok-Some-Run.field-0-0-is) in
     let ask = subst (IsTaskOf c.args.words.now) is c.in-Ok-Some-Run.ensures.task in
-    runs-to c.args.words.now _ _ c.run_script.result c.run_script.new.session c.status.result ask (rw c.new-session.ensures at c.run_script.ensures.ran) c.run_script.ensures.counts c.status.ensures
+    runs-to c.args.words.now _ _ c.args.usage.now c.run_lent.new.usage c.run_lent.result c.status.result ask c.run_lent.ensures c.status.ensures
 
 pub returns-in-Ok-Some-Run-clause-completes : goal.returns-in-Ok-Some-Run-clause-completes
 returns-in-Ok-Some-Run-clause-completes g c =
     completes c.args.words.now (devices_of (g.S.Source.left c.args.source.now) (g.K.Sink.held c.args.sink.now) (g.S.Source.faults c.args.source.now) (g.K.Sink.faults c.args.sink.now))
-    (devices_of (g.S.Source.left c.run_script.new.source) (g.K.Sink.held c.run_script.new.sink) (g.S.Source.faults c.run_script.new.source) (g.K.Sink.faults c.run_script.new.sink)) c.status.result (returns-in-Ok-Some-Run-clause-outcome g c)
+    (devices_of (g.S.Source.left c.run_lent.new.source) (g.K.Sink.held c.run_lent.new.sink) (g.S.Source.faults c.run_lent.new.source) (g.K.Sink.faults c.run_lent.new.sink)) c.args.usage.now c.run_lent.new.usage c.status.result (returns-in-Ok-Some-Run-clause-outcome g c)
 
 pub returns-in-Ok-Some-Make-clause-outcome : goal.returns-in-Ok-Some-Make-clause-outcome
 returns-in-Ok-Some-Make-clause-outcome g c =
@@ -24,19 +24,19 @@ returns-in-Ok-Some-Make-clause-outcome g c =
     makes-to c.args.words.now c.in-Ok-Some-Make.nodes c.in-Ok-Some-Make.start
     (devices_of (g.S.Source.left c.args.source.now) (g.K.Sink.held c.args.sink.now) (g.S.Source.faults c.args.source.now) (g.K.Sink.faults c.args.sink.now))
     (devices_of (g.S.Source.left c.args.source.now) (g.K.Sink.held c.make.new.sink) (g.S.Source.faults c.args.source.now) (g.K.Sink.faults c.make.new.sink))
-    c.make.result c.status-in-Ok-Some-Make.result ask refl refl c.make.ensures c.status-in-Ok-Some-Make.ensures
+    c.args.usage.now c.make.result c.status-in-Ok-Some-Make.result ask refl refl c.make.ensures c.status-in-Ok-Some-Make.ensures
 
 pub returns-in-Ok-None-clause-outcome : goal.returns-in-Ok-None-clause-outcome
 returns-in-Ok-None-clause-outcome g c =
-    runs-nothing c.args.words.now (devices_of (g.S.Source.left c.args.source.now) (g.K.Sink.held c.args.sink.now) (g.S.Source.faults c.args.source.now) (g.K.Sink.faults c.args.sink.now))
+    runs-nothing c.args.words.now (devices_of (g.S.Source.left c.args.source.now) (g.K.Sink.held c.args.sink.now) (g.S.Source.faults c.args.source.now) (g.K.Sink.faults c.args.sink.now)) c.args.usage.now
     (subst (IsTaskOf c.args.words.now) c.in-Ok-None.field-0-is c.in-Ok-None.ensures.task)
 
 pub returns-in-Ok-None-clause-completes : goal.returns-in-Ok-None-clause-completes
 returns-in-Ok-None-clause-completes g c =
     completes c.args.words.now (devices_of (g.S.Source.left c.args.source.now) (g.K.Sink.held c.args.sink.now) (g.S.Source.faults c.args.source.now) (g.K.Sink.faults c.args.sink.now))
-    (devices_of (g.S.Source.left c.args.source.now) (g.K.Sink.held c.args.sink.now) (g.S.Source.faults c.args.source.now) (g.K.Sink.faults c.args.sink.now)) 2 (returns-in-Ok-None-clause-outcome g c)
+    (devices_of (g.S.Source.left c.args.source.now) (g.K.Sink.held c.args.sink.now) (g.S.Source.faults c.args.source.now) (g.K.Sink.faults c.args.sink.now)) c.args.usage.now c.args.usage.now 2 (returns-in-Ok-None-clause-outcome g c)
 
 pub returns-in-Err-clause-outcome : goal.returns-in-Err-clause-outcome
 returns-in-Err-clause-outcome g c =
-    runs-unread c.args.words.now (devices_of (g.S.Source.left c.args.source.now) (g.K.Sink.held c.args.sink.now) (g.S.Source.faults c.args.source.now) (g.K.Sink.faults c.args.sink.now))
+    runs-unread c.args.words.now (devices_of (g.S.Source.left c.args.source.now) (g.K.Sink.held c.args.sink.now) (g.S.Source.faults c.args.source.now) (g.K.Sink.faults c.args.sink.now)) c.args.usage.now
     c.status-in-Err.result c.in-Err.ensures.refused c.status-in-Err.ensures

@@ -4,8 +4,8 @@ use Rattle.sr_run.specs.State.{State}
 use Rattle.sr_run.proofs.HandlerLemmas.{drops-told}
 use Rattle.sr_run.proofs.session.DomainSession.drop_staged.Goals as goal
 
-pub returns : goal.returns
-returns c =
+pub returns-clause-told : goal.returns-clause-told
+returns-clause-told c =
     let old : State = record { editing = c.self.inside.editor; current = c.self.inside.current } in
     record {
       told = Dropped c.drop_staged-dropped.result;

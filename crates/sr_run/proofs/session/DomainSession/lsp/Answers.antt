@@ -3,8 +3,8 @@ use Rattle.sr_run.specs.State.{State}
 use Rattle.sr_run.proofs.HandlerLemmas.{carries-weaker, pdu-told}
 use Rattle.sr_run.proofs.session.DomainSession.lsp.Goals as goal
 
-pub returns-in-Ok : goal.returns-in-Ok
-returns-in-Ok c =
+pub returns-in-Ok-clause-told : goal.returns-in-Ok-clause-told
+returns-in-Ok-clause-told c =
     let old : State = record { editing = c.self.inside.editor; current = c.self.inside.current } in
     let staged = c.stage_lsp-staged.result in
     carries-weaker (TellsStaged staged) _ _ _ _

@@ -1,0 +1,37 @@
+use Rattle.std.proofs.Common.{Ok, sym, subst}
+use Rattle.sr_run.specs.declared.session.Reply.TheVariants.{Text}
+use Rattle.sr_run.specs.State.{Session}
+use Rattle.sr_script.specs.declared.command.Command.{Command}
+use Rattle.sr_script.specs.declared.command.Command.TheVariants.{Commit, Hold, Watch, Join}
+use Rattle.sr_run.specs.Handlers.{SessionReplies}
+use Rattle.sr_run.proofs.SessionLemmas.{joined-told, kept-still, of-domain, replies-lifted, session, told-replies}
+use Rattle.sr_run.proofs.background.ScriptSession.tell.Goals as goal
+
+pub returns-in-Hold : goal.returns-in-Hold
+returns-in-Hold g c =
+    subst (λ (k : Command). SessionReplies k c.args.self.now c.hold.new.self c.args.out.now.items c.hold.new.out.items c.replied.result) (sym c.in-Hold.is)
+    (told-replies Hold _ _ _ _ c.hold.result c.replied.result c.hold.ensures c.replied.ensures)
+
+pub returns-in-Watch : goal.returns-in-Watch
+returns-in-Watch g c =
+    subst (λ (k : Command). SessionReplies k c.args.self.now c.watch.new.self c.args.out.now.items c.watch.new.out.items c.replied-in-Watch.result) (sym c.in-Watch.is)
+    (told-replies (Watch c.in-Watch.watchers c.in-Watch.rounds) _ _ _ _ c.watch.result c.replied-in-Watch.result c.watch.ensures c.replied-in-Watch.ensures)
+
+pub returns-in-Commit : goal.returns-in-Commit
+returns-in-Commit g c =
+    subst (λ (k : Command). SessionReplies k c.args.self.now c.commit.new.self c.args.out.now.items c.commit.new.out.items c.replied-in-Commit.result) (sym c.in-Commit.is)
+    (told-replies Commit _ _ _ _ c.commit.result c.replied-in-Commit.result c.commit.ensures c.replied-in-Commit.ensures)
+
+pub returns-in-Ok : goal.returns-in-Ok
+returns-in-Ok g c =
+    subst (λ (k : Command). SessionReplies k c.args.self.now c.join.new.self c.args.out.now.items c.join.new.out.items (Ok Text)) (sym c.in-Join.is)
+    (joined-told c.args.self.now c.join.new.self c.args.out.now.items c.join.new.out.items c.in-Ok.ensures)
+
+pub invariant_of-self : goal.invariant_of-self
+invariant_of-self g c = kept-still c.self.inside.domain c.tell.new.self c.self.inside.work c.tell.ensures.current c.self.invariant
+
+pub returns-in_default : goal.returns-in_default
+returns-in_default g c =
+    subst (λ (s : Session). SessionReplies c.args.command s (session c.tell.new.self c.self.inside.work c.self.inside.usage) c.args.out.now.items c.tell.new.out.items c.tell.result) c.self.view_is
+    (replies-lifted c.args.command c.self.inside.domain c.tell.new.self c.self.inside.work c.self.inside.usage c.args.out.now.items c.tell.new.out.items c.tell.result
+    (of-domain c.args.command c.in_default.not-Commit c.in_default.not-Hold c.in_default.not-Watch c.in_default.not-Join) c.self.invariant.reports c.tell.ensures.told)

@@ -1,0 +1,16 @@
+-- What the usage of stores shows of the watches of a script.
+use Rattle.std.specs.Prelude.{◌≡◌, ◌+◌, ◌-◌, ◌*◌, ◌≤◌}
+use Rattle.sr_script.specs.declared.command.TheConstants.{MOST_ROUNDS}
+use Rattle.sr_store.specs.declared.usage.Usage.{Usage}
+use Rattle.sr_run.specs.Domain.{WatchTotals}
+
+-- nothing was asked of a store yet
+abbrev pub unused : Usage
+unused = record { places = 0; given = 0; published = 0; turns = 0 }
+
+-- a place was asked for each watcher, and each commit that was accepted while a watch ran was published; all rounds
+-- were turns of readers, but those of watchers to whom no reader was given
+pub record ServesWatches (totals : WatchTotals) (usage : Usage) : Type 0 where
+  pub places : usage.places ≡ totals.places
+  pub published : usage.published ≡ totals.commits
+  pub turns : totals.rounds ≤ usage.turns + MOST_ROUNDS * (usage.places - usage.given)

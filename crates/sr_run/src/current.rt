@@ -1,0 +1,94 @@
+//! The version of the last accepted commit.
+ghost use Rattle.std.specs.Prelude.{◌≡◌, Some, None, IfOk, MatchResult};
+ghost use Rattle.std.specs.Arc.{arc_value};
+ghost use Rattle.std.specs.Option.{option_map};
+ghost use Rattle.sr_run.specs.Domain.{number_of};
+ghost use Rattle.sr_run.specs.State.{HasAudit};
+
+use sr_print::Refusal;
+use sr_repair::Version;
+use std::alloc::{AllocError, Global};
+use std::marker::Model;
+use std::sync::Arc;
+
+/// The version of the last accepted commit, where there is one. Background work shares it. Contracts see the version
+/// alone.
+#[derive(Drop)]
+pub(crate) struct CurrentVersion {
+    shared: Option<Arc<Version>>,
+}
+
+impl Model for CurrentVersion {
+    ghost use Rattle.std.specs.declared.option.Option.{Option};
+    ghost use Rattle.std.specs.Option.{option_map};
+    ghost use Rattle.std.specs.Arc.{arc_value};
+    ghost use Rattle.sr_repair.specs.Version.{NumberedNet};
+
+    ghost Value = { Option NumberedNet };
+
+    ghost view = { λ c. option_map (λ a. arc_value a) c.shared };
+}
+
+impl CurrentVersion {
+    /// There is none before the first commit.
+    pub(crate) fn none() -> CurrentVersion
+        ensures { result ≡ None }
+    {
+        CurrentVersion { shared: None }
+    }
+
+    /// This version, to be shared. Fails only out of memory.
+    pub(crate) fn new(alloc: Global, version: Version) -> Result<CurrentVersion, AllocError>
+        ensures { IfOk result (λ current. current ≡ Some version) }
+    {
+        match Arc::new(alloc, version) {
+            Ok(shared) => Ok(CurrentVersion {
+                shared: Some(shared),
+            }),
+            Err(_) => Err(AllocError),
+        }
+    }
+
+    /// Another share of the version, where there is one. Fails only out of memory.
+    pub(crate) fn share(&self) -> Result<Option<Arc<Version>>, AllocError>
+        ensures { IfOk result (λ found. option_map (λ a. arc_value a) found ≡ self.now) }
+    {
+        match &self.shared {
+            Some(shared) => match Arc::try_clone(shared) {
+                Ok(share) => Ok(Some(share)),
+                Err(wanting) => Err(wanting),
+            },
+            None => Ok(None),
+        }
+    }
+}
+
+/// The version of the last commit, or the refusal where nothing was committed yet.
+pub(crate) fn last_version(current: &CurrentVersion) -> Result<&Version, Refusal>
+    ensures { MatchResult result
+        (λ version. current.now ≡ Some version.now)
+        (λ reason. (current.now ≡ None) × (reason ≡ Refusal.NoVersion)) }
+{
+    match &current.shared {
+        Some(shared) => Ok(&**shared),
+        None => Err(Refusal::NoVersion),
+    }
+}
+
+/// Tells that the version has an audit.
+pub(crate) fn has_audit(version: &Version)
+    ensures { HasAudit version.now }
+{
+    let _net = version.net();
+    version.is_answered();
+}
+
+/// The number of the last version, and 0 before the first.
+pub(crate) fn last_number(current: &CurrentVersion) -> u32
+    ensures { result ≡ number_of current.now }
+{
+    match &current.shared {
+        Some(shared) => shared.number(),
+        None => 0,
+    }
+}
