@@ -16,8 +16,10 @@ IsItemOf n case item = IsItem n item × (item.case ≡ case)
 -- the audit of one case: each destination that it affects once, ascending
 pub record IsCaseAudit (n : Net) (case : Case) (items : List Item) : Type 0 where
   pub each : (k : ℕ) (item : Item) → slice_get items k ≡ Some item → IsItemOf n case item
-  pub ascending : (j k : ℕ) (a b : Item) → j < k → slice_get items j ≡ Some a → slice_get items k ≡ Some b → a.dest.0 < b.dest.0
-  pub all : (d : ℕ) → IsAffected n case d → (k : ℕ) × (item : Item) × (slice_get items k ≡ Some item) × (item.dest.0 ≡ d)
+  pub ascending : (j k : ℕ) (a b : Item) → j < k → slice_get items j ≡ Some a → slice_get items k ≡ Some b
+      → a.dest.0 < b.dest.0
+  pub all : (d : ℕ) → IsAffected n case d
+      → (k : ℕ) × (item : Item) × (slice_get items k ≡ Some item) × (item.dest.0 ≡ d)
 
 -- the audit of the case at this place, with at most as many items as a graph may have nodes
 pub record IsAuditAt (n : Net) (place : ℕ) (items : List Item) : Type 0 where
@@ -29,13 +31,16 @@ pub record IsAuditAt (n : Net) (place : ℕ) (items : List Item) : Type 0 where
 
 -- the item is there, with this case and destination
 abbrev pub HasItem : List Item → Case → ℕ → Type 0
-HasItem items case d = (k : ℕ) × (item : Item) × (slice_get items k ≡ Some item) × (item.case ≡ case) × (item.dest.0 ≡ d)
+HasItem items case d =
+    (k : ℕ) × (item : Item) × (slice_get items k ≡ Some item) × (item.case ≡ case) × (item.dest.0 ≡ d)
 
 -- the audit of the cases from place m on, before place k
 pub record AreBetween (n : Net) (m k : ℕ) (items : List Item) : Type 0 where
-  pub each : (i : ℕ) (item : Item) → slice_get items i ≡ Some item → IsItem n item × (m ≤ place_of n.graph item.case) × (place_of n.graph item.case < k)
+  pub each : (i : ℕ) (item : Item) → slice_get items i ≡ Some item
+      → IsItem n item × (m ≤ place_of n.graph item.case) × (place_of n.graph item.case < k)
   pub ascending : (i j : ℕ) (a b : Item) → i < j → slice_get items i ≡ Some a → slice_get items j ≡ Some b → ItemLt a b
-  pub all : (case : Case) (d : ℕ) → IsCase n.graph case → m ≤ place_of n.graph case → place_of n.graph case < k → IsAffected n case d → HasItem items case d
+  pub all : (case : Case) (d : ℕ) → IsCase n.graph case → m ≤ place_of n.graph case → place_of n.graph case < k
+      → IsAffected n case d → HasItem items case d
 
 -- the lists are the audits of the cases at k places from m on
 abbrev pub AreAuditsAt : Net → ℕ → ℕ → List (Vec Item) → Type 0

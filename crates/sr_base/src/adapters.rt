@@ -107,7 +107,8 @@ impl<T: Write> Sink for StdSink<T> {
     /// stays at its last value 2^64 - 1. The sink takes no memory of its own, so each fault is `Failed`.
     fn write(&mut self, piece: &[u8]) -> Result<usize, SinkFault>
         requires { 0 < length piece.now }
-        ensures wrote { WritesPiece (T.contents self.old.inner) (T.contents self.new.inner) self.old.faults self.new.faults piece.now result }
+        ensures wrote { WritesPiece (T.contents self.old.inner) (T.contents self.new.inner)
+            self.old.faults self.new.faults piece.now result }
         ensures raises { RaisesAtFailed self.old.faults self.new.faults result }
         ensures failed { IfErr result (λ fault. fault ≡ SinkFault.Failed) }
     {

@@ -143,7 +143,8 @@ impl Sink for MemorySink {
 
     fn write(&mut self, piece: &[u8]) -> Result<usize, SinkFault>
         requires { 0 < length piece.now }
-        ensures wrote { WritesPiece (Some self.old.held) (Some self.new.held) self.old.faults self.new.faults piece.now result }
+        ensures wrote { WritesPiece (Some self.old.held) (Some self.new.held)
+            self.old.faults self.new.faults piece.now result }
         ensures stores { Stores self.old self.new piece.now result }
     {
         let call = self.calls;

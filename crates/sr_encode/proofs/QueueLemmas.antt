@@ -12,6 +12,7 @@ use Rattle.sr_lanes.specs.declared.words.NodeBits.{NodeBits}
 use Rattle.sr_lanes.specs.Bits.{is_in, IsWithout}
 use Rattle.sr_model.specs.Walk.{IsRow}
 use Rattle.sr_model.specs.Repair.{Path}
+use Rattle.sr_laws.proofs.Answers.{path_is}
 use Rattle.sr_laws.proofs.Order.{push}
 use Rattle.sr_laws.proofs.Exact.{IsExact, Knows}
 use Rattle.sr_encode.specs.declared.waypoint.Waypoint.{Waypoint}
@@ -129,9 +130,6 @@ agrees-push known order queue unmet less v a t r within fresh taken node parent 
           (cases_eq w v);
     }
 
-path-same : (a b : Path) → a.first ≡ b.first → a.segments ≡ b.segments → a ≡ b
-path-same a b f s = let q : record { first = a.first; segments = a.segments } ≡ record { first = b.first; segments = b.segments } = rw (f, s) refl in q
-
 -- the list of a waypoint that is met from another is its list with a segment more
 from-path : (queue : List Waypoint) (i : ℕ) (v : NodeNo) (t : Segment) → AreParents queue → i < length queue
     → path_to (queue ++ met_from queue i v t ∷ []) (length queue) ≡ push (path_to queue i) t
@@ -144,7 +142,7 @@ from-path queue i v t p lt =
     (let all : segments_to (queue ++ met_from queue i v t ∷ []) (waypoint_at queue i).depth (waypoint_at (queue ++ met_from queue i v t ∷ []) (length queue)).parent ++ (waypoint_at (queue ++ met_from queue i v t ∷ []) (length queue)).segment ∷ [] ≡ segments_to queue (waypoint_at queue i).depth i ++ t ∷ [] = rw (last, before) refl in all) in
     let segments : segments_to (queue ++ met_from queue i v t ∷ []) (waypoint_at (queue ++ met_from queue i v t ∷ []) (length queue)).depth (length queue) ≡ segments_to queue (waypoint_at queue i).depth i ++ t ∷ [] =
     subst (λ (w : Waypoint). segments_to (queue ++ met_from queue i v t ∷ []) w.depth (length queue) ≡ segments_to queue (waypoint_at queue i).depth i ++ t ∷ []) (sym last) (subst (λ k. segments_to (queue ++ met_from queue i v t ∷ []) k (length queue) ≡ segments_to queue (waypoint_at queue i).depth i ++ t ∷ []) (sym deep) last_segments) in
-    path-same (path_to (queue ++ met_from queue i v t ∷ []) (length queue)) (push (path_to queue i) t) (ap (λ (w : Waypoint). w.first.0) last) segments
+    path_is (path_to (queue ++ met_from queue i v t ∷ []) (length queue)) (push (path_to queue i) t) (ap (λ (w : Waypoint). w.first.0) last) segments
 
 first-path : (queue : List Waypoint) (l : LinkNo) (v : NodeNo) → path_to (queue ++ met_first l v ∷ []) (length queue) ≡ record { first = l.0; segments = [] }
 first-path queue l v =

@@ -20,6 +20,7 @@ use Rattle.sr_model.specs.Table.{leaves, AreHops, IsEntry, HasNoStep}
 use Rattle.sr_laws.proofs.Delivery.{same_node, not_adj}
 use Rattle.sr_laws.proofs.Entries.{entry-steps}
 use Rattle.sr_laws.proofs.Places.{filter-place, filter-order}
+use Rattle.sr_laws.proofs.Arrivals.{step_opens}
 use Rattle.sr_forward.specs.Choices.{open_hops, chosen_hop}
 use Rattle.sr_forward.specs.Steps.{IsAction, HasNoAction}
 
@@ -102,13 +103,8 @@ node-action n r closed choice u t b hops l out is picked =
     )
 
 -- ---- where nothing is done
-step-opens : (n : Net) (closed : List Bool) (u : ℕ) (stack : List ℕ) (m : Move) (v : ℕ) (after : List ℕ) → Step n closed u stack m v after → Step n [] u stack m v after
-step-opens n closed u [] m v after s = absurd s
-step-opens n closed u (t ∷ rest) Popped v after s = s
-step-opens n closed u (t ∷ rest) (Crossed l) v after s = (s.0, refl, s.2, s.3, s.4)
-
 pub none-idle : (n : Net) (closed : List Bool) (u t : ℕ) → HasNoStep n u t → HasNoAction n closed u t
-none-idle n closed u t none = λ rest m v after s. none rest m v after (step-opens n closed u (t ∷ rest) m v after s)
+none-idle n closed u t none = λ rest m v after s. none rest m v after (step_opens n closed u (t ∷ rest) m v after s)
 
 -- where none is picked no hop is open
 no_open : (hops : List (LinkNo × Out)) (choice : ℕ) → None ≡ slice_get hops (choice % length hops) → (j : ℕ) (h : LinkNo × Out) → slice_get hops j ≡ Some h → ⊥
@@ -121,7 +117,7 @@ no_open hops choice none j h e =
 pub node-idle : (n : Net) → IsNet n → (closed : List Bool) (choice u t : ℕ) (b : NodeNo) (hops : List (LinkNo × Out)) → IsEntry n u t (Node b hops) → None ≡ chosen_hop closed choice hops → (rest : List ℕ) (m : Move) (v : ℕ) (after : List ℕ) → Step n closed u (t ∷ rest) m v after → ⊥
 node-idle n r closed choice u t b hops is none rest Popped v after s = (entry-steps n r u t (Node b hops) is rest Popped v after).0 s
 node-idle n r closed choice u t b hops is none rest (Crossed l) v after s =
-    let a = (entry-steps n r u t (Node b hops) is rest (Crossed l) v after).0 (step-opens n closed u (t ∷ rest) (Crossed l) v after s) in
+    let a = (entry-steps n r u t (Node b hops) is rest (Crossed l) v after).0 (step_opens n closed u (t ∷ rest) (Crossed l) v after s) in
     let passes : is_open closed a.1 ≡ true = ap not (ap (has closed) a.3 ∙ s.1) in
     let j = filter-place (is_open closed) hops a.0 a.1 a.2 passes in
     no_open (open_hops closed hops) choice none j.0 a.1 j.1

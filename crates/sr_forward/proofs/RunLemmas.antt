@@ -12,6 +12,7 @@ use Rattle.sr_model.specs.Rule.{IsNet}
 use Rattle.sr_model.specs.Forward.{Step, StepBy, RunBy, AreLawful, IsChosen, IsWalked, crossed}
 use Rattle.sr_laws.proofs.Arrivals.{packet-arrives, sound-arrives}
 use Rattle.sr_fib.specs.Entries.{numbers}
+use Rattle.sr_laws.proofs.Arrivals.{crossed_push}
 use Rattle.sr_forward.specs.Runs.{IsMove, PacketArrives, RepairArrives}
 
 -- the packet took `turn` steps by the choice number, crossed these links, and is at node v with the stack `after`
@@ -21,11 +22,6 @@ pub record IsUnderWay (n : Net) (closed : List Bool) (choice u : ℕ) (stack : L
   pub long : length moves ≡ turn
   pub crosses : crossed moves ≡ links
   pub within : v < node_count n.graph
-
-crossed-push : (ms : List Move) (m : Move) → crossed (ms ++ m ∷ []) ≡ crossed ms ++ crossed (m ∷ [])
-crossed-push [] m = refl
-crossed-push (Popped ∷ ms) m = crossed-push ms m
-crossed-push (Crossed l ∷ ms) m = ap (λ xs. l.0 ∷ xs) (crossed-push ms m)
 
 run-push : (n : Net) (closed : List Bool) (choice u : ℕ) (stack : List ℕ) (ms : List Move) (v : ℕ) (after : List ℕ) (m : Move) (w : ℕ) (next : List ℕ) → RunBy n closed choice u stack ms v after → StepBy n closed choice v after m w next → RunBy n closed choice u stack (ms ++ m ∷ []) w next
 run-push n closed choice u stack [] v after m w next run step =
@@ -39,7 +35,7 @@ under-way-more n closed choice u stack turn links v after m w next more way step
   moves = way.moves ++ m ∷ [];
   run = run-push n closed choice u stack way.moves v after m w next way.run step;
   long = length-append way.moves (m ∷ []) ∙ ap (λ k. k + 1) way.long;
-  crosses = crossed-push way.moves m ∙ ap (λ xs. xs ++ crossed (m ∷ [])) way.crosses ∙ sym is;
+  crosses = crossed_push way.moves m ∙ ap (λ xs. xs ++ crossed (m ∷ [])) way.crosses ∙ sym is;
   within = within;
 }
 

@@ -62,13 +62,13 @@ pub fn walk(
     ensures walked { IfOk result (λ w. IsWalked net.now closed.now choice node.0
         (reverse stack.items) (node_count net.now.graph * (vec_len stack + 2))
         (numbers w.links.items) w.end.0 (reverse w.rest.items)) }
-    ensures packet { IfOk result (λ w. PacketArrives net.now closed.now node.0
+    ensures arrives { IfOk result (λ w.
+        PacketArrives net.now closed.now node.0
+        (reverse stack.items) (numbers w.links.items) w.end.0 (reverse w.rest.items)
+        × RepairArrives net.now closed.now node.0
         (reverse stack.items) (numbers w.links.items) w.end.0 (reverse w.rest.items)) }
-    ensures repaired { IfOk result (λ w. RepairArrives net.now closed.now node.0
-        (reverse stack.items) (numbers w.links.items) w.end.0 (reverse w.rest.items)) }
-    ensures end { IfOk result (λ w. w.end.0 < node_count net.now.graph) }
-    ensures links { IfOk result
-        (λ w. All (λ (l : Number). l.0 < link_count net.now.graph) w.links.items) }
+    ensures within { IfOk result (λ w. (w.end.0 < node_count net.now.graph)
+        × All (λ (l : Number). l.0 < link_count net.now.graph) w.links.items) }
 {
     let turns = net.graph().node_count() as u128 * (stack.len() as u128 + 2);
     let mut links = Vec::new(alloc);

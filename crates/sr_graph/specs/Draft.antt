@@ -64,7 +64,8 @@ NoneTwice links = (key : LinkKey) → IsTwice links key → ⊥
 abbrev pub IsRefusal : List ℕ → List DraftLink → GraphFault → Type 0
 IsRefusal nodes links (ZeroMetric from to) = AreLeast (HasZero links) from to
 IsRefusal nodes links (DuplicateLink from to) = NoZero links × AreLeast (IsTwice links) from to
-IsRefusal nodes links (TooManyNodes count) = NoZero links × NoneTwice links × (MOST_NODES < count) × (count ≡ length nodes)
+IsRefusal nodes links (TooManyNodes count) =
+    NoZero links × NoneTwice links × (MOST_NODES < count) × (count ≡ length nodes)
 IsRefusal nodes links (TooManyLinks count) =
     NoZero links × NoneTwice links × (length nodes ≤ MOST_NODES) × (MOST_LINKS < count) × (count ≡ length links)
 IsRefusal nodes links (Memory fault) = Unit {0}

@@ -79,7 +79,7 @@ pub(crate) fn find(links: &[Link], key: &LinkKey) -> Option<LinkNo>
 
 /// Links with their ends by number, and the groups of each.
 #[derive(Drop)]
-pub(crate) struct Numbered {
+pub(crate) struct NumberedLinks {
     pub(crate) links: Vec<Link>,
     pub(crate) groups: Vec<Seq<u32>>,
 }
@@ -89,7 +89,7 @@ pub(crate) fn number_all(
     alloc: Global,
     systems: &[SystemId],
     drafted: Vec<DraftLink>,
-) -> Result<Numbered, AllocError>
+) -> Result<NumberedLinks, AllocError>
     requires ascending { IsStrictlyIncreasing systems.now }
     requires few { length systems.now ≤ MOST_NODES }
     requires ends { All (HasEnds systems.now) drafted.items }
@@ -113,5 +113,5 @@ pub(crate) fn number_all(
         })?;
         groups.push(link.groups)?;
     }
-    Ok(Numbered { links, groups })
+    Ok(NumberedLinks { links, groups })
 }

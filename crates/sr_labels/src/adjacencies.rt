@@ -34,7 +34,7 @@ fn is_repeated(list: &[AdjLabel], place: usize) -> bool
 }
 
 /// The same labels in order of node and then of label.
-fn in_order(alloc: Global, adj: &[AdjLabel]) -> Result<Vec<AdjLabel>, AllocError>
+fn sorted_labels(alloc: Global, adj: &[AdjLabel]) -> Result<Vec<AdjLabel>, AllocError>
     ensures same { IfOk result (λ list. IsPermutation adj.now list.items) }
     ensures order { IfOk result (λ list. AreInOrder list.items) }
 {
@@ -68,6 +68,6 @@ pub(crate) fn first_adj_clash(
     requires { AreOfNodes (length nodes.now) adj.now }
     ensures { IfOk result (λ found. MatchOption found (NoAdjClash nodes.now adj.now) (IsLeastClash nodes.now adj.now)) }
 {
-    let list = in_order(alloc, adj)?;
+    let list = sorted_labels(alloc, adj)?;
     Ok(first_in_order(nodes, &list))
 }

@@ -22,7 +22,7 @@ fn joins(key: &LinkKey, from: SystemId, to: SystemId) -> bool
 }
 
 /// The place of the first key whose ends don't come before these.
-fn start(keys: &[LinkKey], from: SystemId, to: SystemId) -> usize
+fn first_between(keys: &[LinkKey], from: SystemId, to: SystemId) -> usize
     requires { Ascend keys.now }
     ensures within { result ≤ length keys.now }
     ensures before { (k : ℕ) (d : Key) → k < result → is_before from to (slice_index_or keys.now k d) ≡ true }
@@ -40,7 +40,7 @@ pub(crate) fn named(keys: &[LinkKey], from: SystemId, to: SystemId, n: u64) -> O
     if n == 0 {
         return None;
     }
-    let first = start(keys, from, to);
+    let first = first_between(keys, from, to);
     if n - 1 >= (keys.len() - first) as u64 {
         return None;
     }
@@ -57,7 +57,7 @@ pub(crate) fn place(keys: &[LinkKey], key: &LinkKey) -> u64
     requires there { Hold keys.now key.now }
     ensures { IsPlace keys.now key.now result }
 {
-    let first = start(keys, key.from, key.to);
+    let first = first_between(keys, key.from, key.to);
     match keys.binary_search(key) {
         Ok(at) => (at - first) as u64 + 1,
         Err(_) => 0,

@@ -48,9 +48,21 @@ impl Net {
         depth: u8,
     ) -> Net
         requires { IsAccepted
-            (record { graph = graph; labels = nodes.items; adj = adj.items; announced = announced.items; depth = depth }) }
+            (record {
+              graph = graph;
+              labels = nodes.items;
+              adj = adj.items;
+              announced = announced.items;
+              depth = depth;
+            }) }
         ensures { result
-            ≡ record { graph = graph; labels = nodes.items; adj = adj.items; announced = announced.items; depth = depth } }
+            ≡ record {
+              graph = graph;
+              labels = nodes.items;
+              adj = adj.items;
+              announced = announced.items;
+              depth = depth;
+            } }
     {
         Net {
             graph,

@@ -1,5 +1,6 @@
 -- Where no rule on labels is broken, labels tell the net what to do.
 use Rattle.std.proofs.Common.{◌≡◌, ℕ, zero, suc, ◌<◌, ◌≤◌, ⊎_elim, inl, inr, List, [], ◌∷◌, length, refl, arith, ap, sym, ◌∙◌, subst, Option, Some, None}
+use Rattle.std.proofs.lemmas.Option.{same_Some}
 use Rattle.std.specs.Prelude.{slice_index_or}
 use Rattle.std.proofs.lemmas.Bool.{cases_lt, cases_order}
 use Rattle.sr_model.specs.Graph.{link_count, no_link, node_count, tail}
@@ -8,9 +9,6 @@ use Rattle.sr_model.specs.Rule.{IsAccepted, NoDuplicate, NoOutside, IsNet, NoAdj
 use Rattle.sr_model.specs.declared.label.AdjLabel.{AdjLabel}
 use Rattle.sr_model.specs.declared.link.Link.{Link}
 use Rattle.sr_laws.proofs.Ranges.{good, label-one, label-within}
-
-some_inj : {A : Type 0} {a b : A} → Some a ≡ Some b → a ≡ b
-some_inj e = cc
 
 some_of : (o : Option ℕ) → (o ≡ None → ⊥) → (t : ℕ) × (o ≡ Some t)
 some_of None h = absurd (h refl)
@@ -29,7 +27,7 @@ at-place [] labels l t lt e = absurd (omega arith)
 at-place (k ∷ ks) [] l t lt e = absurd {0} (cc)
 at-place (k ∷ ks) (None ∷ labels) zero t lt e = absurd {0} (cc)
 at-place (k ∷ ks) (None ∷ labels) (suc l) t lt e = at-place ks labels l t (omega arith) e
-at-place (k ∷ ks) (Some s ∷ labels) zero t lt e = (omega arith, ap (λ n. record { node = k.from.0; label = n }) (some_inj e))
+at-place (k ∷ ks) (Some s ∷ labels) zero t lt e = (omega arith, ap (λ n. record { node = k.from.0; label = n }) (same_Some _ _ e))
 at-place (k ∷ ks) (Some s ∷ labels) (suc l) t lt e =
     let r = at-place ks labels l t (omega arith) e in
     (omega arith, r.1)

@@ -40,7 +40,8 @@ segments_total (a ∷ ps) (b ∷ bs) e =
     rest)
     (segment_total a b)
 
-path_is : (a b : Path) → a.first ≡ b.first → a.segments ≡ b.segments → a ≡ b
+-- lists with the same first link and segments are the same
+pub path_is : (a b : Path) → a.first ≡ b.first → a.segments ≡ b.segments → a ≡ b
 path_is a b f s = let q : record { first = a.first; segments = a.segments } ≡ record { first = b.first; segments = b.segments } = rw (f, s) refl in q
 
 -- of two lists one comes first, or they are the same

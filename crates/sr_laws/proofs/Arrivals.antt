@@ -20,7 +20,7 @@ no_empty : (n : Net) (x : List Bool) (u : ℕ) (stack : List ℕ) (m : Move) (v 
 no_empty n x u stack m v after s e = subst (λ (st : List ℕ). Step n x u st m v after) e s
 
 -- what is lawful with links closed is lawful
-step_opens : (n : Net) (x : List Bool) (u : ℕ) (stack : List ℕ) (m : Move) (v : ℕ) (after : List ℕ) → Step n x u stack m v after → Step n [] u stack m v after
+pub step_opens : (n : Net) (x : List Bool) (u : ℕ) (stack : List ℕ) (m : Move) (v : ℕ) (after : List ℕ) → Step n x u stack m v after → Step n [] u stack m v after
 step_opens n x u [] m v after s = absurd s
 step_opens n x u (t ∷ rest) Popped v after s = s
 step_opens n x u (t ∷ rest) (Crossed l) v after s = (s.0, refl, s.2, s.3, s.4)
@@ -38,7 +38,8 @@ run_more n u stack [] v after m w next r s =
     (w, next, no_empty n [] u stack m w next s', s', (refl, refl))
 run_more n u stack (p ∷ ms) v after m w next r s = (r.0, r.1, r.2, r.3, run_more n r.0 r.1 ms v after m w next r.4 s)
 
-crossed_push : (ms : List Move) (m : Move) → crossed (ms ++ m ∷ []) ≡ crossed ms ++ crossed (m ∷ [])
+-- the links that are crossed by one move more
+pub crossed_push : (ms : List Move) (m : Move) → crossed (ms ++ m ∷ []) ≡ crossed ms ++ crossed (m ∷ [])
 crossed_push [] m = refl
 crossed_push (Popped ∷ ms) m = crossed_push ms m
 crossed_push (Crossed l ∷ ms) m = ap (λ xs. l.0 ∷ xs) (crossed_push ms m)

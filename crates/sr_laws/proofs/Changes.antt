@@ -12,7 +12,7 @@ use Rattle.sr_model.specs.Case.{key_at}
 use Rattle.sr_model.specs.Stay.{HaveSameNodes, HaveSameName, IsChanged, IsIdle, HaveSamePairs, IsOfFailedPair}
 use Rattle.sr_laws.proofs.Keys.{IsSameLink, IsPairSet, nodes-same, nodes-sym, system-one, same-link, pair-sym, pair-trans}
 use Rattle.sr_walks.proofs.Rows.{IsIdleLink, Keeps}
-use Rattle.sr_laws.proofs.Parts.{key_is}
+use Rattle.sr_model.proofs.KeyOrderLemmas.{key-parts}
 
 ident_cases : (a b : Ident) → (a ≡ b) ⊎ (a ≢ b)
 ident_cases None None = inl refl
@@ -39,7 +39,7 @@ key-cases a b =
     ⊎_elim
     (λ (f : a.from ≡ b.from). ⊎_elim
     (λ (t : a.to ≡ b.to). ⊎_elim
-    (λ i. inl (key_is a b f t i))
+    (λ i. inl (key-parts a b f t i))
     (λ i. inr (λ e. i (ap (λ j. j.ident) e)))
     (ident_cases a.ident b.ident))
     (λ (t : a.to ≢ b.to). inr (λ e. t (ap (λ j. j.to) e)))

@@ -1,5 +1,6 @@
 -- A choice number has one step and one walk.
 use Rattle.std.proofs.Common.{◌≡◌, ℕ, ◌%◌, ◌<◌, ◌≤◌, ⊎_elim, Bool, List, [], ◌∷◌, length, refl, arith, ap, sym, ◌∙◌, subst, Some}
+use Rattle.std.proofs.lemmas.Option.{same_Some}
 use Rattle.std.specs.Prelude.{slice_get}
 use Rattle.std.proofs.lemmas.Bool.{cases_order}
 use Rattle.sr_model.specs.declared.link.LinkNo.{LinkNo}
@@ -13,9 +14,6 @@ use Rattle.sr_laws.proofs.Delivery.{same_node, not_null, not_adj}
 use Rattle.sr_laws.proofs.Stacks.{crossing-same}
 use Rattle.sr_laws.proofs.Ascending.{ascending-one}
 use Rattle.sr_laws.proofs.Parts.{link_is}
-
-some_inj : {A : Type 0} {a b : A} → Some a ≡ Some b → a ≡ b
-some_inj e = cc
 
 lawful_among : (n : Net) (x : List Bool) (u b : ℕ) (ls ks : List ℕ) → AreLawful n x u b ls → AreLawful n x u b ks → (i l : ℕ) → slice_get ls i ≡ Some l → (j : ℕ) × (slice_get ks j ≡ Some l)
 lawful_among n x u b ls ks p q i l is = let h = p.each i l is in q.all l h.0 h.1
@@ -56,7 +54,7 @@ cross_one n r x choice u t rest l k v w after next p q =
     let two = q.1 node.0 node.1 node.2 in
     let same : one.0 ≡ two.0 = lawful-one n x u node.0 one.0 two.0 one.1 two.1 in
     let pick : slice_get one.0 (choice % length one.0) ≡ Some k.0 = subst (λ (ls : List ℕ). slice_get ls (choice % length ls) ≡ Some k.0) (sym same) two.3 in
-    let link : l.0 ≡ k.0 = some_inj (sym one.3 ∙ pick) in
+    let link : l.0 ≡ k.0 = same_Some _ _ (sym one.3 ∙ pick) in
     let cross : Crossing n node.0 (head n.graph l.0) rest next = subst (λ b. Crossing n b (head n.graph l.0) rest next) (sym e) (subst (λ j. Crossing n node'.0 (head n.graph j) rest next) (sym link) node'.4) in
     (link, crossing-same n node.0 (head n.graph l.0) rest after next node.4 cross))
     q.0.4)

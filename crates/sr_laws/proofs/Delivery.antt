@@ -1,5 +1,6 @@
 -- Every run from a sound list's stack follows a shortest walk without the failed links.
 use Rattle.std.proofs.Common.{◌≡◌, ◌≢◌, ℕ, ◌+◌, ◌*◌, ◌<◌, ◌≤◌, ◌⊎◌, ⊎_elim, inl, inr, Bool, true, false, List, [], ◌∷◌, ◌++◌, length, append_assoc, append-nil, refl, arith, ap, sym, ◌∙◌, subst, Some}
+use Rattle.std.proofs.lemmas.Option.{same_Some}
 use Rattle.std.proofs.lemmas.List.Elements.{All-nil, All-head, All-tail}
 use Rattle.std.proofs.lemmas.Bool.{cases_eq}
 use Rattle.std.proofs.lemmas.List.{length-append}
@@ -122,9 +123,6 @@ pub record Crosses (n : Net) (x : List Bool) (d u l : ℕ) (ts : List ℕ) (c : 
 abbrev pub Goes : Net → List Bool → ℕ → ℕ → List ℕ → ℕ → Move → ℕ → List ℕ → List ℕ → Type 0
 Goes n x d u ts c Popped w after rest = Pops n x d u ts c w after rest
 Goes n x d u ts c (Crossed l) w after rest = Crosses n x d u l.0 ts c w after rest
-
-some_inj : {A : Type 0} {a b : A} → Some a ≡ Some b → a ≡ b
-some_inj e = cc
 
 -- two nodes of one label at u are one
 pub same_node : (n : Net) (r : IsNet n) (u a b t : ℕ) → IsLabel n u a t → IsLabel n u b t → a ≡ b

@@ -7,7 +7,7 @@ use Rattle.sr_model.specs.declared.name.LinkKey.{LinkKey}
 use Rattle.sr_model.specs.declared.name.PairKey.{PairKey}
 use Rattle.sr_model.specs.Key.{mirror, turned, pair_of, IsSamePair}
 use Rattle.sr_laws.proofs.Keys.{turned_twice}
-use Rattle.sr_laws.proofs.Parts.{key_is}
+use Rattle.sr_model.proofs.KeyOrderLemmas.{key-parts}
 
 -- the pair of a link, told whether its lower end comes first
 abbrev pair_when : Bool → LinkKey → PairKey
@@ -30,10 +30,10 @@ pub pair-same : (a b : LinkKey) → pair_of a ≡ pair_of b → IsSamePair a b
 pair-same a b = by (nat_le a.from a.to) (nat_le b.from b.to)
   where
     by : (p q : Bool) → pair_when p a ≡ pair_when q b → IsSamePair a b
-    by true true e = inl (key_is a b (ap (λ r. r.low) e) (ap (λ r. r.high) e) (ap (λ r. r.ident) e))
-    by true false e = inr (key_is a (mirror b) (ap (λ r. r.low) e) (ap (λ r. r.high) e) (ap (λ r. r.ident) e))
-    by false true e = inr (key_is a (mirror b) (ap (λ r. r.high) e) (ap (λ r. r.low) e) (sym (turned_twice a.ident) ∙ ap (λ r. turned r.ident) e))
-    by false false e = inl (key_is a b (ap (λ r. r.high) e) (ap (λ r. r.low) e) (sym (turned_twice a.ident) ∙ ap (λ r. turned r.ident) e ∙ turned_twice b.ident))
+    by true true e = inl (key-parts a b (ap (λ r. r.low) e) (ap (λ r. r.high) e) (ap (λ r. r.ident) e))
+    by true false e = inr (key-parts a (mirror b) (ap (λ r. r.low) e) (ap (λ r. r.high) e) (ap (λ r. r.ident) e))
+    by false true e = inr (key-parts a (mirror b) (ap (λ r. r.high) e) (ap (λ r. r.low) e) (sym (turned_twice a.ident) ∙ ap (λ r. turned r.ident) e))
+    by false false e = inl (key-parts a b (ap (λ r. r.high) e) (ap (λ r. r.low) e) (sym (turned_twice a.ident) ∙ ap (λ r. turned r.ident) e ∙ turned_twice b.ident))
 
 pub pair-agrees : (a b : LinkKey) → a.from ≢ a.to → b.from ≢ b.to → (IsSamePair a b → pair_of a ≡ pair_of b) × (pair_of a ≡ pair_of b → IsSamePair a b)
 pair-agrees a b _ differ = (same-pair a b differ, pair-same a b)

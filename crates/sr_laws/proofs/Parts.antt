@@ -12,12 +12,6 @@ link_is a b e = let q : record { 0 = a.0 } ≡ record { 0 = b.0 } = rw e refl in
 pub node_is : (a b : NodeNo) → a.0 ≡ b.0 → a ≡ b
 node_is a b e = let q : record { 0 = a.0 } ≡ record { 0 = b.0 } = rw e refl in q
 
--- keys of the same nodes with the same identity are the same
-pub key_is : (a b : LinkKey) → a.from ≡ b.from → a.to ≡ b.to → a.ident ≡ b.ident → a ≡ b
-key_is a b f t i =
-    let q : record { from = a.from; to = a.to; ident = a.ident } ≡ record { from = b.from; to = b.to; ident = b.ident } = rw (f, t, i) refl in
-    q
-
 -- a test is true or false
 pub true_or : (b : Bool) → (b ≡ true) ⊎ (b ≡ false)
 true_or true = inl refl

@@ -1,5 +1,6 @@
 -- The test of keys is their order, and a key has one place among those announced.
 use Rattle.std.proofs.Common.{◌≡◌, ℕ, zero, suc, ◌+◌, ◌-◌, ◌<◌, ◌⊎◌, ⊎_elim, inl, inr, Bool, true, false, cond, List, [], ◌∷◌, refl, arith, ap, ◌∙◌, Option, Some, None, eq-eqb}
+use Rattle.std.proofs.lemmas.Option.{same_Some}
 use Rattle.std.specs.Prelude.{slice_get, filter, nat_lt, ◌==◌, ◌&&◌, if◌then◌else◌}
 use Rattle.std.specs.declared.cmp.Ordering.{Ordering}
 use Rattle.std.specs.declared.cmp.Ordering.TheVariants.{Less, Equal, Greater}
@@ -22,9 +23,6 @@ equal-from Greater e = absurd {0} (cc)
 pub key-told : (a b : LinkKey) → (same_key a b ≡ true → a ≡ b) × (a ≡ b → same_key a b ≡ true)
 key-told a b = (λ e. key-from_cmp a b (equal-from (key_cmp a b) e), λ e. ap is_eq (key_cmp-same a b e))
 
-some_inj : {A : Type 0} {a b : A} → Some a ≡ Some b → a ≡ b
-some_inj e = cc
-
 -- ---- what a filter keeps stands in the same order
 module _ {A : Type 0} where
   kept : (b : Bool) (y : A) (fs : List A) (j : ℕ) (v : A) → slice_get fs j ≡ Some v → (k : ℕ) × (slice_get (cond b (y ∷ fs) fs) k ≡ Some v)
@@ -34,7 +32,7 @@ module _ {A : Type 0} where
   pub filter-place : (f : A → Bool) (xs : List A) (i : ℕ) (v : A) → slice_get xs i ≡ Some v → f v ≡ true → (j : ℕ) × (slice_get (filter f xs) j ≡ Some v)
   filter-place f [] i v e t = absurd {0} (cc)
   filter-place f (y ∷ ys) zero v e t =
-      let same : y ≡ v = some_inj e in
+      let same : y ≡ v = same_Some _ _ e in
       let passes : f y ≡ true = ap f same ∙ t in
       (0, ap (λ b. slice_get (cond b (y ∷ filter f ys) (filter f ys)) 0) passes ∙ e)
   filter-place f (y ∷ ys) (suc i) v e t =
@@ -42,13 +40,13 @@ module _ {A : Type 0} where
       kept (f y) y (filter f ys) r.0 v r.1
 
   pick_one : (b : Bool) (y : A) (fs : List A) (j : ℕ) (v : A) → slice_get (cond b (y ∷ fs) fs) j ≡ Some v → (y ≡ v) ⊎ ((k : ℕ) × (slice_get fs k ≡ Some v))
-  pick_one true y fs zero v e = inl (some_inj e)
+  pick_one true y fs zero v e = inl (same_Some _ _ e)
   pick_one true y fs (suc j) v e = inr (j, e)
   pick_one false y fs j v e = inr (j, e)
 
   pick_two : (b : Bool) (y : A) (fs : List A) (i j : ℕ) (u v : A) → i < j → slice_get (cond b (y ∷ fs) fs) i ≡ Some u → slice_get (cond b (y ∷ fs) fs) j ≡ Some v → ((y ≡ u) × (k : ℕ) × (slice_get fs k ≡ Some v)) ⊎ ((k : ℕ) × (l : ℕ) × (k < l) × (slice_get fs k ≡ Some u) × (slice_get fs l ≡ Some v))
   pick_two true y fs i zero u v lt e h = absurd (omega arith)
-  pick_two true y fs zero (suc j) u v lt e h = inl (some_inj e, j, h)
+  pick_two true y fs zero (suc j) u v lt e h = inl (same_Some _ _ e, j, h)
   pick_two true y fs (suc i) (suc j) u v lt e h = inr (i, j, omega arith, e, h)
   pick_two false y fs i j u v lt e h = inr (i, j, lt, e, h)
 

@@ -1,5 +1,6 @@
 -- Labels and indices of good ranges.
 use Rattle.std.proofs.Common.{◌≡◌, ℕ, zero, suc, ◌+◌, ◌-◌, ◌<◌, ◌≤◌, ◌⊎◌, ⊎_elim, inl, inr, List, [], ◌∷◌, length, refl, arith, ap, sym, ◌∙◌, Option, Some, None, if◌then◌else◌}
+use Rattle.std.proofs.lemmas.Option.{same_Some}
 use Rattle.std.specs.Prelude.{nat_lt, min}
 use Rattle.std.proofs.lemmas.Bool.{cases_lt, cond-true, cond-false, lt-ltb, le-ltb}
 use Rattle.std.proofs.lemmas.Bool.Decides.{nat_tests}
@@ -39,13 +40,10 @@ label-here r rs i h = cond-true (nat_lt i r.size) (Some (r.first + i)) (label_of
 pub label-later : (r : Range) (rs : List Range) (i : ℕ) → r.size ≤ i → label_of (r ∷ rs) i ≡ label_of rs (i - r.size)
 label-later r rs i h = cond-false (nat_lt i r.size) (Some (r.first + i)) (label_of rs (i - r.size)) (le-ltb i r.size h)
 
-some_inj : {A : Type 0} {a b : A} → Some a ≡ Some b → a ≡ b
-some_inj e = cc
-
 pub label-cases : (r : Range) (rs : List Range) (i t : ℕ) → label_of (r ∷ rs) i ≡ Some t → ((i < r.size) × (r.first + i ≡ t)) ⊎ ((r.size ≤ i) × (label_of rs (i - r.size) ≡ Some t))
 label-cases r rs i t e =
     ⊎_elim
-    (λ lt. inl (lt, some_inj (sym (label-here r rs i lt) ∙ e)))
+    (λ lt. inl (lt, same_Some _ _ (sym (label-here r rs i lt) ∙ e)))
     (λ ge. inr (ge, sym (label-later r rs i ge) ∙ e))
     (cases_lt i r.size)
 

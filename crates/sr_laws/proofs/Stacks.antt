@@ -1,5 +1,6 @@
 -- There is one stack of a list, and one list of next hops with what becomes of the label.
 use Rattle.std.proofs.Common.{◌≡◌, ℕ, ◌<◌, ⊎_elim, inl, inr, Bool, true, false, List, [], ◌∷◌, ◌++◌, refl, arith, ap, sym, ◌∙◌, subst, Some}
+use Rattle.std.proofs.lemmas.Option.{same_Some}
 use Rattle.std.specs.Prelude.{slice_get}
 use Rattle.sr_model.specs.declared.link.LinkNo.{LinkNo}
 use Rattle.sr_model.specs.declared.entry.Out.{Out}
@@ -13,14 +14,11 @@ use Rattle.sr_model.specs.Table.{IsOut, leaves, AreHops}
 use Rattle.sr_laws.proofs.Ascending.{ascending-one}
 use Rattle.sr_laws.proofs.Parts.{link_is}
 
-some_inj : {A : Type 0} {a b : A} → Some a ≡ Some b → a ≡ b
-some_inj e = cc
-
 -- a node has one label at another
 pub label-same : (n : Net) (u b q t : ℕ) → IsLabel n u b q → IsLabel n u b t → q ≡ t
 label-same n u b q t x y =
-    let i : x.0 ≡ y.0 = some_inj (sym x.2 ∙ y.2) in
-    some_inj (sym x.3 ∙ ap (label_of (labels_at n u).srgb) i ∙ y.3)
+    let i : x.0 ≡ y.0 = same_Some _ _ (sym x.2 ∙ y.2) in
+    same_Some _ _ (sym x.3 ∙ ap (label_of (labels_at n u).srgb) i ∙ y.3)
 
 true_false : {A : Type 0} (b : Bool) → b ≡ true → b ≡ false → A
 true_false b p q = absurd {0} (cc)
@@ -74,7 +72,7 @@ labels_same n u (Node v ∷ ss) (t ∷ ts) (r ∷ rs) p q =
     let f : ts ≡ rs = labels_same n v.0 ss ts rs p.1 q.1 in
     cc
 labels_same n u (Adj l ∷ ss) (t ∷ ts) (r ∷ rs) p q =
-    let e : t ≡ r = some_inj (sym p.0 ∙ q.0) in
+    let e : t ≡ r = same_Some _ _ (sym p.0 ∙ q.0) in
     let f : ts ≡ rs = labels_same n (head n.graph l.0) ss ts rs p.1 q.1 in
     cc
 

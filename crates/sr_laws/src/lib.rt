@@ -73,11 +73,15 @@ pub fn trees_stay()
     ensures old { NextHopsAreOld }
 {}
 
-/// Cases that stay have the same distances after the failure, affected destinations, nodes on repair ways, and answers.
+/// Cases that stay have the same distances after the failure, affected destinations, and nodes on repair ways.
 pub fn cases_stay()
     ensures rows { PostRowsStay }
     ensures affected { AffectedStay }
     ensures ways { RepairWaysStay }
+{}
+
+/// And they have the same answers, links matched by key.
+pub fn answers_stay()
     ensures answers { AnswersStay }
     ensures there { AnswersAreThere }
     ensures carried { AnswersCarryOver }

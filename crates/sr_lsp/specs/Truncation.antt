@@ -7,4 +7,5 @@ use Rattle.sr_wire.specs.declared.fault.Malformed.{Malformed}
 -- else at the PDU length, which they don't reach
 abbrev pub truncation_fault : ℕ → Malformed
 truncation_fault count =
-    if nat_lt count 27 then record { offset = count; check = HeaderOctets } else record { offset = 8; check = PduLength }
+    if nat_lt count 27 then record { offset = count; check = HeaderOctets }
+    else record { offset = 8; check = PduLength }

@@ -81,7 +81,8 @@ ident-from_cmp (Link a b) (Link c d) h =
 abbrev key_made : ℕ → ℕ → Ident → LinkKey
 key_made from to id = record { from = from; to = to; ident = id }
 
-key-parts : (a b : LinkKey) → a.from ≡ b.from → a.to ≡ b.to → a.ident ≡ b.ident → a ≡ b
+-- keys of the same nodes with the same identity are the same
+pub key-parts : (a b : LinkKey) → a.from ≡ b.from → a.to ≡ b.to → a.ident ≡ b.ident → a ≡ b
 key-parts a b from to id = ap (λ n. key_made n a.to a.ident) from ∙ ap (λ n. key_made b.from n a.ident) to ∙ ap (key_made b.from b.to) id
 
 -- `Less` is the order of keys

@@ -31,7 +31,8 @@ abbrev pub BelongsIn : {X : Type 0} → Graph → (Case → X → Type 0) → �
 BelongsIn g Belongs i x = (case : Case) → IsCase g case → slot_of case ≡ i → Belongs case x
 
 -- what belongs to the cases in the first m slots stands there
-pub record StandInSlots {X : Type 0} (default : X) (g : Graph) (Belongs : Case → X → Type 0) (m : ℕ) (all : List X) : Type 0 where
+pub record StandInSlots {X : Type 0} (default : X) (g : Graph) (Belongs : Case → X → Type 0) (m : ℕ) (all : List X)
+    : Type 0 where
   pub long : length all ≡ m
   pub each : (case : Case) → IsCase g case → slot_of case < m → Belongs case (slice_index_or all (slot_of case) default)
 

@@ -76,7 +76,8 @@ pub(crate) fn settle(
     cells: &mut [u64],
     queue: &mut Queue,
 ) -> Result<(), AllocError>
-    requires queued { IsQueued graph.now without.now source.0 cells.old (heap_items queue.old) source.0 (link_count graph.now) }
+    requires queued { IsQueued graph.now without.now source.0 cells.old (heap_items queue.old)
+        source.0 (link_count graph.now) }
     ensures row { OnOk result (IsRow graph.now without.now source.0 cells.new) }
     ensures empty { OnOk result (heap_items queue.new ≡ []) }
 {

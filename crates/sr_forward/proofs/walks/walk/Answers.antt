@@ -13,30 +13,24 @@ loop-turn-preserved c =
     c.in_ok-advance-in-Some.ensures.within
     c.in_ok-advance-in-Some.ensures.links
 
-pub returns-in-None-clause-packet : goal.returns-in-None-clause-packet
-returns-in-None-clause-packet c =
+pub returns-in-None-clause-arrives : goal.returns-in-None-clause-arrives
+returns-in-None-clause-arrives c =
     let turns : c.node_count.result * (c.len.result + 2) ≡ node_count c.args.net.now.graph * (length (reverse c.args.stack.items) + 2) = cc (length-reverse c.args.stack.items) in
-    rw c.in-None.ensures.stays (under-way-arrives c.graph.ensures.net c.requires.node c.loop-turn.invariant (inl c.in-None.ensures.none) (omega (arith, turns))).0
+    rw c.in-None.ensures.stays (under-way-arrives c.graph.ensures.net c.requires.node c.loop-turn.invariant (inl c.in-None.ensures.none) (omega (arith, turns)))
 
-pub returns-in-None-clause-repaired : goal.returns-in-None-clause-repaired
-returns-in-None-clause-repaired c =
+pub returns-in-None-clause-within : goal.returns-in-None-clause-within
+returns-in-None-clause-within c = (
+  c.loop-turn.invariant.within,
+  under-way-links c.args.net.now c.args.closed.now c.args.choice c.args.node.0 (reverse c.args.stack.items) c.loop-turn.turn c.loop-turn.links.items c.loop-turn.end.0 (reverse c.loop-turn.rest.items) c.loop-turn.invariant,
+)
+
+pub returns-clause-arrives : goal.returns-clause-arrives
+returns-clause-arrives c =
     let turns : c.node_count.result * (c.len.result + 2) ≡ node_count c.args.net.now.graph * (length (reverse c.args.stack.items) + 2) = cc (length-reverse c.args.stack.items) in
-    rw c.in-None.ensures.stays (under-way-arrives c.graph.ensures.net c.requires.node c.loop-turn.invariant (inl c.in-None.ensures.none) (omega (arith, turns))).1
+    under-way-arrives c.graph.ensures.net c.requires.node c.loop-turn.invariant (inr (omega (arith, turns))) (omega (arith, turns))
 
-pub returns-in-None-clause-links : goal.returns-in-None-clause-links
-returns-in-None-clause-links c =
-    under-way-links c.args.net.now c.args.closed.now c.args.choice c.args.node.0 (reverse c.args.stack.items) c.loop-turn.turn c.loop-turn.links.items c.loop-turn.end.0 (reverse c.loop-turn.rest.items) c.loop-turn.invariant
-
-pub returns-clause-packet : goal.returns-clause-packet
-returns-clause-packet c =
-    let turns : c.node_count.result * (c.len.result + 2) ≡ node_count c.args.net.now.graph * (length (reverse c.args.stack.items) + 2) = cc (length-reverse c.args.stack.items) in
-    (under-way-arrives c.graph.ensures.net c.requires.node c.loop-turn.invariant (inr (omega (arith, turns))) (omega (arith, turns))).0
-
-pub returns-clause-repaired : goal.returns-clause-repaired
-returns-clause-repaired c =
-    let turns : c.node_count.result * (c.len.result + 2) ≡ node_count c.args.net.now.graph * (length (reverse c.args.stack.items) + 2) = cc (length-reverse c.args.stack.items) in
-    (under-way-arrives c.graph.ensures.net c.requires.node c.loop-turn.invariant (inr (omega (arith, turns))) (omega (arith, turns))).1
-
-pub returns-clause-links : goal.returns-clause-links
-returns-clause-links c =
-    under-way-links c.args.net.now c.args.closed.now c.args.choice c.args.node.0 (reverse c.args.stack.items) c.loop-turn.turn c.loop-turn.links.items c.loop-turn.end.0 (reverse c.loop-turn.rest.items) c.loop-turn.invariant
+pub returns-clause-within : goal.returns-clause-within
+returns-clause-within c = (
+  c.loop-turn.invariant.within,
+  under-way-links c.args.net.now c.args.closed.now c.args.choice c.args.node.0 (reverse c.args.stack.items) c.loop-turn.turn c.loop-turn.links.items c.loop-turn.end.0 (reverse c.loop-turn.rest.items) c.loop-turn.invariant,
+)

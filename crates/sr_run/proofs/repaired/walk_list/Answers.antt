@@ -17,11 +17,11 @@ returns-clause-walked c =
     c.net-net.ensures.net c.requires.answer.case_is c.requires.answer.node c.requires.answer.answer_is c.requires.stack
     (rw net at (rw c.graph.ensures.value at c.in_ok-failed.ensures))
     (rw net at (rw c.graph-2.ensures.value at (ap (λ (l : Link). l.to.0) c.link.ensures.link)))
-    (rw net at c.in_ok-walk.ensures.walked) (rw net at c.in_ok-walk.ensures.repaired))
+    (rw net at c.in_ok-walk.ensures.walked) (rw net at c.in_ok-walk.ensures.arrives.1))
 
 pub returns-clause-links : goal.returns-clause-links
 returns-clause-links c =
     let put : c.insert.new.self.items ≡ c.args.list.now.first ∷ c.in_ok-walk.walk.links.items = c.in_ok-insert.ensures.items in
     subst (λ (links : List LinkNo). AreLinks c.args.version.now.net.graph links) (sym put)
     (All-cons (λ (l : LinkNo). l.0 < link_count c.args.version.now.net.graph) c.args.list.now.first c.in_ok-walk.walk.links.items c.requires.answer.answer_is.answers.0.sound.within
-    (rw c.net-net.ensures.value at c.in_ok-walk.ensures.links))
+    (rw c.net-net.ensures.value at c.in_ok-walk.ensures.within.1))
