@@ -18,6 +18,7 @@ use Rattle.sr_domain.specs.Announced.{two_way_of}
 use Rattle.sr_domain.specs.Links.{links_of, labelled}
 use Rattle.sr_domain.specs.Groups.{AreGroupsOf}
 use Rattle.sr_domain.specs.Net.{IsNetOf}
+use Rattle.sr_domain.proofs.MarkLemmas.{graph_made}
 use Rattle.sr_domain.proofs.NetLemmas.{found_as}
 use Rattle.sr_domain.proofs.DeterminedLists.{among-moved, groups-one, keys-one}
 
@@ -55,9 +56,6 @@ labelled-one found g h labels others named named' long long' moved moved' =
     (labelled-ascends h others named' long')
     (among-moved xs ys (IsPermutation-trans xs found ys (IsPermutation-sym found xs moved) moved'))
     (among-moved ys xs (IsPermutation-trans ys found xs (IsPermutation-sym found ys moved') moved))
-
-abbrev graph_made : List ℕ → List Link → List (List ℕ) → List Bool → Graph
-graph_made systems links groups overloaded = record { systems = systems; links = links; groups = groups; overloaded = overloaded }
 
 abbrev net_made : Graph → List Labels → List (Option ℕ) → List LinkKey → ℕ → Net
 net_made graph labels adj announced depth = record { graph = graph; labels = labels; adj = adj; announced = announced; depth = depth }

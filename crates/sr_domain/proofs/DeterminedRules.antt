@@ -6,14 +6,14 @@ use Rattle.std.proofs.lemmas.Option.{same_Some}
 use Rattle.sr_model.specs.declared.name.LinkKey.{LinkKey}
 use Rattle.sr_model.specs.declared.label.AdjLabel.{AdjLabel}
 use Rattle.sr_model.specs.declared.rule.DomainRule.{DomainRule}
-use Rattle.sr_model.specs.declared.rule.DomainRule.TheVariants.{NoSrgb, SrgbBad, DuplicateIndex, IndexOutside, AdjLabelClash, ZeroMetric, DuplicateLink, TooManyNodes, TooManyLinks, Overload}
+use Rattle.sr_model.specs.declared.rule.DomainRule.TheVariants.{NoSrgb, SrgbBad, DuplicateIndex, IndexOutside, AdjLabelClash, ZeroMetric, DuplicateLink, TooManyNodes, TooManyLinks}
 use Rattle.sr_model.specs.Label.{Labels, Net}
 use Rattle.sr_model.specs.Rule.{IsLeastDuplicate, IsLeastOutside, IsLeastClash, IsNoLater}
 use Rattle.sr_graph.specs.Draft.{AreLeast, EndsLe}
 use Rattle.sr_lsdb.specs.declared.facts.Facts.{Facts}
 use Rattle.sr_domain.specs.Nodes.{nodes_of, all_labels}
 use Rattle.sr_domain.specs.Links.{links_of, found_adj_labels}
-use Rattle.sr_domain.specs.Rules.{IsLeastNode, LacksSrgb, HasBadSrgb, IsOverloaded, HasZeroMetric, IsKeyRepeated, IsNodeAt, IsRuleBroken, Keeps, rank, IsFirstBrokenRule}
+use Rattle.sr_domain.specs.Rules.{IsLeastNode, LacksSrgb, HasBadSrgb, HasZeroMetric, IsKeyRepeated, IsNodeAt, IsRuleBroken, Keeps, rank, IsFirstBrokenRule}
 use Rattle.sr_domain.specs.Net.{IsNetOf}
 
 node-one : (nodes : List ℕ) (P : ℕ → Type 0) (a b : ℕ) → IsLeastNode nodes P a → IsLeastNode nodes P b → a ≡ b
@@ -101,7 +101,6 @@ broken-one facts (DuplicateLink from to) (DuplicateLink a b) e x y =
     ap (λ n. DuplicateLink n to) same.0 ∙ ap (DuplicateLink a) same.1
 broken-one facts (TooManyNodes m) (TooManyNodes n) e x y = ap TooManyNodes (x.1 ∙ sym y.1)
 broken-one facts (TooManyLinks m) (TooManyLinks n) e x y = ap TooManyLinks (x.1 ∙ sym y.1)
-broken-one facts (Overload v) (Overload w) e x y = ap Overload (node-one (nodes_of facts) (IsOverloaded facts) v w x y)
 broken-one facts a b e x y = absurd (omega arith)
 
 -- a rule that is kept isn't broken
@@ -115,9 +114,8 @@ broken-not_kept facts (ZeroMetric from to) x keeps = keeps x.key x.is.holds
 broken-not_kept facts (DuplicateLink from to) x keeps = keeps x.key x.is.holds
 broken-not_kept facts (TooManyNodes n) x keeps = let many : 256 < n = x.0 in let is : n ≡ length (nodes_of facts) = x.1 in omega arith
 broken-not_kept facts (TooManyLinks n) x keeps = let many : 2048 < n = x.0 in let is : n ≡ length (links_of facts) = x.1 in omega arith
-broken-not_kept facts (Overload v) x keeps = keeps v x.among x.holds
 
-rank-below : (rule : DomainRule) → rank rule < 10
+rank-below : (rule : DomainRule) → rank rule < 9
 rank-below (NoSrgb v) = omega arith
 rank-below (SrgbBad v) = omega arith
 rank-below (DuplicateIndex i low high) = omega arith
@@ -127,7 +125,6 @@ rank-below (ZeroMetric from to) = omega arith
 rank-below (DuplicateLink from to) = omega arith
 rank-below (TooManyNodes n) = omega arith
 rank-below (TooManyLinks n) = omega arith
-rank-below (Overload v) = omega arith
 
 -- facts have at most one first broken rule
 pub fault-one : (facts : Facts) (a b : DomainRule) → IsFirstBrokenRule facts a → IsFirstBrokenRule facts b → a ≡ b

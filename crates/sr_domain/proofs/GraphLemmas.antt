@@ -1,5 +1,6 @@
 -- The graph that is built has the links of its draft, in order, with their labels and groups.
 use Rattle.std.proofs.Common.{◌≡◌, ℕ, zero, suc, ◌+◌, ◌<◌, List, [], ◌∷◌, map, length, get_or, refl, arith, ap, sym, ◌∙◌, subst, None}
+use Rattle.std.specs.Prelude.{filter}
 use Rattle.std.specs.List.{list_any}
 use Rattle.std.specs.List.Sorted.{IsPermutation, IsSortedByKey}
 use Rattle.std.proofs.lemmas.List.{length-map, get_or-map}
@@ -13,17 +14,20 @@ use Rattle.sr_model.specs.Graph.{Graph, link_at, groups_at, no_link, IsNamed, Is
 use Rattle.sr_graph.specs.declared.draft.DraftLink.{DraftLink}
 use Rattle.sr_graph.specs.Draft.{NoneTwice, AreSorted, key_of}
 use Rattle.sr_graph.specs.Built.{IsBuilt, drafted}
+use Rattle.sr_graph.specs.Marks.{IsMarked}
 use Rattle.sr_graph.proofs.LinksLemmas.{ascend-from_once}
 use Rattle.sr_graph.proofs.OrderLemmas.{far-below}
 use Rattle.sr_lsdb.specs.declared.facts.Facts.{Facts}
 use Rattle.sr_domain.specs.declared.links.FoundLink.{FoundLink}
 use Rattle.sr_domain.specs.Announced.{announcements_of}
 use Rattle.sr_domain.specs.Groups.{notes_of, same_number}
+use Rattle.sr_domain.specs.Nodes.{has_overload_bit}
 use Rattle.sr_model.specs.declared.name.PairKey.{PairKey}
 use Rattle.sr_domain.specs.GroupTables.{draft_link, GivesGroups}
 use Rattle.sr_domain.specs.Links.{KeysAscend, link_key, link_label, labelled}
 use Rattle.sr_domain.specs.Steps.{IsGraphOf}
 use Rattle.std.specs.declared.cmp.Ordering.TheVariants.{Less}
+use Rattle.sr_domain.proofs.MarkLemmas.{graph_made, marks-are, marked-is, graph-kept, named-kept, grouped-kept}
 use Rattle.sr_domain.proofs.SortedLemmas.{Rises, rises-from_far, same-sorted}
 
 abbrev no_found : FoundLink
@@ -95,18 +99,19 @@ module _ (m : PairKey → List ℕ) where
       let parts = head-same (record { key = l.key; metric = l.metric; groups = g }) (draft_link m f) (drafted ls gs) (map (draft_link m) fs) same in
       groups-same ls gs fs (omega arith) parts.1 i (omega arith)
 
-pub graph-of : (facts : Facts) (m : PairKey → List ℕ) (nodes : List ℕ) (links : List FoundLink) (drafts : List DraftLink) (g : Graph) → drafts ≡ map (draft_link m) links → IsSortedByKey link_key key_cmp links → NoneTwice drafts → GivesGroups m (announcements_of facts) (notes_of facts) → IsBuilt (record { nodes = nodes; links = drafts }) g → IsGraphOf facts nodes links g
-graph-of facts m nodes links drafts g are sorted once groups built =
+pub graph-of : (facts : Facts) (m : PairKey → List ℕ) (nodes : List ℕ) (links : List FoundLink) (drafts : List DraftLink) (g after : Graph) → drafts ≡ map (draft_link m) links → IsSortedByKey link_key key_cmp links → NoneTwice drafts → GivesGroups m (announcements_of facts) (notes_of facts) → IsBuilt (record { nodes = nodes; links = drafts }) g → IsMarked g (filter (has_overload_bit facts) nodes) after → IsGraphOf facts nodes links after
+graph-of facts m nodes links drafts g after are sorted once groups built marked =
     let sorted' : AreSorted drafts = subst (λ (ds : List DraftLink). AreSorted ds) (sym are) (sorted-map m links sorted) in
     let same : drafted g.links g.groups ≡ map (draft_link m) links = drafts-same g drafts built.named built.grouped sorted' once built.links ∙ are in
     let long : length g.groups ≡ length g.links = built.grouped.long in
     let long' : length g.links ≡ length links = sym (drafted-length g.links g.groups long) ∙ ap length same ∙ length-map links (draft_link m) in
-    record {
+    let marked' : IsMarked g (filter (has_overload_bit facts) g.systems) after = subst (λ (ns : List ℕ). IsMarked g (filter (has_overload_bit facts) ns) after) (sym built.systems) marked in
+    let made : IsGraphOf facts nodes links (graph_made g.systems g.links g.groups after.overloaded) = record {
       systems = built.systems;
-      overloaded = built.overloaded;
-      graph = built.graph;
-      named = built.named;
-      grouped = built.grouped;
+      overloaded = marks-are (has_overload_bit facts) g after marked' ∙ ap (map (has_overload_bit facts)) built.systems;
+      graph = graph-kept g after.overloaded built.graph;
+      named = named-kept g after.overloaded built.named;
+      grouped = grouped-kept g after.overloaded built.grouped;
       long = long';
       same = labelled-same m g.links g.groups links long same;
       groups = λ l lt.
@@ -115,4 +120,5 @@ graph-of facts m nodes links drafts g are sorted once groups built =
             ascending = built.grouped.ascending l lt;
             each = λ group. ap (list_any (same_number group)) here ∙ groups (pair_of (link_at g l).key) group;
           };
-    }
+    } in
+    subst (λ (x : Graph). IsGraphOf facts nodes links x) (marked-is g after (filter (has_overload_bit facts) nodes) marked) made

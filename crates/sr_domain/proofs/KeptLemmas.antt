@@ -2,7 +2,7 @@
 use Rattle.std.proofs.Common.{◌≡◌, ℕ, ◌+◌, ◌<◌, ◌≤◌, ⊎_elim, arith}
 use Rattle.std.proofs.lemmas.Bool.{cases_lt}
 use Rattle.sr_model.specs.declared.rule.DomainRule.{DomainRule}
-use Rattle.sr_model.specs.declared.rule.DomainRule.TheVariants.{NoSrgb, SrgbBad, DuplicateIndex, IndexOutside, AdjLabelClash, ZeroMetric, DuplicateLink, TooManyNodes, TooManyLinks, Overload}
+use Rattle.sr_model.specs.declared.rule.DomainRule.TheVariants.{NoSrgb, SrgbBad, DuplicateIndex, IndexOutside, AdjLabelClash, ZeroMetric, DuplicateLink, TooManyNodes, TooManyLinks}
 use Rattle.sr_lsdb.specs.declared.facts.Facts.{Facts}
 use Rattle.sr_domain.specs.Rules.{Keeps, AreKept, rank}
 
@@ -17,7 +17,6 @@ keeps-same facts (ZeroMetric from to) (ZeroMetric a b) e keeps = keeps
 keeps-same facts (DuplicateLink from to) (DuplicateLink a b) e keeps = keeps
 keeps-same facts (TooManyNodes m) (TooManyNodes n) e keeps = keeps
 keeps-same facts (TooManyLinks m) (TooManyLinks n) e keeps = keeps
-keeps-same facts (Overload v) (Overload w) e keeps = keeps
 keeps-same facts a b e keeps = absurd (omega arith)
 
 pub kept-nothing : (facts : Facts) → AreKept facts 0

@@ -12,7 +12,7 @@ use Rattle.sr_labels.specs.declared.srgb.SrgbBad.{SrgbBad}
 use Rattle.sr_labels.specs.declared.srgb.SrgbBad.TheVariants.{Bad}
 use Rattle.sr_labels.specs.Ranges.{IsSrgbRefusal}
 use Rattle.sr_lsdb.specs.declared.facts.Facts.{Facts}
-use Rattle.sr_domain.specs.Nodes.{nodes_of, srgb_of, ranges_of, labels_of, labels_with, node_sid_of}
+use Rattle.sr_domain.specs.Nodes.{nodes_of, srgb_of, ranges_of, labels_of, labels_with, node_sid_of, imposition_of}
 use Rattle.sr_domain.specs.Rules.{AreKept, IsFirstBrokenRule, LacksSrgb, HasBadSrgb, HoldsNowhere, IsLeastNode}
 use Rattle.sr_domain.proofs.LeastLemmas.{NoneBelow, none-yet, none-more, none-all, least-at}
 use Rattle.sr_domain.proofs.KeptLemmas.{kept-nothing, kept-more}
@@ -86,15 +86,15 @@ module _ (facts : Facts) (nodes : List ℕ) (are : nodes ≡ nodes_of facts) (ke
         earlier = kept;
       }
 
-  pub labels-more : (out out' : List Labels) (node : ℕ) (ranges srgb : List Range) (left : List (List Range)) → LabelsMade facts nodes out (ranges ∷ left) → node ≡ get_or nodes (length out) node → srgb ≡ ranges → IsSrgb srgb → out' ≡ out ++ labels_with srgb (node_sid_of facts node) ∷ [] → LabelsMade facts nodes out' left
+  pub labels-more : (out out' : List Labels) (node : ℕ) (ranges srgb : List Range) (left : List (List Range)) → LabelsMade facts nodes out (ranges ∷ left) → node ≡ get_or nodes (length out) node → srgb ≡ ranges → IsSrgb srgb → out' ≡ out ++ labels_with srgb (node_sid_of facts node) (imposition_of facts node) ∷ [] → LabelsMade facts nodes out' left
   labels-more out out' node ranges srgb left made is same good pushed =
       let here = left-first (ranges_of facts) nodes (length out) node ranges left made.left_are in
       let within : length out < length nodes = here.0 in
-      let more : length out' ≡ length out + 1 = ap length pushed ∙ length-append out (labels_with srgb (node_sid_of facts node) ∷ []) in
+      let more : length out' ≡ length out + 1 = ap length pushed ∙ length-append out (labels_with srgb (node_sid_of facts node) (imposition_of facts node) ∷ []) in
       let more' : length out' ≡ suc (length out) = more ∙ add-one (length out) in
       let its : srgb ≡ ranges_of facts node = same ∙ here.1 ∙ ap (ranges_of facts) (sym is) in
       record {
-        made = mapped-more (labels_of facts) nodes (length out) node (labels_with srgb (node_sid_of facts node)) out out' within is made.made (ap (λ r. labels_with r (node_sid_of facts node)) its) pushed ∙ ap (λ n. map (labels_of facts) (take n nodes)) (sym more);
+        made = mapped-more (labels_of facts) nodes (length out) node (labels_with srgb (node_sid_of facts node) (imposition_of facts node)) out out' within is made.made (ap (λ r. labels_with r (node_sid_of facts node) (imposition_of facts node)) its) pushed ∙ ap (λ n. map (labels_of facts) (take n nodes)) (sym more);
         left_are = here.2 ∙ ap (λ n. map (ranges_of facts) (drop n nodes)) (sym more');
         none = subst (λ n. NoneBelow nodes (HasBadSrgb facts) n) (sym more) (none-more nodes (HasBadSrgb facts) (length out) node within is made.none
             (λ bad. bad.2 (subst (λ (r : List Range). IsSrgb r) (same_Some srgb bad.0 (sym (srgb-some node srgb (length out, within, sym is) its) ∙ bad.1)) good)));

@@ -1,5 +1,6 @@
 pub mod AnnouncedLemmas
 pub mod NodesLemmas
+pub mod DepthLemmas
 pub mod NumbersLemmas
 pub mod GroupsLemmas
 pub mod TakenLemmas
@@ -14,6 +15,7 @@ pub mod MemberLemmas
 pub mod SortedLemmas
 pub mod TopologyLemmas
 pub mod RefusalLemmas
+pub mod MarkLemmas
 pub mod GraphLemmas
 pub mod GatheredLemmas
 pub mod AdjLemmas

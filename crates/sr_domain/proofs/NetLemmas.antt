@@ -95,7 +95,7 @@ link-announced facts x c =
     same a true h = ap (λ (l : FoundLink). l.key) (same_Some (link_of facts a) x h)
     same a false h = absurd (cc)
 
-module _ (facts : Facts) (links : List FoundLink) (g : Graph) (is : IsGraphOf facts (nodes_of facts) links g) (moved : IsPermutation (links_of facts) links) (kept : AreKept facts 10) where
+module _ (facts : Facts) (links : List FoundLink) (g : Graph) (is : IsGraphOf facts (nodes_of facts) links g) (moved : IsPermutation (links_of facts) links) (kept : AreKept facts 9) where
   systems-up : IsStrictlyIncreasing g.systems
   systems-up k lt = is.named.ascending k (k + 1) (omega arith) lt
 

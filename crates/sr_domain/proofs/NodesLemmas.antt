@@ -65,7 +65,7 @@ plain-own_sid n (e ∷ es) = by (is_own n e.0) (plain-own_sid n es)
     by true rest = ap (λ r. lesser_sid (least_of_parts (parts_of e.1.live)) r) rest
     by false rest = rest
 
-own-entries : (n : ℕ) (es : List (LspId × Stored)) → entries_between id_cmp (Included (first_id n)) (Excluded (past_own n)) es ≡ filter (λ (e : LspId × Stored). is_own n e.0) es
+pub own-entries : (n : ℕ) (es : List (LspId × Stored)) → entries_between id_cmp (Included (first_id n)) (Excluded (past_own n)) es ≡ filter (λ (e : LspId × Stored). is_own n e.0) es
 own-entries n es = filter_agree _ _ (λ e. own-range n e.0) es
 
 pub ranges-between : (n : ℕ) (es : List (LspId × Stored)) → plain_ranges (entries_between id_cmp (Included (first_id n)) (Excluded (past_own n)) es) ≡ ranges_from n es

@@ -9,12 +9,8 @@ use Rattle.sr_lsp.specs.declared.table.Part.{Part}
 use Rattle.sr_lsp.specs.declared.table.Part.TheVariants.{Prefix}
 use Rattle.sr_lsdb.specs.declared.facts.Facts.{Facts}
 use Rattle.sr_domain.specs.Announced.{adj_sid_labels}
-use Rattle.sr_domain.specs.Nodes.{own_parts, node_sid_by}
+use Rattle.sr_domain.specs.Nodes.{node_sid_by, parts_of_node}
 use Rattle.sr_domain.specs.declared.nodes.NodeSid.{NodeSid}
-
--- the parts of the node's own live LSPs, in order of LSP id and place
-abbrev pub parts_of_node : Facts → ℕ → List Part
-parts_of_node facts node = flat_map (own_parts node) facts.database
 
 -- the Prefix-SIDs of a prefix of full length
 abbrev pub host_sids : Part → List PrefixSid

@@ -1,15 +1,16 @@
--- The nodes of a domain: which are present, and the label ranges, the index and the flags that each announces (this
--- project's rules).
-use Rattle.std.specs.Prelude.{ℕ, Bool, false, not, ◌==◌, nat_lt, ◌&&◌, if◌then◌else◌, List, [], ◌∷◌, Option, Some, None, is_some, bit_and, bit_or, map}
+-- The nodes of a domain: which are present, the label ranges, the index, the flags and the imposition depth that each
+-- announces, and which are overloaded (this project's rules).
+use Rattle.std.specs.Prelude.{ℕ, Bool, false, not, ◌==◌, nat_lt, ◌&&◌, if◌then◌else◌, List, [], ◌∷◌, Option, Some, None, is_some, bit_and, bit_or, map, slice_get}
 use Rattle.std.specs.Option.{unwrap_or, option_map, option_or}
-use Rattle.std.specs.List.{filter_map}
+use Rattle.std.specs.List.{filter_map, flat_map}
 use Rattle.sr_model.specs.declared.label.Range.{Range}
 use Rattle.sr_model.specs.Label.{Labels}
-use Rattle.sr_wire.specs.declared.registry.TheConstants.{ADDRESS_BITS, LSP_OVERLOAD, PREFIX_SID_EXPLICIT_NULL, PREFIX_SID_NODE, PREFIX_SID_NO_POP, PREFIX_SID_READVERTISED}
+use Rattle.sr_wire.specs.declared.registry.TheConstants.{ADDRESS_BITS, LSP_OVERLOAD, MSD_IMPOSITION, PREFIX_SID_EXPLICIT_NULL, PREFIX_SID_NODE, PREFIX_SID_NO_POP, PREFIX_SID_READVERTISED}
 use Rattle.sr_subtlv.specs.declared.sid.Sid.{Sid}
 use Rattle.sr_subtlv.specs.declared.sid.Sid.TheVariants.{Index, Label}
 use Rattle.sr_subtlv.specs.declared.prefix_sid.PrefixSid.{PrefixSid}
 use Rattle.sr_subtlv.specs.declared.sr_cap.SrCap.{SrCap}
+use Rattle.sr_subtlv.specs.declared.msd.Msd.{Msd}
 use Rattle.sr_lsp.specs.declared.lsp.LspId.{LspId}
 use Rattle.sr_lsp.specs.declared.lsp.Lsp.{Lsp}
 use Rattle.sr_lsp.specs.declared.table.Part.{Part}
@@ -40,6 +41,10 @@ past_own node = record { system = node; pseudonode = 1; fragment = 0 }
 -- the parts of a live LSP of the node itself
 abbrev pub own_parts : ℕ → (LspId × Stored) → List Part
 own_parts node entry = if is_own node entry.0 then parts_of entry.1.live else []
+
+-- the parts of the node's own live LSPs, in order of LSP id and place
+abbrev pub parts_of_node : Facts → ℕ → List Part
+parts_of_node facts node = flat_map (own_parts node) facts.database
 
 -- the label ranges of SR-Capabilities
 abbrev pub ranges_in : Part → Option (List Range)
@@ -125,14 +130,32 @@ keeps_explicit (Some sid) = sid.keep && sid.explicit
 abbrev pub index_of : Option NodeSid → Option ℕ
 index_of sid = option_map (λ (s : NodeSid). s.index) sid
 
--- what a node with these ranges and this index announces; maximum SID depths (MSD) aren't taken
-abbrev pub labels_with : List Range → Option NodeSid → Labels
-labels_with ranges sid = record {
+-- the value of a maximum SID depth (MSD) of the type that says how many labels the node can impose (RFC 8491, 5)
+abbrev pub imposition_by : Msd → Option ℕ
+imposition_by msd = if msd.kind == MSD_IMPOSITION then Some msd.value else None
+
+-- the maximum SID depths of a router capability
+abbrev pub msds_in : Part → List Msd
+msds_in (Capability capability) = capability.msd
+msds_in _ = []
+
+-- the first such value of these parts, by place and by place within the part
+abbrev pub imposition_in : List Part → Option ℕ
+imposition_in parts = slice_get (filter_map imposition_by (flat_map msds_in parts)) 0
+
+-- the imposition depth of a node, which is how many labels it can impose: the first of its own LSPs, by fragment, by
+-- place and by place within the part, or none
+abbrev pub imposition_of : Facts → ℕ → Option ℕ
+imposition_of facts node = imposition_in (parts_of_node facts node)
+
+-- what a node with these ranges, this index and this imposition depth announces
+abbrev pub labels_with : List Range → Option NodeSid → Option ℕ → Labels
+labels_with ranges sid imposes = record {
   srgb = ranges;
   index = index_of sid;
   keep = keeps sid;
   explicit = keeps_explicit sid;
-  imposes = None;
+  imposes = imposes;
 }
 
 -- the label ranges of a node, or none
@@ -141,7 +164,7 @@ ranges_of facts node = unwrap_or (srgb_of facts node) []
 
 -- what a node announces
 abbrev pub labels_of : Facts → ℕ → Labels
-labels_of facts node = labels_with (ranges_of facts node) (node_sid_of facts node)
+labels_of facts node = labels_with (ranges_of facts node) (node_sid_of facts node) (imposition_of facts node)
 
 -- what the present nodes announce
 abbrev pub all_labels : Facts → List Labels
@@ -160,3 +183,7 @@ overload_in (Some stored) = has_overload stored.live
 -- a node is overloaded where its LSP with pseudonode 0 and fragment 0 has the overload bit
 abbrev pub has_overload_bit : Facts → ℕ → Bool
 has_overload_bit facts node = overload_in (stored_under facts (first_id node))
+
+-- for each present node whether it is overloaded
+abbrev pub overload_marks : Facts → List Bool
+overload_marks facts = map (has_overload_bit facts) (nodes_of facts)

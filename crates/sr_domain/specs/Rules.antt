@@ -1,10 +1,10 @@
 -- The rules of the profile on the facts of a domain, in their order, and what is said of the first that is broken
 -- (this project's rules).
-use Rattle.std.specs.Prelude.{◌≡◌, ℕ, ◌<◌, ◌≤◌, true, List, length, Some, None, Contains, count_by, slice_get}
+use Rattle.std.specs.Prelude.{◌≡◌, ℕ, ◌<◌, ◌≤◌, List, length, Some, None, Contains, count_by, slice_get}
 use Rattle.sr_model.specs.declared.label.Range.{Range}
 use Rattle.sr_model.specs.declared.name.LinkKey.{LinkKey}
 use Rattle.sr_model.specs.declared.rule.DomainRule.{DomainRule}
-use Rattle.sr_model.specs.declared.rule.DomainRule.TheVariants.{NoSrgb, SrgbBad, DuplicateIndex, IndexOutside, AdjLabelClash, ZeroMetric, DuplicateLink, TooManyNodes, TooManyLinks, Overload}
+use Rattle.sr_model.specs.declared.rule.DomainRule.TheVariants.{NoSrgb, SrgbBad, DuplicateIndex, IndexOutside, AdjLabelClash, ZeroMetric, DuplicateLink, TooManyNodes, TooManyLinks}
 use Rattle.sr_model.specs.KeyOrder.{same_key}
 use Rattle.sr_model.specs.Label.{IsSrgb}
 use Rattle.sr_model.specs.Rule.{IsLeastDuplicate, IsLeastOutside, IsLeastClash, NoDuplicate, NoOutside, NoAdjClash}
@@ -14,7 +14,7 @@ use Rattle.sr_model.specs.declared.link.TheConstants.{MOST_LINKS, MOST_NODES}
 use Rattle.sr_domain.specs.declared.links.FoundLink.{FoundLink}
 use Rattle.sr_domain.specs.declared.fault.DomainFault.{DomainFault}
 use Rattle.sr_domain.specs.declared.fault.DomainFault.TheVariants.{Rule, Memory}
-use Rattle.sr_domain.specs.Nodes.{nodes_of, srgb_of, all_labels, has_overload_bit}
+use Rattle.sr_domain.specs.Nodes.{nodes_of, srgb_of, all_labels}
 use Rattle.sr_domain.specs.Links.{links_of, found_adj_labels}
 
 -- of these nodes the least of which the fact holds
@@ -34,10 +34,6 @@ LacksSrgb facts node = srgb_of facts node ≡ None
 -- the label ranges that the node announces are no SRGB
 abbrev pub HasBadSrgb : Facts → ℕ → Type 0
 HasBadSrgb facts node = (ranges : List Range) × (srgb_of facts node ≡ Some ranges) × (IsSrgb ranges → ⊥)
-
--- the node has the overload bit
-abbrev pub IsOverloaded : Facts → ℕ → Type 0
-IsOverloaded facts node = has_overload_bit facts node ≡ true
 
 -- a link of this key has the effective metric 0
 abbrev pub HasZeroMetric : List FoundLink → LinkKey → Type 0
@@ -87,7 +83,6 @@ IsRuleBroken facts (ZeroMetric from to) = AreLeast (HasZeroMetric (links_of fact
 IsRuleBroken facts (DuplicateLink from to) = AreLeast (IsKeyRepeated (links_of facts)) from to
 IsRuleBroken facts (TooManyNodes count) = (MOST_NODES < count) × (count ≡ length (nodes_of facts))
 IsRuleBroken facts (TooManyLinks count) = (MOST_LINKS < count) × (count ≡ length (links_of facts))
-IsRuleBroken facts (Overload node) = IsLeastNode (nodes_of facts) (IsOverloaded facts) node
 
 -- how many rules come before
 abbrev pub rank : DomainRule → ℕ
@@ -100,7 +95,6 @@ rank (ZeroMetric from to) = 5
 rank (DuplicateLink from to) = 6
 rank (TooManyNodes count) = 7
 rank (TooManyLinks count) = 8
-rank (Overload node) = 9
 
 -- the rule is kept: nothing breaks it, whatever it names
 abbrev pub Keeps : Facts → DomainRule → Type 0
@@ -113,9 +107,8 @@ Keeps facts (ZeroMetric from to) = NoKey (HasZeroMetric (links_of facts))
 Keeps facts (DuplicateLink from to) = NoKey (IsKeyRepeated (links_of facts))
 Keeps facts (TooManyNodes count) = length (nodes_of facts) ≤ MOST_NODES
 Keeps facts (TooManyLinks count) = length (links_of facts) ≤ MOST_LINKS
-Keeps facts (Overload node) = HoldsNowhere (nodes_of facts) (IsOverloaded facts)
 
--- the first `count` of the ten rules are kept
+-- the first `count` of the nine rules are kept
 abbrev pub AreKept : Facts → ℕ → Type 0
 AreKept facts count = (rule : DomainRule) → rank rule < count → Keeps facts rule
 

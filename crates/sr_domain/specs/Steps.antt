@@ -1,5 +1,5 @@
 -- What is at hand between the steps from the facts to their net.
-use Rattle.std.specs.Prelude.{◌≡◌, ℕ, ◌<◌, ◌≤◌, List, [], length, map, All}
+use Rattle.std.specs.Prelude.{◌≡◌, ℕ, ◌<◌, ◌≤◌, List, length, map, All}
 use Rattle.std.specs.List.Sorted.{IsPermutation, IsSortedByKey, IsStrictlyIncreasing}
 use Rattle.sr_model.specs.declared.label.Range.{Range}
 use Rattle.sr_model.specs.Key.{pair_of}
@@ -15,7 +15,7 @@ use Rattle.sr_model.specs.declared.link.TheConstants.{MOST_LINKS}
 use Rattle.sr_domain.specs.declared.links.FoundLink.{FoundLink}
 use Rattle.sr_domain.specs.declared.gathered.Gathered.{Gathered}
 use Rattle.sr_domain.specs.Announced.{announcements_of, two_way_of}
-use Rattle.sr_domain.specs.Nodes.{all_labels, labels_of, nodes_of, ranges_of}
+use Rattle.sr_domain.specs.Nodes.{all_labels, has_overload_bit, labels_of, nodes_of, ranges_of}
 use Rattle.sr_domain.specs.Links.{links_of, labelled, link_key, link_label, JoinsNodes, KeysAscend}
 use Rattle.sr_domain.specs.Groups.{AreGroupsOf, notes_of}
 use Rattle.sr_domain.specs.GroupTables.{GivesGroups, IsRiskTable, groups_in}
@@ -65,10 +65,10 @@ pub record AreDrafted (facts : Facts) (present : List ℕ) (found : List FoundLi
       → GivesGroups (groups_in risks) (announcements_of facts) (notes_of facts)
   pub kept : AreKept facts 5
 
--- the graph of these nodes and links, which are in order, with the groups of the facts
+-- the graph of these nodes and links, which are in order, with the overloaded nodes and the groups of the facts
 pub record IsGraphOf (facts : Facts) (nodes : List ℕ) (links : List FoundLink) (g : Graph) : Type 0 where
   pub systems : g.systems ≡ nodes
-  pub overloaded : g.overloaded ≡ []
+  pub overloaded : g.overloaded ≡ map (has_overload_bit facts) nodes
   pub graph : IsGraph g
   pub named : IsNamed g
   pub grouped : IsGrouped g
@@ -84,11 +84,11 @@ pub record AreReady (facts : Facts) (collected : Gathered) (announced : List Lab
   pub ranges : HaveSrgbs announced
   pub kept : AreKept facts 5
 
--- the parts of a net: the graph, what its nodes announce, and its links in order, of facts that keep all ten rules
+-- the parts of a net: the graph, what its nodes announce, and its links in order, of facts that keep all nine rules
 pub record AreParts (facts : Facts) (built : Graph) (announced : List Labels) (found : List FoundLink) : Type 0 where
   pub depth : facts.depth ≤ MOST_SEGMENTS
   pub graph : IsGraphOf facts (nodes_of facts) found built
   pub labels : announced ≡ all_labels facts
   pub ranges : HaveSrgbs announced
   pub same : IsPermutation (links_of facts) found
-  pub kept : AreKept facts 10
+  pub kept : AreKept facts 9

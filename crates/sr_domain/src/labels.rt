@@ -1,12 +1,12 @@
 //! What the nodes announce, and the rules on it.
 ghost use Rattle.std.specs.Prelude.{◌≡◌, map, IfOk, IfErr};
 ghost use Rattle.std.specs.List.Sorted.{IsStrictlyIncreasing};
-ghost use Rattle.sr_domain.specs.Nodes.{nodes_of, ranges_of, node_sid_of, labels_with, labels_of as labels_in};
+ghost use Rattle.sr_domain.specs.Nodes.{nodes_of, ranges_of, node_sid_of, imposition_of, labels_with, labels_of as labels_in};
 ghost use Rattle.sr_domain.specs.Rules.{AreKept, IsDomainFault};
 ghost use Rattle.sr_domain.specs.Steps.{HaveRanges};
 
 use crate::fault::DomainFault;
-use crate::nodes::{node_sid, srgb_of};
+use crate::nodes::{imposition, node_sid, srgb_of};
 use sr_labels::{NodeLabels, Srgb};
 use sr_lsdb::Facts;
 use sr_model::{DomainRule, Range, SystemId};
@@ -41,11 +41,12 @@ fn all_ranges(
 
 /// What the node announces, with this SRGB.
 fn announced_labels(facts: &Facts, node: SystemId, srgb: Srgb) -> NodeLabels
-    ensures { result ≡ labels_with srgb (node_sid_of facts.now node) }
+    ensures { result ≡ labels_with srgb (node_sid_of facts.now node) (imposition_of facts.now node) }
 {
+    let imposes = imposition(facts, node);
     match node_sid(facts, node) {
-        None => NodeLabels::new(srgb, None, false, false, None),
-        Some(sid) => NodeLabels::new(srgb, Some(sid.index), sid.keep, sid.explicit, None),
+        None => NodeLabels::new(srgb, None, false, false, imposes),
+        Some(sid) => NodeLabels::new(srgb, Some(sid.index), sid.keep, sid.explicit, imposes),
     }
 }
 

@@ -13,13 +13,11 @@ use crate::fault::DomainFault;
 use crate::gathered::{Gathered, gather_facts};
 use crate::labels::node_labels;
 use crate::links::FoundLink;
-use crate::overload::first_overloaded;
 use crate::topology::graph_of;
 use crate::two_way::keys_of;
 use sr_graph::Graph;
 use sr_labels::{Net, NodeLabels};
 use sr_lsdb::Facts;
-use sr_model::DomainRule;
 use std::alloc::{AllocError, Global};
 
 /// The net of this graph and these labels.
@@ -40,7 +38,7 @@ fn assemble(
     Ok(Net::new(graph, labels, adj, announced, facts.depth))
 }
 
-/// The net of what is gathered, or the first broken rule on links and overload.
+/// The net of what is gathered, or the first broken rule on nodes and links.
 fn net_with(
     alloc: Global,
     facts: &Facts,
@@ -58,13 +56,8 @@ fn net_with(
         mut links,
     } = gathered;
     sort_links(&mut links);
-    let overloaded = first_overloaded(facts, &nodes);
     let table = risk_table(alloc, facts, &announced, &links)?;
     let graph = graph_of(alloc, facts, nodes, &links, &table)?;
-    match overloaded {
-        Some(node) => return Err(DomainFault::Rule(DomainRule::Overload { node })),
-        None => {}
-    }
     let net = assemble(alloc, facts, graph, labels, &links, &two_way)?;
     Ok(net)
 }

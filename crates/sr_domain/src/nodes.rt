@@ -1,19 +1,19 @@
-//! The nodes of a domain, their label ranges and their indices.
-ghost use Rattle.std.specs.Prelude.{◌≡◌, map, IfOk};
+//! The nodes of a domain, their label ranges, their indices and their imposition depths.
+ghost use Rattle.std.specs.Prelude.{◌≡◌, map, slice_get, IfOk};
 ghost use Rattle.std.specs.Option.{option_map};
 ghost use Rattle.std.specs.List.{filter_map};
 ghost use Rattle.std.specs.List.Sorted.{IsStrictlyIncreasing};
-ghost use Rattle.sr_domain.specs.Nodes.{past_own, nodes_of, first_ranges, srgb_of as srgb_in, node_sid_by, lesser_sid, least_sid, sid_of_part, least_of_parts, node_sid_of, has_overload_bit as has_overload_bit_in};
+ghost use Rattle.sr_domain.specs.Nodes.{past_own, nodes_of, first_ranges, srgb_of as srgb_in, node_sid_by, lesser_sid, least_sid, sid_of_part, least_of_parts, node_sid_of, imposition_by, imposition_in, imposition_of, has_overload_bit as has_overload_bit_in};
 ghost use Rattle.sr_domain.specs.Announced.{first_id};
 
 use crate::announced::first_id;
 use sr_lsdb::Facts;
 use sr_lsp::{LspId, Part};
 use sr_model::{Range, SystemId};
-use sr_subtlv::{PrefixSid, Sid};
+use sr_subtlv::{Msd, PrefixSid, Sid};
 use sr_wire::registry::{
-    ADDRESS_BITS, LSP_OVERLOAD, PREFIX_SID_EXPLICIT_NULL, PREFIX_SID_NO_POP, PREFIX_SID_NODE,
-    PREFIX_SID_READVERTISED,
+    ADDRESS_BITS, LSP_OVERLOAD, MSD_IMPOSITION, PREFIX_SID_EXPLICIT_NULL, PREFIX_SID_NO_POP,
+    PREFIX_SID_NODE, PREFIX_SID_READVERTISED,
 };
 use std::alloc::{AllocError, Global};
 
@@ -192,6 +192,52 @@ pub(crate) fn node_sid(facts: &Facts, node: SystemId) -> Option<NodeSid>
         }
     }
     found
+}
+
+/// The first of these depths that says how many labels the node can impose.
+fn first_imposition(msds: &[Msd]) -> Option<u8>
+    ensures { result ≡ slice_get (filter_map imposition_by msds.now) 0 }
+{
+    for msd in msds {
+        if msd.kind == MSD_IMPOSITION {
+            return Some(msd.value);
+        }
+    }
+    None
+}
+
+/// The first of these parts' depths that says how many labels the node can impose.
+fn imposition_in(parts: &[Part]) -> Option<u8>
+    ensures { result ≡ imposition_in parts.now }
+{
+    for part in parts {
+        match part {
+            Part::Capability(capability) => match first_imposition(capability.msd.as_slice()) {
+                Some(depth) => return Some(depth),
+                None => {}
+            },
+            _ => {}
+        }
+    }
+    None
+}
+
+/// How many labels the node can impose, where it announces that.
+pub(crate) fn imposition(facts: &Facts, node: SystemId) -> Option<u8>
+    ensures { result ≡ imposition_of facts.now node }
+{
+    let (first, past) = own_ids(node);
+    let database = facts.database.as_map();
+    for (_id, stored) in database.range(first..past) {
+        match &stored.live {
+            Some(shared) => match imposition_in(shared.lsp().parts.as_slice()) {
+                Some(depth) => return Some(depth),
+                None => {}
+            },
+            None => {}
+        }
+    }
+    None
 }
 
 /// Whether the node's LSP with pseudonode 0 and fragment 0 has the overload bit.

@@ -8,6 +8,7 @@ use crate::draft::draft_links;
 use crate::fault::DomainFault;
 use crate::groups::RiskTable;
 use crate::links::FoundLink;
+use crate::overload::{marked, overloaded_of};
 use sr_graph::{Draft, Graph, GraphFault};
 use sr_lsdb::Facts;
 use sr_model::{DomainRule, SystemId};
@@ -37,7 +38,7 @@ fn domain_fault(fault: &GraphFault) -> DomainFault
     }
 }
 
-/// The graph of these nodes and sorted links, or the first broken rule on them.
+/// The graph of these nodes and sorted links, with the overloaded nodes marked, or the first broken rule on them.
 pub(crate) fn graph_of(
     alloc: Global,
     facts: &Facts,
@@ -50,13 +51,17 @@ pub(crate) fn graph_of(
     ensures kept { IfOk result (λ _. AreKept facts.now 9) }
     ensures fault { IfErr result (IsDomainFault facts.now) }
 {
+    let overloaded = overloaded_of(alloc, facts, &nodes)?;
     let drafts = draft_links(alloc, table, links)?;
     let draft = Draft {
         nodes: Seq::new(nodes),
         links: Seq::new(drafts),
     };
     match Graph::build(alloc, draft) {
-        Ok(graph) => Ok(graph),
+        Ok(built) => {
+            let graph = marked(alloc, built, &overloaded)?;
+            Ok(graph)
+        }
         Err(fault) => Err(domain_fault(&fault)),
     }
 }

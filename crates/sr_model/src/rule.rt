@@ -49,8 +49,4 @@ pub enum DomainRule {
     TooManyLinks {
         count: u64,
     },
-    /// A node is overloaded: the least such node.
-    Overload {
-        node: SystemId,
-    },
 }

@@ -36,6 +36,9 @@ pub const SR_CAPABILITIES: u8 = 2;
 /// Sub-TLV of the router capability: maximum SID depths of the node (RFC 8491, 2).
 pub const NODE_MSD: u8 = 23;
 
+/// MSD type: how many labels the node can impose on a packet (RFC 8491, 5).
+pub const MSD_IMPOSITION: u8 = 1;
+
 /// Sub-TLV of SR-Capabilities: a SID or a label (RFC 8667, 2.3).
 pub const SID_LABEL: u8 = 1;
 

@@ -1,9 +1,8 @@
-use Rattle.std.proofs.Common.{◌≡◌, ◌∙◌, ◌≤◌, List, ℕ, length, refl, subst, sym}
+use Rattle.std.proofs.Common.{◌≡◌, ◌∙◌, ◌≤◌, List, ℕ, length, subst, sym}
 use Rattle.std.specs.Prelude.{All}
 use Rattle.std.specs.List.Sorted.{IsPermutation, IsSortedByKey}
 use Rattle.std.proofs.lemmas.List.{with_items_is}
 use Rattle.std.proofs.lemmas.List.Sorted.{All-permutation, length_permutation}
-use Rattle.sr_model.specs.declared.rule.DomainRule.TheVariants.{Overload}
 use Rattle.sr_model.specs.KeyOrder.{key_cmp}
 use Rattle.sr_model.specs.declared.link.TheConstants.{MOST_LINKS}
 use Rattle.sr_domain.specs.declared.links.FoundLink.{FoundLink}
@@ -12,9 +11,7 @@ use Rattle.sr_domain.specs.Groups.{notes_of}
 use Rattle.sr_domain.specs.GroupTables.{GivesGroups, groups_in}
 use Rattle.sr_domain.specs.Links.{JoinsNodes, KeysAscend, link_key, links_of}
 use Rattle.sr_domain.specs.Nodes.{nodes_of}
-use Rattle.sr_domain.specs.Rules.{HoldsNowhere, IsOverloaded}
 use Rattle.sr_domain.specs.Steps.{IsBelowMaximum, IsGraphOf}
-use Rattle.sr_domain.proofs.KeptLemmas.{kept-more}
 use Rattle.sr_domain.proofs.net.net_with.Goals as goal
 
 pub graph_of-requires : goal.graph_of-requires
@@ -23,7 +20,7 @@ graph_of-requires c =
     let nodes = c.args.gathered.nodes.items in
     let found = c.deref_mut.result.now in
     let sorted = c.sort_links.new.links in
-    let same : c.deref-4.result.now ≡ sorted = c.deref-4.ensures.value ∙ with_items_is c.args.gathered.links sorted (length_permutation found sorted c.sort_links.ensures.same ∙ c.deref_mut.ensures.len) in
+    let same : c.deref-3.result.now ≡ sorted = c.deref-3.ensures.value ∙ with_items_is c.args.gathered.links sorted (length_permutation found sorted c.sort_links.ensures.same ∙ c.deref_mut.ensures.len) in
     record {
       nodes = c.requires.gathered.nodes;
       ascending = c.requires.gathered.ascending;
@@ -38,7 +35,7 @@ graph_of-requires c =
           (subst (λ (l : List FoundLink). All IsBelowMaximum l) (sym c.deref_mut.ensures.value) c.requires.gathered.metrics));
       table = c.in_ok-table.ensures.order;
       groups = subst (λ (l : List FoundLink). length l ≤ MOST_LINKS → KeysAscend l → GivesGroups (groups_in c.in_ok-table.table) (announcements_of facts) (notes_of facts))
-          (c.deref-3.ensures.value ∙ sym c.deref-4.ensures.value) c.in_ok-table.ensures.groups;
+          (c.deref-2.ensures.value ∙ sym c.deref-3.ensures.value) c.in_ok-table.ensures.groups;
       kept = c.requires.kept;
     }
 
@@ -47,14 +44,14 @@ assemble-requires-clause-parts c =
     let facts = c.args.facts.now in
     let found = c.deref_mut.result.now in
     let sorted = c.sort_links.new.links in
-    let same : c.deref-5.result.now ≡ sorted = c.deref-5.ensures.value ∙ with_items_is c.args.gathered.links sorted (length_permutation found sorted c.sort_links.ensures.same ∙ c.deref_mut.ensures.len) in
+    let same : c.deref-4.result.now ≡ sorted = c.deref-4.ensures.value ∙ with_items_is c.args.gathered.links sorted (length_permutation found sorted c.sort_links.ensures.same ∙ c.deref_mut.ensures.len) in
     record {
       depth = c.requires.depth;
-      graph = subst (λ (l : List FoundLink). IsGraphOf facts (nodes_of facts) l c.in_ok-graph.graph) (c.deref-4.ensures.value ∙ sym c.deref-5.ensures.value)
-          (subst (λ (ns : List ℕ). IsGraphOf facts ns c.deref-4.result.now c.in_ok-graph.graph) c.requires.gathered.nodes c.in_ok-graph.ensures.graph);
+      graph = subst (λ (l : List FoundLink). IsGraphOf facts (nodes_of facts) l c.in_ok-graph.graph) (c.deref-3.ensures.value ∙ sym c.deref-4.ensures.value)
+          (subst (λ (ns : List ℕ). IsGraphOf facts ns c.deref-3.result.now c.in_ok-graph.graph) c.requires.gathered.nodes c.in_ok-graph.ensures.graph);
       labels = c.requires.labels;
       ranges = c.requires.ranges;
       same = subst (λ (l : List FoundLink). IsPermutation (links_of facts) l) (sym same)
           (subst (λ (l : List FoundLink). IsPermutation l sorted) (c.deref_mut.ensures.value ∙ c.requires.gathered.links) c.sort_links.ensures.same);
-      kept = kept-more facts 9 (Overload 0) refl c.in_ok-graph.ensures.kept (subst (λ (l : List ℕ). HoldsNowhere l (IsOverloaded facts)) (c.deref.ensures.value ∙ c.requires.gathered.nodes) c.in-None.ensures);
+      kept = c.in_ok-graph.ensures.kept;
     }
