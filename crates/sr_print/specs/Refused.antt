@@ -1,9 +1,9 @@
 -- Why a line is refused, as text.
 use Rattle.std.specs.Prelude.{ℕ, List, [], ◌++◌, codes, decimal}
 use Rattle.sr_print.specs.declared.refusal.Refusal.{Refusal}
-use Rattle.sr_print.specs.declared.refusal.Refusal.TheVariants.{UnknownWord, BadForm, BadHex, Malformed, Stale, StagedFull, Rule, NoNode, NoLink, NoDestination, NotAffected, NoVersion, WatchRunning, LineTooLong, VersionsFull}
+use Rattle.sr_print.specs.declared.refusal.Refusal.TheVariants.{UnknownWord, BadForm, BadHex, Malformed, Stale, StagedFull, Rule, Overload, NoNode, NoLink, NoDestination, NotAffected, NoVersion, WatchRunning, LineTooLong, VersionsFull}
 use Rattle.sr_model.specs.declared.rule.DomainRule.{DomainRule}
-use Rattle.sr_model.specs.declared.rule.DomainRule.TheVariants.{NoSrgb, SrgbBad, DuplicateIndex, IndexOutside, AdjLabelClash, ZeroMetric, DuplicateLink, TooManyNodes, TooManyLinks, Overload}
+use Rattle.sr_model.specs.declared.rule.DomainRule.TheVariants.{NoSrgb, SrgbBad, DuplicateIndex, IndexOutside, AdjLabelClash, ZeroMetric, DuplicateLink, TooManyNodes, TooManyLinks}
 use Rattle.sr_print.specs.Printed.{ended, node_word, word}
 
 -- the number and the name of a broken rule
@@ -17,7 +17,6 @@ rule_name (ZeroMetric from to) = codes "16 ZeroMetric"
 rule_name (DuplicateLink from to) = codes "17 DuplicateLink"
 rule_name (TooManyNodes count) = codes "18 TooManyNodes"
 rule_name (TooManyLinks count) = codes "19 TooManyLinks"
-rule_name (Overload node) = codes "20 Overload"
 
 -- the number and the name of a refusal
 abbrev pub refusal_name : Refusal → List ℕ
@@ -28,6 +27,7 @@ refusal_name (Malformed offset what) = codes "4 Malformed"
 refusal_name (Stale stored given) = codes "5 Stale"
 refusal_name StagedFull = codes "6 StagedFull"
 refusal_name (Rule rule) = rule_name rule
+refusal_name (Overload node) = codes "20 Overload"
 refusal_name (NoNode node) = codes "21 NoNode"
 refusal_name (NoLink from to n) = codes "22 NoLink"
 refusal_name (NoDestination node) = codes "23 NoDestination"
@@ -48,7 +48,6 @@ rule_details (ZeroMetric from to) = node_word from ++ node_word to
 rule_details (DuplicateLink from to) = node_word from ++ node_word to
 rule_details (TooManyNodes count) = word (decimal count)
 rule_details (TooManyLinks count) = word (decimal count)
-rule_details (Overload node) = node_word node
 
 -- what a refusal names: numbers in decimal digits, and nodes by their system ids
 abbrev pub details : Refusal → List ℕ
@@ -59,6 +58,7 @@ details (Malformed offset what) = word (decimal offset) ++ word (decimal what)
 details (Stale stored given) = word (decimal stored) ++ word (decimal given)
 details StagedFull = []
 details (Rule rule) = rule_details rule
+details (Overload node) = node_word node
 details (NoNode node) = node_word node
 details (NoLink from to n) = node_word from ++ node_word to ++ word (decimal n)
 details (NoDestination node) = node_word node

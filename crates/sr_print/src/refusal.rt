@@ -27,6 +27,10 @@ pub enum Refusal {
     StagedFull,
     /// The staged edits break a rule of the profile.
     Rule(DomainRule),
+    /// A node is overloaded. Nets have overloaded nodes, so no line answers this; its number isn't used again.
+    Overload {
+        node: SystemId,
+    },
     /// A system isn't a node of the current version.
     NoNode {
         node: SystemId,

@@ -37,7 +37,6 @@ fn rule_name(rule: &DomainRule) -> &'static [u8]
         DomainRule::DuplicateLink { .. } => b"17 DuplicateLink",
         DomainRule::TooManyNodes { .. } => b"18 TooManyNodes",
         DomainRule::TooManyLinks { .. } => b"19 TooManyLinks",
-        DomainRule::Overload { .. } => b"20 Overload",
     }
 }
 
@@ -53,6 +52,7 @@ fn name_of(refusal: &Refusal) -> &'static [u8]
         Refusal::Stale { .. } => b"5 Stale",
         Refusal::StagedFull => b"6 StagedFull",
         Refusal::Rule(rule) => rule_name(rule),
+        Refusal::Overload { .. } => b"20 Overload",
         Refusal::NoNode { .. } => b"21 NoNode",
         Refusal::NoLink { .. } => b"22 NoLink",
         Refusal::NoDestination { .. } => b"23 NoDestination",
@@ -83,9 +83,7 @@ fn put_rule_details(rule: &DomainRule, out: &mut Vec<u8>) -> Result<(), AllocErr
         DomainRule::TooManyNodes { count } | DomainRule::TooManyLinks { count } => {
             put_value(*count, out)
         }
-        DomainRule::NoSrgb { node }
-        | DomainRule::SrgbBad { node }
-        | DomainRule::Overload { node } => put_node(*node, out),
+        DomainRule::NoSrgb { node } | DomainRule::SrgbBad { node } => put_node(*node, out),
     }
 }
 
@@ -105,7 +103,8 @@ fn put_details(refusal: &Refusal, out: &mut Vec<u8>) -> Result<(), AllocError>
             put_nodes(*from, *to, out)?;
             put_value(u64::from(*n), out)
         }
-        Refusal::NoNode { node }
+        Refusal::Overload { node }
+        | Refusal::NoNode { node }
         | Refusal::NoDestination { node }
         | Refusal::NotAffected { node } => put_node(*node, out),
         Refusal::UnknownWord

@@ -43,9 +43,10 @@ fn refusals_are_printed(rt: HostRuntime) -> Result<(), AllocError> {
     };
     put_refused(1, &Refusal::NoVersion, &mut out)?;
     put_refused(2, &malformed, &mut out)?;
+    put_refused(3, &Refusal::Overload { node: from }, &mut out)?;
     put_refused(5, &Refusal::NoLink { from, to, n: 1 }, &mut out)?;
     let text =
-        "refused 1 25 NoVersion\nrefused 2 4 Malformed 45 8\nrefused 5 22 NoLink 0000.0000.0003 0000.0000.0abc 1\n";
+        "refused 1 25 NoVersion\nrefused 2 4 Malformed 45 8\nrefused 3 20 Overload 0000.0000.0003\nrefused 5 22 NoLink 0000.0000.0003 0000.0000.0abc 1\n";
     assert_eq!(rt; out.as_slice(), text.as_bytes());
     Ok(())
 }
