@@ -1,7 +1,7 @@
 -- Laws of sessions, over every line and every script.
 use Rattle.std.specs.Prelude.{◌≡◌, ℕ, ◌+◌, ◌<◌, ◌^◌, Bool, List, length, All}
 use Rattle.sr_model.specs.Rule.{IsNet}
-use Rattle.sr_wire.specs.declared.registry.TheConstants.{ADJ_SID_BACKUP, ADJ_SID_IPV6, ADJ_SID_SET, LSP_OVERLOAD, MAXIMUM_METRIC, PREFIX_SID_EXPLICIT_NULL, PREFIX_SID_NODE, PREFIX_SID_NO_POP, PREFIX_SID_READVERTISED}
+use Rattle.sr_wire.specs.declared.registry.TheConstants.{ADJ_SID_BACKUP, ADJ_SID_IPV6, ADJ_SID_SET, LSP_OVERLOAD, MAXIMUM_METRIC, MSD_IMPOSITION, PREFIX_SID_EXPLICIT_NULL, PREFIX_SID_NODE, PREFIX_SID_NO_POP, PREFIX_SID_READVERTISED}
 use Rattle.sr_lsdb.specs.declared.limits.TheConstants.{MOST_STAGED}
 use Rattle.sr_make.specs.declared.making.TheConstants.{FEWEST_NODES, MOST_NODES}
 use Rattle.sr_engine.specs.Replies.{Answered, Script}
@@ -56,9 +56,11 @@ pub record AdjSidFlags : Type 0 where
   pub backup : ADJ_SID_BACKUP ≡ 0x40
   pub set : ADJ_SID_SET ≡ 0x08
 
--- an overloaded router sets its bit (ISO 10589, 9.9), and the maximum metric has all of its 24 bits (RFC 5305, 3)
+-- an overloaded router sets its bit (ISO 10589, 9.9), how many labels a node can impose is the depth of type 1
+-- (RFC 8491, 5), and the maximum metric has all of its 24 bits (RFC 5305, 3)
 pub record LinkStateNumbers : Type 0 where
   pub overload : LSP_OVERLOAD ≡ 0x04
+  pub imposition : MSD_IMPOSITION ≡ 1
   pub metric : MAXIMUM_METRIC + 1 ≡ 2 ^ 24
 
 -- at most 4,096 edits are staged, and a made net has 3 to 256 nodes (this project's rules)
