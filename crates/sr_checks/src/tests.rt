@@ -11,6 +11,7 @@ mod field;
 mod flooded;
 mod limits;
 mod made;
+mod nodes;
 mod pairs;
 mod remains;
 mod rings;
@@ -21,6 +22,7 @@ use audits::AUDITS;
 use cases::{CASES, Case};
 use edits::EDITS;
 use field::FIELD;
+use nodes::NODES;
 use pairs::PAIRS;
 use rings::RINGS;
 use sr_base::{Runtime, Sink, Source, SteadySink, SteadySource};
@@ -83,6 +85,14 @@ fn rings_are_answered(rt: HostRuntime) -> Result<(), AllocError> {
 #[test]
 fn pairs_are_answered(rt: HostRuntime) -> Result<(), AllocError> {
     for case in &PAIRS {
+        assert!(rt; agrees(&rt, case)?, "{}", case.name);
+    }
+    Ok(())
+}
+
+#[test]
+fn limits_of_nodes_are_answered(rt: HostRuntime) -> Result<(), AllocError> {
+    for case in &NODES {
         assert!(rt; agrees(&rt, case)?, "{}", case.name);
     }
     Ok(())

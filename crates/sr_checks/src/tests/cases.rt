@@ -166,8 +166,8 @@ pub const CASES: [Case; 24] = [
                 commit\n",
         answers: "staged 1\n\
                 staged 2\n\
-                refused 3 20 Overload 0000.0000.0002\n",
-        status: 1,
+                version 1 nodes 2 links 2\n",
+        status: 0,
     },
     Case {
         name: "a metric of zero",
