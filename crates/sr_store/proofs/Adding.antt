@@ -8,9 +8,11 @@ use Rattle.logbook.specs.Pages.{Cell, cell, keeps, no_nib, step, Moves, Goes}
 use Rattle.sr_store.specs.Rules.{IsKeptLog, AddsEntry}
 use Rattle.sr_store.proofs.Fronts.{prefix_whole}
 
+-- the history shows nothing beside itself
 abbrev pub shown : {V : Type 0} → List V → List V
 shown log = []
 
+-- a step has to tell nothing of its two lists
 abbrev pub moved : {V : Type 0} → List V → List V → ℕ → Type 0
 moved xs ys n = Unit {0}
 

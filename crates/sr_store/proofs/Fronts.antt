@@ -1,5 +1,5 @@
 -- Beginnings of one list.
-use Rattle.std.proofs.Common.{◌≡◌, ◌≤◌, List, [], ◌∷◌, ◌++◌, length, refl, ap, sym, ◌∙◌, arith, append_assoc}
+use Rattle.std.proofs.Common.{◌≡◌, ℕ, zero, suc, ◌≤◌, List, [], ◌∷◌, ◌++◌, length, length-append, slice_get, Some, refl, ap, sym, ◌∙◌, subst, arith, append_assoc}
 use mathlib.Core.List.{IsPrefix}
 
 -- each list begins with itself
@@ -9,6 +9,18 @@ prefix_self (x ∷ xs) = (let r = prefix_self xs in r.0, ap (λ ys. x ∷ ys) (p
 
 pub prefix_trans : {A : Type 0} (xs ys zs : List A) → IsPrefix xs ys → IsPrefix ys zs → IsPrefix xs zs
 prefix_trans xs ys zs p q = (p.0 ++ q.0, sym (append_assoc xs p.0 q.0) ∙ (ap (λ w. w ++ q.0) p.1 ∙ q.1))
+
+pub prefix-length : {A : Type 0} (xs zs : List A) → IsPrefix xs zs → length xs ≤ length zs
+prefix-length xs zs p = omega (arith, length-append xs p.0, ap length p.1)
+
+get-more : {A : Type 0} (xs ys : List A) (k : ℕ) (v : A) → slice_get xs k ≡ Some v → slice_get (xs ++ ys) k ≡ Some v
+get-more [] ys k v is = absurd (cc is)
+get-more (x ∷ xs) ys zero v is = is
+get-more (x ∷ xs) ys (suc n) v is = get-more xs ys n v is
+
+-- a place of a list is that place of a longer one
+pub get-prefix : {A : Type 0} (xs zs : List A) (k : ℕ) (v : A) → IsPrefix xs zs → slice_get xs k ≡ Some v → slice_get zs k ≡ Some v
+get-prefix xs zs k v p is = subst (λ w. slice_get w k ≡ Some v) p.1 (get-more xs p.0 k v is)
 
 -- of two beginnings of one list the shorter begins the longer
 pub prefix_shorter : {A : Type 0} (xs ys zs : List A) → IsPrefix xs zs → IsPrefix ys zs → length xs ≤ length ys → IsPrefix xs ys

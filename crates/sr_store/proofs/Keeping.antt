@@ -1,5 +1,5 @@
 -- Each step on a place keeps the rule that the places which know their store are of one store.
-use Rattle.std.proofs.Common.{◌≡◌, ℕ, ◌≢◌, List, [], ◌∷◌, ◌++◌, length, true, Some, slice_get, set, refl, sym, ap, ◌∙◌, subst, ⊎_elim, zero, suc, arith, length-append}
+use Rattle.std.proofs.Common.{◌≡◌, ℕ, ◌-◌, ◌≢◌, List, [], ◌∷◌, ◌++◌, length, true, Some, slice_get, set, refl, sym, ap, ◌∙◌, subst, ⊎_elim, arith, length-append}
 use mathlib.Core.Option.{some}
 use lib.ListN.{get_elem?}
 use Rattle.atomic_table.proofs.Lists.{at_set, at_snoc}
@@ -9,6 +9,7 @@ use Rattle.sr_store.specs.declared.place.View.{View}
 use Rattle.sr_store.specs.Places.{AllOf, Looks, store_name, newcomer, knower}
 use Rattle.sr_store.specs.Histories.{History}
 use Rattle.sr_store.specs.Lists.{EndsWith}
+use Rattle.sr_store.proofs.Numbers.{get-last}
 
 -- a name says which store it is
 pub same_store : (a b : Book) → store_name a ≡ store_name b → a ≡ b
@@ -28,13 +29,10 @@ pub looks : {V : Type 0} (h : History V) (views : List View) (seat : ℕ) (v : V
 looks h views seat v all at = (knower h, placed h.store views seat (knower h) all (λ _. refl), ((λ knows. all seat v at knows), refl))
 
 -- what was added last is the last one
-pub get_last : {V : Type 0} (xs : List V) (x : V) (n : ℕ) → n ≡ length xs → slice_get (xs ++ x ∷ []) n ≡ Some x
-get_last [] x n e = rw e refl
-get_last (y ∷ xs) x zero e = absurd (omega arith)
-get_last (y ∷ xs) x (suc n) e = get_last xs x n (omega arith)
-
 pub ends_with : {V : Type 0} (xs : List V) (x : V) → EndsWith (xs ++ x ∷ []) x
-ends_with xs x = get_last xs x _ (omega (arith, length-append xs (x ∷ [])))
+ends_with xs x =
+    let place : length xs ≡ length (xs ++ x ∷ []) - 1 = omega (arith, length-append xs (x ∷ [])) in
+    subst (λ n. slice_get (xs ++ x ∷ []) n ≡ Some x) place (get-last xs x)
 
 -- the same where the history that is shown next is of the same store
 pub turns : {V : Type 0} (h n : History V) (views : List View) (seat : ℕ) (v : View) → n.store ≡ h.store → AllOf h.store views → get_elem? views seat ≡ some v

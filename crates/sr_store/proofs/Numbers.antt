@@ -1,9 +1,7 @@
 -- Numbers that rise by one.
 use Rattle.std.proofs.Common.{◌≡◌, ℕ, zero, suc, ◌+◌, ◌-◌, ◌<◌, ◌≤◌, List, [], ◌∷◌, ◌++◌, length, Some, slice_get, refl, ap, sym, ◌∙◌, subst, arith, ◌⊎◌, inl, inr, ⊎_elim}
+use Rattle.std.proofs.lemmas.Option.{same_Some}
 use Rattle.sr_store.specs.Histories.{NumbersRise, IsNext}
-
-some-is : {A : Type 0} (x y : A) → Some x ≡ Some y → x ≡ y
-some-is x y e = cc e
 
 get-bound : {V : Type 0} (xs : List V) (k : ℕ) (y : V) → slice_get xs k ≡ Some y → k < length xs
 get-bound [] k y e = absurd (cc e)
@@ -12,7 +10,7 @@ get-bound (x ∷ xs) (suc k) y e = let rest = get-bound xs k y e in omega (arith
 
 pub get-push : {V : Type 0} (xs : List V) (x : V) (k : ℕ) (y : V) → slice_get (xs ++ x ∷ []) k ≡ Some y
     → (slice_get xs k ≡ Some y) ⊎ ((k ≡ length xs) × (x ≡ y))
-get-push [] x zero y e = inr (refl, some-is x y e)
+get-push [] x zero y e = inr (refl, same_Some x y e)
 get-push [] x (suc k) y e = absurd (cc e)
 get-push (z ∷ xs) x zero y e = inl e
 get-push (z ∷ xs) x (suc k) y e =

@@ -8,7 +8,12 @@ counted n = min n (2 ^ 64 - 1)
 
 -- these places were asked for, and this many readers were given
 abbrev pub opened : Usage → ℕ → ℕ → Usage
-opened u places given = record { places = counted (u.places + places); given = counted (u.given + given); published = u.published; turns = u.turns }
+opened u places given = record {
+  places = counted (u.places + places);
+  given = counted (u.given + given);
+  published = u.published;
+  turns = u.turns;
+}
 
 -- one version was published
 abbrev pub spread : Usage → Usage
@@ -16,4 +21,9 @@ spread u = record { places = u.places; given = u.given; published = counted (u.p
 
 -- these turns were taken
 abbrev pub turned : Usage → ℕ → Usage
-turned u turns = record { places = u.places; given = u.given; published = u.published; turns = counted (u.turns + turns) }
+turned u turns = record {
+  places = u.places;
+  given = u.given;
+  published = u.published;
+  turns = counted (u.turns + turns);
+}

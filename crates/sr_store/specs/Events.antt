@@ -3,7 +3,8 @@ use Rattle.std.specs.Prelude.{ℕ, ◌≡◌, ◌==◌, cond, true, false, List,
 use Rattle.logbook.specs.Pages.{Book}
 use Rattle.sr_store.specs.Histories.{History, Begins, IsNext, NumbersRise, with_mark, with_version}
 
--- the writer publishes a version, the reader of a seat takes the writer's list or learns one that it was told, the writer closes
+-- the writer publishes a version, the reader of a seat takes the writer's list or learns one that it was told, the
+-- writer closes
 pub data Event (V : Type 0) : Type 0 where
   Publish : V → Event V
   Grab : ℕ → Event V
@@ -39,9 +40,14 @@ with_list s list = record { list = list; lists = s.lists ++ list ∷ []; reader 
 
 -- the reader of this seat has now this
 abbrev pub seated : {V : Type 0} → StoreState V → ℕ → Holder V → StoreState V
-seated s seat holder = record { list = s.list; lists = s.lists; reader = λ other. cond (other == seat) holder (s.reader other) }
+seated s seat holder = record {
+  list = s.list;
+  lists = s.lists;
+  reader = λ other. cond (other == seat) holder (s.reader other);
+}
 
--- nothing is published after the mark, numbers go up by one, and a list that is learnt is one that the writer has or had
+-- nothing is published after the mark, numbers go up by one, and a list that is learnt is one that the writer has or
+-- had
 abbrev pub CanHappen : {V : Type 0} → (V → ℕ) → StoreState V → Event V → Type 0
 CanHappen number s (Publish version) = (s.list.closed ≡ false) × IsNext number s.list.versions version
 CanHappen number s (Grab seat) = Unit {0}
@@ -52,7 +58,8 @@ CanHappen number s Close = s.list.closed ≡ false
 abbrev pub after : {V : Type 0} → StoreState V → Event V → StoreState V
 after s (Publish version) = with_list s (with_version s.list version)
 after s (Grab seat) = seated s seat (record { list = s.list; told = (s.reader seat).told })
-after s (Learn seat list) = seated s seat (record { list = (s.reader seat).list; told = (s.reader seat).told ++ list ∷ [] })
+after s (Learn seat list) =
+    seated s seat (record { list = (s.reader seat).list; told = (s.reader seat).told ++ list ∷ [] })
 after s Close = with_list s (with_mark s.list)
 
 -- the store after these events
@@ -65,8 +72,8 @@ abbrev pub CanAllHappen : {V : Type 0} → (V → ℕ) → StoreState V → List
 CanAllHappen number s [] = Unit {0}
 CanAllHappen number s (event ∷ events) = CanHappen number s event × CanAllHappen number (after s event) events
 
--- numbers go up by one; what each reader has is a prefix of the writer's list, and of what it would grab; a list with the mark is
--- the writer's
+-- numbers go up by one; what each reader has is a prefix of the writer's list, and of what it would grab; a list with
+-- the mark is the writer's
 pub record IsSoundStore {V : Type 0} (number : V → ℕ) (s : StoreState V) : Type 0 where
   pub numbers : NumbersRise number s.list.versions
   pub list : (seat : ℕ) → Begins (s.reader seat).list s.list

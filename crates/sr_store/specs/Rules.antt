@@ -6,6 +6,7 @@ use Rattle.logbook.specs.Pages.{Cell, Step, View, Book, Named}
 abbrev pub IsKeptLog : {V : Type 0} → List Cell → List V → Type 0
 IsKeptLog cells log = cells ≡ (length log, true) ∷ (0, true) ∷ []
 
+-- the name of the first word of the store of this book, whose step is tracked
 abbrev pub named_head : Book → Named
 named_head b = record { tracked = true; key = 0; book = b }
 

@@ -2,7 +2,7 @@
 ghost use Rattle.std.specs.Prelude.{◌≡◌, ◌-◌, ◌^◌, min, true, false, All, [], ◌≤◌, IfOk, IfErr, MatchResult, vec_len, vec_capacity};
 ghost use Rattle.std.specs.Arc.{arc_value};
 ghost use Rattle.sr_store.specs.Counts.{counted, turned};
-ghost use Rattle.sr_store.specs.Closes.{Ended, turns_of};
+ghost use Rattle.sr_store.specs.Closes.{Ended, HaveEnded, turns_of};
 ghost use Rattle.sr_store.specs.Histories.{with_mark};
 ghost use Rattle.sr_store.specs.Lists.{EndsWith};
 ghost use Rattle.sr_store.specs.Seats.{SeatsFrom};
@@ -15,12 +15,13 @@ use sr_base::Numbered;
 use std::alloc::{AllocError, Global};
 use std::sync::{Arc, Wait};
 
-/// What a store showed at its end: its whole list, the last version of that, and for each reader whether its last turn saw the
-/// list with its mark, so that the reader's list was a prefix of it.
+/// What a store showed at its end: its whole list, the last version of that, the readers after their last turns, and for each
+/// of them whether that turn saw the list with its mark, so that the reader's list was a prefix of it.
 #[derive(Drop)]
 pub struct Closed<V: Numbered + Drop> {
     pub list: Front<V>,
     pub last: Arc<V>,
+    pub readers: Vec<Reader<V>>,
     pub ended: Vec<bool>,
 }
 
@@ -35,20 +36,24 @@ fn turns_of_all<V: Numbered + Drop>(readers: &Vec<Reader<V>>) -> u64
     turns
 }
 
-// The last turn of each reader. There is room for the answers.
-fn last_turns<V: Numbered + Drop>(list: &Front<V>, readers: Vec<Reader<V>>, ended: &mut Vec<bool>)
+// The last turn of each reader. There is room for the readers after it, and for the answers.
+fn last_turns<V: Numbered + Drop>(
+    list: &Front<V>,
+    readers: Vec<Reader<V>>,
+    back: &mut Vec<Reader<V>>,
+    ended: &mut Vec<bool>,
+)
     requires store { All (λ r. r.list.store ≡ list.now.store) readers.items }
-    requires none { ended.old.items ≡ [] }
-    requires room { vec_len readers ≤ vec_capacity ended.old }
-    ensures { Ended list.now readers.items ended.new.items }
+    requires none { (back.old.items ≡ []) × (ended.old.items ≡ []) }
+    requires room { (vec_len readers ≤ vec_capacity back.old) × (vec_len readers ≤ vec_capacity ended.old) }
+    ensures ended { Ended list.now readers.items ended.new.items }
+    ensures marks { HaveEnded readers.items back.new.items ended.new.items }
 {
     for one in readers {
         let mut reader = one;
         let given = reader.last_turn(list);
-        match ended.push(given) {
-            Ok(()) => {}
-            Err(_) => unreachable!(),
-        }
+        ended.push_reserved(given);
+        back.push_reserved(reader);
     }
 }
 
@@ -64,7 +69,7 @@ pub fn close<V: Numbered + Drop, R: Wait>(
     requires free { writer.stuck ≡ false }
     requires seats { SeatsFrom writer.list.store 0 readers.items × (writer.given ≡ vec_len readers) }
     ensures usage { MatchResult result (λ _. usage.new ≡ turned usage.old (turns_of readers.items)) (λ _. usage.new ≡ usage.old) }
-    ensures closed { IfOk result (λ c. (c.list ≡ with_mark writer.list) × EndsWith c.list.versions (arc_value c.last) × Ended c.list readers.items c.ended.items) }
+    ensures closed { IfOk result (λ c. (c.list ≡ with_mark writer.list) × EndsWith c.list.versions (arc_value c.last) × Ended c.list readers.items c.ended.items × HaveEnded readers.items c.readers.items c.ended.items) }
     ensures same { IfErr result (λ e. (e.1.list ≡ writer.list) × (e.1.stuck ≡ true) × (e.1.given ≡ writer.given) × (e.2 ≡ readers)) }
 {
     let turns = turns_of_all(&readers);
@@ -72,13 +77,22 @@ pub fn close<V: Numbered + Drop, R: Wait>(
         Ok(ended) => ended,
         Err(refused) => return Err((refused, writer.locked(), readers)),
     };
+    let mut back = match Vec::with_capacity(alloc, readers.len()) {
+        Ok(back) => back,
+        Err(refused) => return Err((refused, writer.locked(), readers)),
+    };
     let (writer, done) = writer.mark(rt);
     match done {
         Ok(()) => {
-            last_turns(&writer.list, readers, &mut ended);
+            last_turns(&writer.list, readers, &mut back, &mut ended);
             let (last, list) = writer.end(rt);
             usage.count_turns(turns);
-            Ok(Closed { list, last, ended })
+            Ok(Closed {
+                list,
+                last,
+                readers: back,
+                ended,
+            })
         }
         Err(refused) => Err((refused, writer, readers)),
     }

@@ -1,8 +1,6 @@
-//! The turns, which left_right may refuse. These lines are trusted, since no clause of left_right says when it refuses: a refused
-//! turn becomes a `grab` that answers false, or a false entry of `close`; a refused place, in `opening.rt`, a reader fewer. By its
-//! documentation a place is refused where all are taken, and a turn where the writer is gone; neither is so here. Nor has it a clause
-//! by which what is shown is never shorter than what was shown before: a turn that showed less would count as refused. A body that
-//! always refused would be proved too. So each refused `grab` is counted, and the tests find none.
+//! The turns, which left_right may refuse: no clause of it says when, nor that what is shown is never shorter than before. So these
+//! lines are trusted. Its documentation refuses a turn where the writer is gone, which isn't so here. As a body that always refused
+//! would be proved too, each refused `grab` is counted, and the tests find none. A refused place (`opening.rt`) is a reader fewer.
 ghost use Rattle.std.specs.Prelude.{◌≡◌, ◌+◌, true, false, IfOk, IfSome};
 ghost use Rattle.std.specs.Option.{ForSome};
 ghost use Rattle.left_right.specs.Sides.{view};

@@ -1,7 +1,7 @@
 //! The readers of a store, and the notes that they learn.
 ghost use Rattle.std.specs.Prelude.{◌≡◌, ◌≢◌, ◌+◌, true, false, Ok, IfOk, IfSome, MatchBool};
 ghost use Rattle.std.specs.Arc.{arc_value};
-ghost use Rattle.std.specs.Option.{ForSome};
+ghost use Rattle.std.specs.Option.{ForSome, IsSomeAnd};
 ghost use Rattle.left_right.specs.Sides.{view};
 ghost use Rattle.sr_store.specs.Counts.{counted};
 ghost use Rattle.sr_store.specs.Histories.{Begins, NumbersRise};
@@ -128,7 +128,8 @@ impl<V: Numbered + Drop> Reader<V> {
     pub(crate) fn last_turn(&mut self, list: &Front<V>) -> bool
         requires { self.old.list.store ≡ list.now.store }
         ensures list { result ≡ true → Begins self.old.list list.now }
-        ensures mark { result ≡ true → ForSome self.new.place (λ p. (view p.place).closed ≡ true) }
+        ensures mark { result ≡ true → IsSomeAnd self.new.place (λ p. (view p.place).closed ≡ true) }
+        ensures seat { (self.old.list.store ≡ self.new.list.store) × (self.old.seat ≡ self.new.seat) }
     {
         match self.glance() {
             Some(shown) => shown && self.list.begins(list),
@@ -138,8 +139,8 @@ impl<V: Numbered + Drop> Reader<V> {
 
     // Whether the list that is shown has the close mark, where left_right gives a turn.
     fn glance(&mut self) -> Option<bool>
-        ensures mark { IfSome result (λ closed. ForSome self.new.place (λ p. (view p.place).closed ≡ closed)) }
-        ensures list { self.new.list ≡ self.old.list }
+        ensures mark { IfSome result (λ closed. IsSomeAnd self.new.place (λ p. (view p.place).closed ≡ closed)) }
+        ensures list { (self.new.list ≡ self.old.list) × (self.new.seat ≡ self.old.seat) }
     {
         let Some(place) = self.place.take() else {
             return None;
