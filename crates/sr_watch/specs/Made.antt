@@ -10,14 +10,14 @@ use Rattle.sr_watch.specs.declared.seated.Done.{Done}
 use Rattle.sr_watch.specs.declared.apart.Rounds.{Rounds}
 use Rattle.sr_watch.specs.Rounds.{Inspection, Chain, Repeats}
 
--- all rounds of a task, made at a reader that was so at the start and so at the end; where the numbers of the reader's
--- list don't fall, the numbers of the rounds don't
+-- all rounds of a task, made at a reader that was so at the start and so at the end; the numbers of the rounds don't
+-- fall
 pub record Took {V I O : Type 0} (how : Inspection V I O) (task : Task I)
     (start end : Reader V) (rounds : List (Round O)) : Type 0 where
   pub chain : Chain how task task.first start.list end.list rounds
   pub count_is : length rounds ≡ task.rounds
   pub turns : end.turns ≡ counted (start.turns + task.rounds)
-  pub rising : IsNonDecreasingBy how.number_of end.list.versions → IsNonDecreasingBy (λ r. r.number) rounds
+  pub rising : IsNonDecreasingBy (λ r. r.number) rounds
 
 -- the reader at the end has the same seat at the same store, and its list begins with the list at the start
 pub record Kept {V : Type 0} (start end : Reader V) : Type 0 where

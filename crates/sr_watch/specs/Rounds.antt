@@ -10,6 +10,7 @@ pub record Inspection (V I O : Type 0) : Type 1 where
   pub number_of : V → ℕ
   pub means : I → V → O → Type 0
 
+-- versions are inspected by these
 abbrev pub inspection_by : {V I O : Type 0} → (V → ℕ) → (I → V → O → Type 0) → Inspection V I O
 inspection_by number_of means = record { number_of = number_of; means = means }
 

@@ -57,14 +57,18 @@ where
         → SeatedRounds (inspection_by V.number_of I.means) seated.items back.new.items all.new.items }
 {
     let mut whole = true;
-    for one in seated {
+    let count = seated.len();
+    let mut left = seated.into_iter();
+    for _ in 0..count {
+        let one = match left.next() {
+            Some(one) => one,
+            None => unreachable!(),
+        };
         let Done { reader, result } = one.join(rt);
-        match back.push(reader) {
-            Ok(()) => {}
-            Err(_) => unreachable!(),
-        }
+        back.push_reserved(reader);
         whole = gather(all, whole, result);
     }
+    left.destroy_empty();
     whole
 }
 
@@ -83,10 +87,17 @@ where
         → ApartRounds (inspection_by V.number_of I.means) apart.items all.new.items }
 {
     let mut whole = true;
-    for one in apart {
+    let count = apart.len();
+    let mut left = apart.into_iter();
+    for _ in 0..count {
+        let one = match left.next() {
+            Some(one) => one,
+            None => unreachable!(),
+        };
         let Rounds { result } = one.join(rt);
         whole = gather(all, whole, result);
     }
+    left.destroy_empty();
     whole
 }
 

@@ -131,10 +131,7 @@ where
             None => unreachable!(),
         };
         let one = seat_one(rt, alloc, task, gate, reader);
-        match seated.push(one) {
-            Ok(()) => {}
-            Err(_) => unreachable!(),
-        }
+        seated.push_reserved(one);
     }
     seated
 }
@@ -168,10 +165,7 @@ where
         let Outlook { gate, version } = outlook;
         task.watcher += 1;
         let one = set_one_apart(rt, alloc, task, gate, version);
-        match apart.push(one) {
-            Ok(()) => {}
-            Err(_) => unreachable!(),
-        }
+        apart.push_reserved(one);
     }
     apart
 }

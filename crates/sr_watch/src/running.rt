@@ -5,8 +5,8 @@ use std::marker::Model;
 use std::thread;
 use std::thread::{Promise, PromisedHandle, Threads};
 
-/// A thread that makes a value, or the value. Contracts see it as what was promised.
-#[derive(Drop)]
+/// A thread that makes a value, or the value. Contracts see it as what was promised. It isn't `Drop`, so whoever has one
+/// joins it or hands it on.
 pub struct Running<T: Drop, P: Promise<T> + Drop> {
     plan: P,
     child: Option<PromisedHandle<T, P>>,

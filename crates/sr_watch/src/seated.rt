@@ -87,6 +87,7 @@ where
             }
         }
     }
+    reader.list.is_numbered();
     Done {
         reader,
         result: Ok(made),

@@ -20,8 +20,7 @@ pub struct Outlook<V: Drop, G: Drop> {
 }
 
 /// Gates for the watchers that have a reader, gates and versions for those that have none, and room for both.
-#[derive(Drop)]
-pub struct Stock<V: Numbered + Drop, W: Drop, X: Drop, G: Drop> {
+pub struct Stock<V: Numbered + Drop, W, X, G: Drop> {
     pub gates: Vec<Arc<G>>,
     pub outlooks: Vec<Outlook<V, G>>,
     pub seated: Vec<W>,
@@ -74,7 +73,7 @@ fn one_outlook<V: Drop, G: Drop>(
 
 /// Takes all memory that these numbers of watchers are started with: `given` with a reader, and `others` on this version.
 /// The error is out of memory.
-pub(crate) fn take_stock<V: Numbered + Drop, W: Drop, X: Drop, G: Drop>(
+pub(crate) fn take_stock<V: Numbered + Drop, W, X, G: Drop>(
     alloc: Global,
     gate: &Arc<G>,
     version: &Arc<V>,
@@ -85,14 +84,19 @@ pub(crate) fn take_stock<V: Numbered + Drop, W: Drop, X: Drop, G: Drop>(
 {
     let gates = copies(alloc, gate, given)?;
     let outlooks = outlooks(alloc, gate, version, others)?;
-    let seated = Vec::with_capacity(alloc, given)?;
-    let apart = Vec::with_capacity(alloc, others)?;
     let room = Vec::with_capacity(alloc, given)?;
-    Ok(Stock {
-        gates,
-        outlooks,
-        seated,
-        apart,
-        room,
-    })
+    let seated = Vec::with_capacity(alloc, given)?;
+    match Vec::with_capacity(alloc, others) {
+        Ok(apart) => Ok(Stock {
+            gates,
+            outlooks,
+            seated,
+            apart,
+            room,
+        }),
+        Err(refused) => {
+            seated.destroy_empty();
+            Err(refused)
+        }
+    }
 }

@@ -22,8 +22,7 @@ use std::sync::Arc;
 use std::thread::Threads;
 
 /// The watchers that run, and room for their readers. Contracts see it as the plans of its watchers: of those that have
-/// a reader, and of those that have none.
-#[derive(Drop)]
+/// a reader, and of those that have none. It isn't `Drop`, so whoever has one joins it or hands it on.
 pub struct Watch<V: Numbered + Drop, I: Inspect<V> + Drop>
 where
     I::Out: Drop,
@@ -131,11 +130,7 @@ where
         first: 0,
         rounds: 1,
     };
-    let one = set_one_apart(rt, alloc, task, gate, version);
-    match apart.push(one) {
-        Ok(()) => {}
-        Err(_) => unreachable!(),
-    }
+    apart.push_reserved(set_one_apart(rt, alloc, task, gate, version));
     Ok(Watch {
         alloc,
         seated: Vec::new(alloc),

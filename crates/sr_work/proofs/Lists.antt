@@ -1,23 +1,8 @@
--- Lists that begin with others, and pairs in lists.
-use Rattle.std.proofs.Common.{◌≡◌, ℕ, zero, suc, ◌-◌, ◌<◌, ◌≤◌, List, [], ◌∷◌, ◌++◌, length, length-append, slice_get, Some, refl, sym, ap, ◌∙◌, subst, append_assoc, arith, All}
+-- The last element of a list, and pairs in lists.
+use Rattle.std.proofs.Common.{◌≡◌, ℕ, zero, suc, ◌-◌, ◌<◌, ◌≤◌, List, [], ◌∷◌, ◌++◌, length, slice_get, Some, refl, subst, arith, All}
 use Rattle.std.specs.List.{AllPairs}
 use Rattle.std.proofs.lemmas.List.Elements.{All-tail, All-append}
 use Rattle.std.proofs.lemmas.List.Kept.{AllPairs-cons}
-use mathlib.Core.List.{IsPrefix}
-
-pub get-more : {A : Type 0} (xs ys : List A) (k : ℕ) (v : A) → slice_get xs k ≡ Some v → slice_get (xs ++ ys) k ≡ Some v
-get-more [] ys k v is = absurd (cc is)
-get-more (x ∷ xs) ys zero v is = is
-get-more (x ∷ xs) ys (suc n) v is = get-more xs ys n v is
-
-pub get-prefix : {A : Type 0} (xs zs : List A) (k : ℕ) (v : A) → IsPrefix xs zs → slice_get xs k ≡ Some v → slice_get zs k ≡ Some v
-get-prefix xs zs k v p is = subst (λ w. slice_get w k ≡ Some v) p.1 (get-more xs p.0 k v is)
-
-pub prefix-then : {A : Type 0} (xs ys zs : List A) → IsPrefix xs ys → IsPrefix ys zs → IsPrefix xs zs
-prefix-then xs ys zs p q = (p.0 ++ q.0, sym (append_assoc xs p.0 q.0) ∙ (ap (λ w. w ++ q.0) p.1 ∙ q.1))
-
-pub prefix-length : {A : Type 0} (xs zs : List A) → IsPrefix xs zs → length xs ≤ length zs
-prefix-length xs zs p = omega (arith, length-append xs p.0, ap length p.1)
 
 -- a list that isn't empty has a last element
 pub last-there : {A : Type 0} (xs : List A) → 0 < length xs → (v : A) × (slice_get xs (length xs - 1) ≡ Some v)

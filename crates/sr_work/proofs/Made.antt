@@ -22,7 +22,7 @@ use Rattle.sr_work.specs.Watched.{Watched, AreNumberedFrom}
 use Rattle.sr_work.specs.Started.{WasStarted}
 use Rattle.sr_work.specs.Reports.{AreReports}
 use Rattle.sr_work.specs.Reported.{is_refused, report_of, report_made, AreMade}
-use Rattle.sr_work.proofs.Lists.{get-prefix, prefix-length, prefix-then}
+use Rattle.sr_store.proofs.Fronts.{get-prefix, prefix-length, prefix_trans}
 use Rattle.sr_work.proofs.Numbers.{numbered-at}
 use Rattle.sr_work.proofs.Refused.{refused-mid, refused-out}
 use Rattle.sr_work.proofs.Rows.{round_is, OfOne, OfMany, one-none, one-more, many-none, many-more, are-reports}
@@ -40,6 +40,7 @@ made-anew : (es : List Bool) (f : ℕ) (anew : Counts) (r : Round Counts) (w n :
 made-anew es f anew r w n rw_ rr refused = rw (rw_, rr, refused) refl
 
 module _ (W : List NumberedNet) (es : List Bool) (first : NumberedNet) (anew : Counts) (b : ℕ) where
+  -- the report of a round
   abbrev made : Round Counts → RoundReport
   made r = report_made es first.number anew r
 
@@ -56,7 +57,7 @@ module _ (W : List NumberedNet) (es : List Bool) (first : NumberedNet) (anew : C
       let longer = prefix-length start.versions list.versions h.1.versions in
       let grown = chain-grows counting task (n + 1) list end xs h.3 in
       let place = length list.versions - 1 in
-      let at = get-prefix list.versions W place v (prefix-then list.versions end.versions W grown.versions p) of.1 in
+      let at = get-prefix list.versions W place v (prefix_trans list.versions end.versions W grown.versions p) of.1 in
       let number = numbered-at b W place v nums at in
       let named : x.number ≡ v.number = of.2.2 in
       let y = report_of (Some (round_is w n)) x.number x.out in
@@ -105,6 +106,7 @@ map-length f [] = refl
 map-length f (x ∷ xs) = ap suc (map-length f xs)
 
 module _ (H : History NumberedNet) (es : List Bool) (first : NumberedNet) (anew : Counts) (b : ℕ) (i : Counting) (R : ℕ) where
+  -- the reports of these rounds
   abbrev all-made : List (Round Counts) → List RoundReport
   all-made rs = map (report_made es first.number anew) rs
 

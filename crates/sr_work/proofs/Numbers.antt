@@ -3,7 +3,8 @@ use Rattle.std.proofs.Common.{◌≡◌, ℕ, zero, suc, ◌+◌, ◌-◌, ◌�
 use mathlib.Core.List.{IsPrefix}
 use Rattle.sr_repair.specs.Version.{NumberedNet}
 use Rattle.sr_work.specs.Watched.{AreNumberedFrom, IsNumberedNext}
-use Rattle.sr_work.proofs.Lists.{last-there, prefix-length}
+use Rattle.sr_store.proofs.Fronts.{prefix-length}
+use Rattle.sr_work.proofs.Lists.{last-there}
 
 -- one more
 pub numbered-more : (n : ℕ) (xs : List NumberedNet) (v : NumberedNet) → AreNumberedFrom n xs → v.number ≡ n + length xs → AreNumberedFrom n (xs ++ v ∷ [])

@@ -10,18 +10,23 @@ use Rattle.sr_repair.specs.Version.{NumberedNet}
 use Rattle.sr_work.specs.Reports.{IsReportOfOne, IsNoEarlier, rounds_of, watcher_of, AreReports}
 use Rattle.sr_work.proofs.Lists.{pairs-append}
 
+-- this round of this watcher
 abbrev pub round_is : ℕ → ℕ → WatchRound
 round_is watcher round = record { watcher = watcher; round = round }
 
+-- of which round the report is
 abbrev pub round_in : RoundReport → Option WatchRound
 round_in report = report.round
 
+-- the report names no version before this
 abbrev pub IsAtLeast : ℕ → RoundReport → Type 0
 IsAtLeast least report = least ≤ report.version
 
+-- the report is of this watcher
 abbrev pub IsOfWatcher : ℕ → RoundReport → Type 0
 IsOfWatcher watcher report = watcher_of report ≡ Some watcher
 
+-- the report is of this watcher or a later one
 abbrev pub IsFromWatcher : ℕ → RoundReport → Type 0
 IsFromWatcher watcher report = (w : ℕ) × (watcher_of report ≡ Some w) × (watcher ≤ w)
 

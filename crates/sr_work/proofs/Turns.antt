@@ -15,6 +15,7 @@ use Rattle.sr_watch.specs.declared.seated.Seated.{Seated}
 use Rattle.sr_watch.specs.Starts.{Plans, task_of, next_task, SeatedFrom}
 use Rattle.sr_watch.specs.Joins.{Back, SeatedRounds, AllRounds}
 use Rattle.sr_work.specs.declared.counting.Counting.{Counting}
+use Rattle.sr_work.specs.declared.watched.TheConstants.{MOST_ROUNDS}
 use Rattle.sr_work.specs.Watched.{Watched}
 use Rattle.sr_work.specs.Started.{WasStarted, IsPlaced}
 use Rattle.sr_work.proofs.Made.{counting, seated-length, back-length}
@@ -40,7 +41,7 @@ back-count task readers ps back from h = seated-length task readers ps from ∙ 
 
 -- each of them took all its turns
 back-turns : (task : Task Counting) (list : List NumberedNet) (readers : List (Reader NumberedNet)) (ps : List (Seated NumberedNet Counting)) (back : List (Reader NumberedNet)) (rounds : List (Round Counts))
-    → task.rounds ≤ 16 → SeatedFrom task readers ps → SeatedRounds counting ps back rounds → All (IsPlaced list) readers → turns_of back ≡ length readers * task.rounds
+    → task.rounds ≤ MOST_ROUNDS → SeatedFrom task readers ps → SeatedRounds counting ps back rounds → All (IsPlaced list) readers → turns_of back ≡ length readers * task.rounds
 back-turns task list [] [] [] rounds le from h seats = grind arith
 back-turns task list [] [] (b ∷ bs) rounds le from h seats = absurd h
 back-turns task list [] (p ∷ ps) back rounds le from h seats = absurd from

@@ -8,6 +8,7 @@ use Rattle.sr_store.specs.Seats.{SeatsFrom}
 use Rattle.sr_watch.specs.declared.task.Rota.{Rota}
 use Rattle.sr_watch.specs.Starts.{Plans, Started, Holds}
 use Rattle.sr_work.specs.declared.counting.Counting.{Counting}
+use Rattle.sr_work.specs.declared.watched.TheConstants.{MOST_ROUNDS}
 use Rattle.sr_work.specs.Watched.{Watched, AreNumberedFrom}
 
 -- its watchers, and the rounds of each
@@ -32,7 +33,7 @@ pub record WasStarted (plans : Plans NumberedNet Counting) (list : History Numbe
   pub versions : list.versions ≡ watched.versions
   pub begins : IsPrefix (first ∷ []) watched.versions
   pub numbers : AreNumberedFrom first.number watched.versions
-  pub few : watched.rounds ≤ 16
+  pub few : watched.rounds ≤ MOST_ROUNDS
 
 -- the hold was started on this version
 pub record HoldsVersion (plans : Plans NumberedNet Counting) (version : NumberedNet) : Type 0 where

@@ -16,8 +16,8 @@ use std::snapshot::Snapshot;
 use std::sync::Arc;
 use std::thread::Threads;
 
-/// A hold: one audit of one version, in a thread where there is one. Contracts see it as the version.
-#[derive(Drop)]
+/// A hold: one audit of one version, in a thread where there is one. Contracts see it as the version. It isn't `Drop`, so
+/// whoever has one joins it or hands it on.
 pub struct RunningHold {
     watch: Watch<Version, Counting>,
     version: Snapshot<Version>,

@@ -7,6 +7,7 @@ ghost use Rattle.sr_store.specs.Counts.{opened, spread, turned};
 ghost use Rattle.sr_store.specs.Histories.{with_mark};
 ghost use Rattle.sr_store.specs.Seats.{SeatsFrom};
 ghost use Rattle.sr_work.specs.Reports.{AreReports};
+ghost use Rattle.sr_work.specs.declared.watched.TheConstants.{MOST_ROUNDS, MOST_WATCHERS};
 ghost use Rattle.sr_work.specs.Watched.{watched_from, with_next, IsNumberedNext};
 
 use crate::counting::Counting;
@@ -20,6 +21,12 @@ use std::alloc::{AllocError, Global};
 use std::marker::Model;
 use std::sync::{Arc, Wait};
 use std::thread::Threads;
+
+/// A watch has at most this many watchers.
+pub const MOST_WATCHERS: u32 = 8;
+
+/// Each of its watchers makes at most this many rounds.
+pub const MOST_ROUNDS: u32 = 16;
 
 /// A watch: watchers that audit what is published, each in a thread where there is one. Contracts see it as its watchers
 /// and rounds, how many of the watchers have a reader, and the versions that they could meet so far.
@@ -90,7 +97,7 @@ impl RunningWatch {
         usage: &mut Usage,
     ) -> Result<RunningWatch, AllocError>
         requires shared { IsSync R.row }
-        requires few { (0 < watchers) × (watchers ≤ 8) × (rounds ≤ 16) }
+        requires few { (0 < watchers) × (watchers ≤ MOST_WATCHERS) × (rounds ≤ MOST_ROUNDS) }
         ensures given { IfOk result (λ w. w.given ≤ watchers) }
         ensures watched { IfOk result
             (λ w. w ≡ watched_from watchers rounds w.given (arc_value version.now)) }

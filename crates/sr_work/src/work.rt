@@ -2,6 +2,7 @@
 ghost use Rattle.std.specs.Prelude.{◌≡◌, ◌<◌, ◌≤◌, IfOk, OnOk, MatchResult};
 ghost use Rattle.std.specs.Arc.{arc_value};
 ghost use Rattle.std.specs.Thread.{IsSync};
+ghost use Rattle.sr_work.specs.declared.watched.TheConstants.{MOST_ROUNDS, MOST_WATCHERS};
 ghost use Rattle.sr_work.specs.Works.{StartsWatch, MayFollow, AreReportsOf};
 ghost use Rattle.sr_work.specs.Works.{after_publishing, usage_published, usage_joined};
 
@@ -49,7 +50,7 @@ impl Work {
         usage: &mut Usage,
     ) -> Result<Work, AllocError>
         requires shared { IsSync R.row }
-        requires few { (0 < watchers) × (watchers ≤ 8) × (rounds ≤ 16) }
+        requires few { (0 < watchers) × (watchers ≤ MOST_WATCHERS) × (rounds ≤ MOST_ROUNDS) }
         ensures { IfOk result
             (λ work. StartsWatch watchers rounds (arc_value version.now) work usage.old usage.new) }
     {

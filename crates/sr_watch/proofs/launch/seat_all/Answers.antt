@@ -29,13 +29,13 @@ loop-reader-preserved g c =
     let seated = c.loop-reader.seated in
     let here : task.watcher + 1 ≡ (before.watcher + 1) + length seated.items = omega (arith, was.number, seated.ok) in
     record {
-      room = omega (arith, was.room, steps.1, c.in-Ok.ensures.len, c.in-Ok.ensures.capacity);
+      room = omega (arith, was.room, steps.1, c.push_reserved.ensures.len, c.push_reserved.ensures.capacity);
       gates = omega (arith, was.gates, steps.1, c.in-Some-pop.ensures.cases);
-      number = omega (arith, was.number, c.in-Ok.ensures.len);
+      number = omega (arith, was.number, c.push_reserved.ensures.len);
       few = was.few;
       task = ap next_task was.task;
-      all = omega (arith, was.all, steps.1, c.in-Ok.ensures.len);
-      done = rw c.in-Ok.ensures.items (one-seated (next_task before) c.args.readers.items c.next.new.self.rest.items seated.items c.in-Some.reader c.seat_one-one.result (next_task task) (task-next task before _ was.task here) done c.seat_one-one.ensures);
+      all = omega (arith, was.all, steps.1, c.push_reserved.ensures.len);
+      done = rw c.push_reserved.ensures.items (one-seated (next_task before) c.args.readers.items c.next.new.self.rest.items seated.items c.in-Some.reader c.seat_one-one.result (next_task task) (task-next task before _ was.task here) done c.seat_one-one.ensures);
     }
 
 pub returns : goal.returns

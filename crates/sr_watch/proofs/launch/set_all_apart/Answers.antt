@@ -32,11 +32,11 @@ loop-outlook-preserved g c =
     let v = arc_value c.args.version.now in
     let here : task.watcher + 1 ≡ (before.watcher + 1) + length apart.items = omega (arith, was.number, apart.ok) in
     record {
-      room = omega (arith, was.room, steps.1, c.in-Ok.ensures.len, c.in-Ok.ensures.capacity);
-      number = omega (arith, was.number, c.in-Ok.ensures.len);
+      room = omega (arith, was.room, steps.1, c.push_reserved.ensures.len, c.push_reserved.ensures.capacity);
+      number = omega (arith, was.number, c.push_reserved.ensures.len);
       few = was.few;
       task = ap next_task was.task;
-      all = omega (arith, was.all, steps.1, c.in-Ok.ensures.len);
+      all = omega (arith, was.all, steps.1, c.push_reserved.ensures.len);
       same = All-tail (λ o. arc_value o.version ≡ v) c.in-Some.outlook c.next.new.self.rest.items same;
-      done = rw c.in-Ok.ensures.items (apart-more (next_task before) v apart.items c.set_one_apart-one.result (next_task task) (task-next task before _ was.task here) was.done (rw version at c.set_one_apart-one.ensures));
+      done = rw c.push_reserved.ensures.items (apart-more (next_task before) v apart.items c.set_one_apart-one.result (next_task task) (task-next task before _ was.task here) was.done (rw version at c.set_one_apart-one.ensures));
     }

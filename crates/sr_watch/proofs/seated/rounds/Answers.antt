@@ -1,15 +1,16 @@
 use Rattle.std.proofs.Common.{◌≡◌, ◌+◌, [], refl, length, length-append, ◌∷◌, ap, sym, ◌∙◌, arith}
 use Rattle.std.proofs.lemmas.Grind.{common_steps}
 use Rattle.sr_watch.specs.Rounds.{inspection_by}
-use Rattle.sr_watch.proofs.Chains.{begins-same, kept-then, chain-more, chain-rising}
+use Rattle.sr_store.proofs.Growth.{begins-self}
+use Rattle.sr_watch.proofs.Chains.{kept-then, chain-more, chain-rising}
 use Rattle.sr_watch.proofs.seated.rounds.Goals as goal
 
 pub loop-past-init : goal.loop-past-init
 loop-past-init g c =
     let made = c.new-made.ensures.items in
     record {
-      kept = record { list = begins-same c.args.reader.list; seat = refl };
-      chain = rw made (begins-same c.args.reader.list);
+      kept = record { list = begins-self c.args.reader.list; seat = refl };
+      chain = rw made (begins-self c.args.reader.list);
       count = ap length made;
       turns = grind (arith, common_steps);
     }
@@ -26,7 +27,7 @@ returns g c =
         chain = was.chain;
         count_is = count;
         turns = omega (arith, was.turns, was.count, count);
-        rising = chain-rising how task task.first c.args.reader.list c.loop-past.reader.list c.loop-past.made.items was.chain;
+        rising = chain-rising how task task.first c.args.reader.list c.loop-past.reader.list c.loop-past.made.items was.chain c.is_numbered.ensures;
       };
     }
 
