@@ -3,13 +3,13 @@ ghost use Rattle.std.specs.Prelude.{◌≡◌, ◌<◌, ◌+◌, ◌^◌, false,
 
 use super::*;
 use sr_base::{Numbered, Runtime};
-use sr_store::{Usage, Writer, abandon, open};
+use sr_store::{Reader, Usage, Writer, abandon, open};
 use std::alloc::{AllocError, Global};
 use std::sync::atomic::AtomicU64;
 use std::sync::atomic::Ordering::SeqCst;
 use std::sync::{Arc, Wait};
 use std::test::Fail;
-use std::thread::yield_now;
+use std::thread::{Threads, yield_now};
 
 #[derive(Drop)]
 struct Stamp {
@@ -69,6 +69,20 @@ impl Gate for Meeting {
     }
 }
 
+// The join of a watch that was started, or else the readers that came back.
+fn join_started(
+    rt: &impl Threads,
+    started: Result<Watch<Stamp, Doubling>, (AllocError, Vec<Reader<Stamp>>)>,
+) -> Joined<Stamp, u64> {
+    match started {
+        Ok(watch) => watch.join(rt),
+        Err((refused, readers)) => Joined {
+            readers,
+            result: Err(refused),
+        },
+    }
+}
+
 #[test]
 fn two_watchers_without_readers(rt: HostRuntime) -> Result<(), Fail> {
     let alloc = rt.alloc();
@@ -79,10 +93,7 @@ fn two_watchers_without_readers(rt: HostRuntime) -> Result<(), Fail> {
         rounds: 1,
     };
     let started = start(&rt, alloc, Doubling, &gate, Vec::new(alloc), rota, current);
-    let Ok(watch) = started else {
-        return Err(AllocError.into());
-    };
-    let rounds = watch.join(&rt).result?;
+    let rounds = join_started(&rt, started).result?;
     assert_eq!(rt; rounds.len(), 2);
     for (at, round) in rounds.iter().enumerate() {
         assert_eq!(rt; (round.watcher as usize, round.round), (at + 1, 1));
@@ -119,33 +130,36 @@ fn watchers_run_beside_each_other(rt: HostRuntime) -> Result<(), Fail> {
         rounds: 2,
     };
     let started = start(&rt, alloc, Doubling, &gate, Vec::new(alloc), rota, current);
-    let Ok(watch) = started else {
-        return Err(AllocError.into());
-    };
-    let rounds = watch.join(&rt).result?;
+    let rounds = join_started(&rt, started).result?;
     assert_eq!(rt; rounds.len(), 4);
     assert_eq!(rt; gate.met.load(SeqCst), 1);
     Ok(())
 }
 
-// Publishes the version whose number is one above that of the first.
-fn publish_second<R: Wait>(
+// Publishes as many versions as are asked for, numbered on from the last one.
+fn publish_on<R: Wait>(
     rt: &R,
     alloc: Global,
     writer: &mut Writer<Stamp>,
-    first: u32,
+    last: u32,
+    count: u32,
     usage: &mut Usage,
 ) -> Result<(), AllocError>
     requires open { writer.old.stuck ≡ false }
-    requires few { first + 1 < 2 ^ 32 }
-    requires list { writer.old.list.versions ≡ record { number = first } ∷ [] }
+    requires few { last + count < 2 ^ 32 }
+    requires list { writer.old.list.versions ≡ record { number = last } ∷ [] }
 {
-    let second = Arc::new(alloc, Stamp { number: first + 1 })?;
-    writer.publish(rt, second, usage)
+    for past in 0..count {
+        let number = last + past + 1;
+        let next = Arc::new(alloc, Stamp { number })?;
+        writer.publish(rt, next, usage)?;
+    }
+    Ok(())
 }
 
+// The third watcher has no reader, and looks at the first version alone.
 #[test]
-fn two_readers_beside_a_writer(rt: HostRuntime) -> Result<(), Fail> {
+fn readers_beside_a_writer(rt: HostRuntime) -> Result<(), Fail> {
     let alloc = rt.alloc();
     let mut usage = Usage::new();
     let gate = Arc::new(alloc, OpenGate)?;
@@ -153,27 +167,24 @@ fn two_readers_beside_a_writer(rt: HostRuntime) -> Result<(), Fail> {
     let current = Arc::try_clone(&first)?;
     let (mut writer, readers) = open(&rt, alloc, first, 2, &mut usage)?;
     let rota = Rota {
-        watchers: 2,
-        rounds: 50,
+        watchers: 3,
+        rounds: 200,
     };
     let started = start(&rt, alloc, Doubling, &gate, readers, rota, current);
-    let published = publish_second(&rt, alloc, &mut writer, 5, &mut usage);
-    let joined = match started {
-        Ok(watch) => watch.join(&rt),
-        Err((refused, readers)) => Joined {
-            readers,
-            result: Err(refused),
-        },
-    };
-    let turns = joined.readers.iter().all(|reader| reader.turns() == 50);
+    let published = publish_on(&rt, alloc, &mut writer, 5, 1_000, &mut usage);
+    let joined = join_started(&rt, started);
+    let turns = joined.readers.iter().all(|reader| reader.turns() == 200);
     abandon(&rt, writer, joined.readers);
     published?;
+    let rounds = joined.result?;
+    assert!(rt; turns);
+    assert_eq!(rt; (rounds.len(), usage.published()), (600, 1_000));
     let mut before = (0, 0);
-    for round in &joined.result? {
-        assert!(rt; round.number == 5 || round.number == 6);
+    for round in &rounds {
+        assert!(rt; 5 <= round.number && round.number <= 1_005);
+        assert!(rt; round.watcher != 3 || round.number == 5);
         assert!(rt; before <= (round.watcher, round.number));
         before = (round.watcher, round.number);
     }
-    assert!(rt; turns);
     Ok(())
 }
