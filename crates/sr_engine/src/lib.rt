@@ -12,7 +12,7 @@ pub use answers::Answers;
 pub use end::End;
 pub use laws::lines_are_determined;
 pub use output::write_all;
-pub use script::{Fill, Script, read_on};
+pub use script::{Fill, LONGEST_LINE, Script, read_on};
 
 #[cfg(test)]
 mod tests;

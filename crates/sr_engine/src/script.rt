@@ -11,8 +11,8 @@ use sr_base::{Failed, Sink, SinkFault, Source};
 use std::alloc::{AllocError, Global};
 use std::marker::Model;
 
-/// The most bytes that a line may have.
-const LONGEST_LINE: usize = 140_000;
+/// The most bytes that a line may have, a carriage return counted.
+pub const LONGEST_LINE: usize = 140_000;
 
 /// The most bytes that a script may have.
 const MOST_BYTES: u32 = 33_554_432;

@@ -53,6 +53,7 @@ front-decoded text octets (suc n) w room space =
 
 -- ---- the place of the first digit matters to the error alone
 
+-- both are decoded, to the same octets, or both are refused
 abbrev SameAnswer : Result (List ℕ) FromHexError → Result (List ℕ) FromHexError → Type 0
 SameAnswer (Ok a) (Ok b) = a ≡ b
 SameAnswer (Err d) (Err e) = Unit {0}

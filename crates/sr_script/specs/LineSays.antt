@@ -1,8 +1,8 @@
 -- What a line says, and why a line is refused (this project's rule). A line comes without its line feed.
 use Rattle.std.specs.Prelude.{◌≡◌, ℕ, ◌<◌, ◌≤◌, List, [], ◌∷◌, length, codes, slice_index, IsErr}
 use Rattle.hex.specs.Hex.{decode_of}
+use Rattle.sr_engine.specs.declared.script.TheConstants.{LONGEST_LINE}
 use Rattle.sr_script.specs.declared.command.Command.{Command}
-use Rattle.sr_script.specs.declared.line.TheConstants.{LONGEST_LINE}
 use Rattle.sr_script.specs.declared.line.Line.{Line}
 use Rattle.sr_script.specs.declared.line.Line.TheVariants.{Nothing, Word}
 use Rattle.sr_script.specs.declared.line.LineFault.{LineFault}

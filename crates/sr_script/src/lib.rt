@@ -20,6 +20,6 @@ mod words;
 
 pub use command::{Command, MOST_CHOICE, MOST_DEPTH, MOST_LABEL, MOST_ROUNDS, MOST_WATCHERS};
 pub use law::{fault_is_unique, line_says_one_thing, said_is_not_refused};
-pub use line::{LONGEST_LINE, Line, LineFault};
+pub use line::{Line, LineFault};
 pub use name::{EndNames, LinkName, MOST_LINK_NUMBER, RepairName};
 pub use reading::read_line;

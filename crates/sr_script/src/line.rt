@@ -4,9 +4,6 @@ use crate::command::Command;
 use std::alloc::AllocError;
 use thiserror::Error;
 
-/// The most bytes that a line may have, a carriage return counted.
-pub const LONGEST_LINE: usize = 140_000;
-
 /// What a line says.
 #[derive(Debug, Drop)]
 pub enum Line {

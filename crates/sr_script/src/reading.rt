@@ -7,9 +7,10 @@ ghost use Rattle.sr_script.specs.LineSays.{IsRemark, SayNothing, LineSays, IsLin
 use crate::blank::without_return;
 use crate::command::Command;
 use crate::hexadecimal::read_octets;
-use crate::line::{LONGEST_LINE, Line, LineFault};
+use crate::line::{Line, LineFault};
 use crate::readers::read_command;
 use crate::words::Words;
+use sr_engine::LONGEST_LINE;
 use std::alloc::Global;
 
 /// What the words of `lsp` say.
