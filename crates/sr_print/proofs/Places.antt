@@ -4,6 +4,7 @@ use Rattle.std.specs.Prelude.{slice_get, nat_lt}
 use Rattle.std.specs.List.{find, position_or_len}
 use Rattle.std.proofs.lemmas.Bool.{lt-ltb, cond_both}
 use Rattle.std.proofs.lemmas.List.Folds.{find_at}
+use Rattle.std.proofs.lemmas.Option.{same_Some}
 use Rattle.sr_model.specs.declared.name.LinkKey.{LinkKey}
 use Rattle.sr_model.specs.Case.{key_at}
 use Rattle.sr_model.specs.Graph.{link_count}
@@ -13,13 +14,10 @@ use Rattle.sr_model.specs.Rule.{IsAccepted}
 use Rattle.sr_laws.proofs.Places.{key-told, place-one}
 use Rattle.sr_print.specs.Links.{place_between}
 
-some_inj : {A : Type 0} {a b : A} → Some a ≡ Some b → a ≡ b
-some_inj e = cc
-
 -- a key that stands there is found
 find-key : (keys : List LinkKey) (key : LinkKey) (i : ℕ) → slice_get keys i ≡ Some key → find (λ (k : LinkKey). same_key k key) keys ≡ Some key
 find-key [] key i e = absurd {0} (cc)
-find-key (k ∷ ks) key zero e = ap (λ b. cond b (Some k) (find (λ (x : LinkKey). same_key x key) ks)) ((key-told k key).1 (some_inj e)) ∙ e
+find-key (k ∷ ks) key zero e = ap (λ b. cond b (Some k) (find (λ (x : LinkKey). same_key x key) ks)) ((key-told k key).1 (same_Some k key e)) ∙ e
 find-key (k ∷ ks) key (suc i) e = cond_both (same_key k key) (Some k) (find (λ (x : LinkKey). same_key x key) ks) (λ o. o ≡ Some key) (λ same. ap Some ((key-told k key).0 same)) (λ other. find-key ks key i e)
 
 get_from : (b : Bool) (o : Option LinkKey) (k : LinkKey) → (if b then o else None) ≡ Some k → (b ≡ true) × (o ≡ Some k)

@@ -66,7 +66,8 @@ labels_behind (label ∷ more) = flat_map label_word (reverse (label ∷ more))
 -- a repair: its first link, its segments, its labels and its cost
 abbrev pub list_text : Net → RepairList → List ℕ → List ℕ
 list_text n list labels =
-    codes " via" ++ link_word n list.first.0 ++ segments_text n list.segments ++ labels_text labels ++ numbered (codes " cost ") list.cost
+    codes " via" ++ link_word n list.first.0 ++ segments_text n list.segments ++ labels_text labels
+    ++ numbered (codes " cost ") list.cost
 
 -- why there is no repair, and nothing where there is one
 abbrev pub uncovered_text : Answer → List ℕ
@@ -101,7 +102,8 @@ item_lines n items = flat_map (item_line n) items
 -- how many answers of each sort the audit of a version has
 abbrev pub counts_text : Counts → List ℕ
 counts_text counts =
-    numbered (codes " covered ") counts.covered ++ numbered (codes " nopath ") counts.nopath ++ numbered (codes " nolist ") counts.nolist ++ numbered (codes " toodeep ") counts.toodeep
+    numbered (codes " covered ") counts.covered ++ numbered (codes " nopath ") counts.nopath
+    ++ numbered (codes " nolist ") counts.nolist ++ numbered (codes " toodeep ") counts.toodeep
 
 -- the audit of a version in one line: its number, and how many answers of each sort there are
 abbrev pub summary_line : ℕ → Counts → List ℕ

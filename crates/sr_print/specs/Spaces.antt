@@ -18,4 +18,5 @@ set_line name g set = ended (name ++ node_words g (members g set))
 
 -- the lines of P, extended P and Q
 abbrev pub spaces_lines : Graph → List Bool → List Bool → List Bool → List ℕ
-spaces_lines g p extended q = set_line (codes "p") g p ++ set_line (codes "extended") g extended ++ set_line (codes "q") g q
+spaces_lines g p extended q =
+    set_line (codes "p") g p ++ set_line (codes "extended") g extended ++ set_line (codes "q") g q

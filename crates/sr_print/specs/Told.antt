@@ -59,7 +59,8 @@ abbrev pub spelled : ℕ → Told → List ℕ
 spelled number Nothing = []
 spelled number (Staged count) = staged_line count
 spelled number (Dropped count) = dropped_line count
-spelled number (Version version) = version_line version.number (node_count version.net.graph) (link_count version.net.graph)
+spelled number (Version version) =
+    version_line version.number (node_count version.net.graph) (link_count version.net.graph)
 spelled number (Distance cost) = dist_line cost
 spelled number (NextHops net links) = next_line net links
 spelled number (Lookup net found) = label_line net found

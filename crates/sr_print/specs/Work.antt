@@ -22,7 +22,8 @@ round_text (Some made) = numbered (codes "report watch ") made.watcher ++ word (
 
 -- the report of a hold or a round: the number of the version, and how many answers of each sort its audit has
 unfoldable pub report_line : RoundReport → List ℕ
-report_line report = ended (round_text report.round ++ numbered (codes " version ") report.version ++ counts_text report.counts)
+report_line report =
+    ended (round_text report.round ++ numbered (codes " version ") report.version ++ counts_text report.counts)
 
 -- reports, in their order
 abbrev pub report_lines : List RoundReport → List ℕ

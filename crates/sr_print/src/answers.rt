@@ -34,8 +34,7 @@ fn put_stack(
 ) -> Result<(), AllocError>
     requires start { start.0 < node_count net.now.graph }
     requires segments { HaveLabels net.now segments.now }
-    requires d { d.0 < node_count net.now.graph }
-    requires index { is_some (labels_at net.now d.0).index ≡ true }
+    requires d { (d.0 < node_count net.now.graph) × (is_some (labels_at net.now d.0).index ≡ true) }
     ensures line { OnOk result
         (PutsLabels net.now start.0 (segments.now ++ NodeSegment d ∷ []) out.old.items out.new.items) }
     ensures err { OnErr result (BeginsWith out.old.items out.new.items) }
@@ -115,7 +114,8 @@ fn put_answer(
 ) -> Result<(), AllocError>
     requires way { IsWayOf net.now entry.now.answer way.now }
     requires entry { IsEntryOf net.now case entry.now }
-    ensures line { OnOk result (PutsAnswer net.now entry.now.destination.0 entry.now.answer out.old.items out.new.items) }
+    ensures line { OnOk result
+        (PutsAnswer net.now entry.now.destination.0 entry.now.answer out.old.items out.new.items) }
     ensures err { OnErr result (BeginsWith out.old.items out.new.items) }
 {
     let _graph = net.graph();
@@ -125,8 +125,8 @@ fn put_answer(
     }
 }
 
-/// Appends the line of an answer of the case, whose lines all begin with `head`. Where the answer is a list, `way` is that
-/// list as far as its labels.
+/// Appends the line of an answer of the case, whose lines all begin with `head`. Where the answer is a list, `way` is
+/// that list as far as its labels.
 /// After an error a part of the line may stand there; what stood before stays.
 fn put_line(
     net: &Net,

@@ -214,7 +214,8 @@ pub fn put_repair(
     requires case { IsCase net.now.graph case }
     requires destination { destination.0 < node_count net.now.graph }
     requires answer { IsAnswerWithin net.now.graph answer.now }
-    ensures line { OnOk result (out.new.items ≡ out.old.items ++ repair_line net.now case destination.0 answer.now labels.now) }
+    ensures line { OnOk result
+        (out.new.items ≡ out.old.items ++ repair_line net.now case destination.0 answer.now labels.now) }
     ensures err { OnErr result (BeginsWith out.old.items out.new.items) }
 {
     put_case_text(net, case, destination, out)?;

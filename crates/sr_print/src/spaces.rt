@@ -21,7 +21,8 @@ fn put_member(
     out: &mut Vec<u8>,
 ) -> Result<(), AllocError>
     requires { node.0 < node_count graph.now }
-    ensures line { OnOk result (out.new.items ≡ out.old.items ++ cond (has set.now node.0) (node_word (system_at graph.now node.0)) []) }
+    ensures line { OnOk result (out.new.items
+        ≡ out.old.items ++ cond (has set.now node.0) (node_word (system_at graph.now node.0)) []) }
     ensures err { OnErr result (BeginsWith out.old.items out.new.items) }
 {
     if set.has(node) {

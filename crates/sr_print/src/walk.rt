@@ -58,7 +58,8 @@ pub fn put_walk(
 ) -> Result<(), AllocError>
     requires start { start.0 < node_count net.now.graph }
     requires links { IfSome (option_copied links) (AreLinks net.now.graph) }
-    ensures line { OnOk result (out.new.items ≡ out.old.items ++ walk_line net.now start.0 (option_copied links.entry)) }
+    ensures line { OnOk result
+        (out.new.items ≡ out.old.items ++ walk_line net.now start.0 (option_copied links.entry)) }
     ensures err { OnErr result (BeginsWith out.old.items out.new.items) }
 {
     match links {
