@@ -1,6 +1,7 @@
 -- What a line names of a net is one thing, or is missing: what follows from two equal refusals, and from two facts of one thing, follows from two tellings.
 use Rattle.std.proofs.Common.{◌≡◌, ℕ, ◌⊎◌, inl, inr, true, refl, sym, subst, ◌∙◌, Option, Some, None}
 use Rattle.std.specs.Prelude.{is_some}
+use Rattle.std.proofs.lemmas.Option.{same_Some}
 use Rattle.sr_model.specs.declared.case.Case.{Case}
 use Rattle.sr_model.specs.declared.link.LinkNo.{LinkNo}
 use Rattle.sr_model.specs.declared.name.LinkKey.{LinkKey}
@@ -8,6 +9,7 @@ use Rattle.sr_model.specs.Case.{IsAffected, key_at}
 use Rattle.sr_model.specs.Graph.{Graph, IsNamed}
 use Rattle.sr_model.specs.Label.{Net, labels_at}
 use Rattle.sr_laws.proofs.Keys.{key-one, system-one}
+use Rattle.sr_laws.proofs.Parts.{link_is}
 use Rattle.sr_script.specs.declared.name.EndNames.{EndNames}
 use Rattle.sr_script.specs.declared.name.LinkName.{LinkName}
 use Rattle.sr_script.specs.declared.name.RepairName.{RepairName}
@@ -15,17 +17,10 @@ use Rattle.sr_print.specs.declared.refusal.Refusal.{Refusal}
 use Rattle.sr_print.specs.declared.refusal.Refusal.TheVariants.{NoNode, NoDestination, NotAffected}
 use Rattle.sr_run.specs.Names.{IsLinkOf, OfNode, OfEnds, OfAnnounced, OfLink, OfFailure, OfAffected, ends_of, key_meant, missing_link}
 
--- a link is its number
-pub link-is : (a b : LinkNo) → a.0 ≡ b.0 → a ≡ b
-link-is a b e = let q : record { 0 = a.0 } ≡ record { 0 = b.0 } = rw e refl in q
-
-some-one : {A : Type 0} (a b : A) → Some a ≡ Some b → a ≡ b
-some-one a b e = cc
-
 -- a name means one link
 pub link-one : (net : Net) → IsNamed net.graph → (name : LinkName) (a b : LinkNo) → IsLinkOf net name a → IsLinkOf net name b → a ≡ b
 link-one net named name a b p q =
-    link-is a b (key-one net.graph named a.0 b.0 p.within q.within (some-one (key_at net.graph a.0) (key_at net.graph b.0) (sym p.named ∙ q.named)))
+    link_is a b (key-one net.graph named a.0 b.0 p.within q.within (same_Some (key_at net.graph a.0) (key_at net.graph b.0) (sym p.named ∙ q.named)))
 
 -- what is none isn't some
 pub none-not_some : (index : Option ℕ) → index ≡ None → is_some index ≡ true → ⊥
@@ -92,7 +87,7 @@ module _ (R : Type 0) (P Q : Refusal → Type 0) (refused : (reason : Refusal) �
   announced net name A B held (inl none) (inr there) = absurd (not_both net name there.0 none.0 there.1)
   announced net name A B held (inr there) (inl none) = absurd (not_both net name there.0 none.0 there.1)
   announced net name A B held (inr a) (inr b) =
-      let same : b.0 ≡ a.0 = some-one b.0 a.0 (sym b.1 ∙ a.1) in
+      let same : b.0 ≡ a.0 = same_Some b.0 a.0 (sym b.1 ∙ a.1) in
       held a.0 a.2 (subst B same b.2)
 
   -- of an announced link

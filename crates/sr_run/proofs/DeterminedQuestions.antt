@@ -12,6 +12,7 @@ use Rattle.sr_walks.proofs.Distances.{distance-unique}
 use Rattle.sr_laws.proofs.Ascending.{ascending-one}
 use Rattle.sr_laws.proofs.Choices.{step-one}
 use Rattle.sr_laws.proofs.Entries.{lookup-one}
+use Rattle.sr_laws.proofs.Parts.{link_is}
 use Rattle.sr_laws.proofs.Stacks.{label-same}
 use Rattle.sr_spf.specs.Hops.{AreNextHops}
 use Rattle.sr_fib.specs.Entries.{numbers}
@@ -22,7 +23,7 @@ use Rattle.sr_print.specs.Told.Told.{Distance, NextHops, Lookup, Walk}
 use Rattle.sr_repair.specs.Version.{NumberedNet}
 use Rattle.sr_run.specs.Questions.{IsRefused, IsForwarded, TellsDistance, TellsNextHops, TellsLookup, TellsWalk, TellsWalkOf}
 use Rattle.sr_run.proofs.DeterminedTold.{AreAlike, alike, alike-refused}
-use Rattle.sr_run.proofs.DeterminedNames.{link-is, none-not_some, of-node, of-ends}
+use Rattle.sr_run.proofs.DeterminedNames.{none-not_some, of-node, of-ends}
 
 -- ---- what is told
 
@@ -35,7 +36,7 @@ distance-one g x u v (Some a) (Some b) p q = ap Some (distance-unique g x u v a 
 hops-among : (g : Graph) (u v : ℕ) (xs ys : List LinkNo) → AreNextHops g u v xs → AreNextHops g u v ys → (i : ℕ) (l : LinkNo) → slice_get xs i ≡ Some l → (j : ℕ) × (slice_get ys j ≡ Some l)
 hops-among g u v xs ys p q i l is =
     let r = q.all l.0 (p.each i l is) in
-    (r.0, r.2 ∙ ap (λ (k : LinkNo). Some k) (link-is r.1 l r.3))
+    (r.0, r.2 ∙ ap (λ (k : LinkNo). Some k) (link_is r.1 l r.3))
 
 -- there is one list of next hops
 pub hops-one : (g : Graph) (u v : ℕ) (xs ys : List LinkNo) → AreNextHops g u v xs → AreNextHops g u v ys → xs ≡ ys
@@ -51,7 +52,7 @@ numbers-one (x ∷ xs) [] e = absurd (cc)
 numbers-one (x ∷ xs) (y ∷ ys) e =
     let first : x.0 ≡ y.0 = cc in
     let later : numbers xs ≡ numbers ys = cc in
-    let here : x ≡ y = link-is x y first in
+    let here : x ≡ y = link_is x y first in
     let rest : xs ≡ ys = numbers-one xs ys later in
     cc
 

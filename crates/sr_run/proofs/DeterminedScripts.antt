@@ -8,7 +8,7 @@ use Rattle.sr_engine.proofs.Determined.{splits-one}
 use Rattle.sr_model.specs.declared.audit.RoundReport.{RoundReport}
 use Rattle.sr_model.specs.Label.{Net}
 use Rattle.sr_print.specs.Work.{report_lines, joined_line}
-use Rattle.sr_run.specs.Domain.{Domain, Background, BegunWatch, WatchTotals, opening, with_commit_during}
+use Rattle.sr_run.specs.Domain.{Domain, Background, BegunWatch, WatchTotals, opening_domain, with_commit_during}
 use Rattle.sr_run.specs.Domain.Background.{AtRest, OfHold, OfWatch}
 use Rattle.sr_run.specs.Background.{EndsWork, watch_from}
 use Rattle.sr_run.specs.Session.{Answers, EndsScript}
@@ -79,10 +79,10 @@ replies-one old number (line ∷ lines) out other refused again new next nets co
     )
 
 -- before the first line there are no nets, and nothing runs
-none : AreNets opening
+none : AreNets opening_domain
 none = All-nil IsNet
 
-counted-first : IsCounted opening
+counted-first : IsCounted opening_domain
 counted-first none watch runs = absurd (rests-not_watch watch runs)
 
 ends-one : (background : Background) (old new next : Domain) (out other : List ℕ) → old.background ≡ background → EndsWork background old out new → EndsWork background old other next → (new ≡ next) × (Unmoved old.background old.nets → out ≡ other)
@@ -102,11 +102,11 @@ end-commits (OfWatch watch) old out new e = ap (λ (d : Domain). d.totals.commit
 pub scripts-determined : ScriptsHaveOneOutput
 scripts-determined bytes out other refused again final last p q =
     let split = splits-one bytes q.lines p.lines q.rest p.rest q.splits p.splits in
-    let there : Replies Answers opening 1 (p.lines ++ last_line p.rest) q.said again q.last =
-    subst (λ (r : List ℕ). Replies Answers opening 1 (p.lines ++ last_line r) q.said again q.last) split.1
-    (subst (λ (ls : List (List ℕ)). Replies Answers opening 1 (ls ++ last_line q.rest) q.said again q.last) split.0 q.replies) in
-    let one = replies-one opening 1 (p.lines ++ last_line p.rest) p.said q.said refused again p.last q.last none counted-first p.replies there in
-    let more : IsCounted p.last = replies-keep IsCounted counted-kept opening 1 (p.lines ++ last_line p.rest) p.said refused p.last p.replies counted-first in
+    let there : Replies Answers opening_domain 1 (p.lines ++ last_line p.rest) q.said again q.last =
+    subst (λ (r : List ℕ). Replies Answers opening_domain 1 (p.lines ++ last_line r) q.said again q.last) split.1
+    (subst (λ (ls : List (List ℕ)). Replies Answers opening_domain 1 (ls ++ last_line q.rest) q.said again q.last) split.0 q.replies) in
+    let one = replies-one opening_domain 1 (p.lines ++ last_line p.rest) p.said q.said refused again p.last q.last none counted-first p.replies there in
+    let more : IsCounted p.last = replies-keep IsCounted counted-kept opening_domain 1 (p.lines ++ last_line p.rest) p.said refused p.last p.replies counted-first in
     let end : EndsScript p.last q.tail last = subst (λ (s : Domain). EndsScript s q.tail last) (sym one.1) q.end in
     let ends = ends-one p.last.background p.last final last p.tail q.tail refl p.end end in (
       one.0,

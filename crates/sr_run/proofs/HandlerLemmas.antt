@@ -28,7 +28,7 @@ use Rattle.sr_run.specs.declared.stop.Stop.TheVariants.{Refused as Refusing, Mem
 use Rattle.sr_run.specs.declared.session.Reply.{Reply}
 use Rattle.sr_run.specs.Domain.{Domain, last_version, number_of, with_staged, with_dropped, with_net}
 use Rattle.sr_run.specs.Edits.{Refuses, StagesEdit, Announces, EditsNamed, EditsLink, DropsStaged, Commits}
-use Rattle.sr_run.specs.State.{IsKeptState, IsNext, State, shown, with_version}
+use Rattle.sr_run.specs.State.{IsKeptState, IsNextVersion, State, state_of, with_next_version}
 use Rattle.sr_run.specs.Session.{Asks, Tells, TellsOf, Shows, shown_of, version_nodes, version_links}
 use Rattle.sr_run.specs.Handlers.{PutsTold, Carries, Moves, RepliesTo, IsReply, TellsStaged, IsAnnounced, LacksAnnounced}
 use Rattle.sr_run.proofs.NameLemmas.{has-announced, lacks-announced, announced-weaker}
@@ -59,17 +59,17 @@ puts-of tells current version before after told is t accepted appended =
 with-editing : (domain : Domain) (editing new : Editing) → editing ≡ new → (let s : State = record { editing = editing; current = last_version domain.nets } in s) ≡ record { editing = new; current = last_version domain.nets }
 with-editing domain editing new e = ap (λ (x : Editing). (let s : State = record { editing = x; current = last_version domain.nets } in s)) e
 
-same-current : (old : State) (domain : Domain) (new : Editing) → old ≡ shown domain → (let s : State = record { editing = new; current = last_version domain.nets } in s) ≡ record { editing = new; current = old.current }
+same-current : (old : State) (domain : Domain) (new : Editing) → old ≡ state_of domain → (let s : State = record { editing = new; current = last_version domain.nets } in s) ≡ record { editing = new; current = old.current }
 same-current old domain new here = ap (λ (x : State). (let s : State = record { editing = new; current = x.current } in s)) (sym here)
 
-last-shown : (old now : State) (domain : Domain) (version : NumberedNet) → old ≡ now → old.current ≡ Some version → shown domain ≡ now → last_version domain.nets ≡ Some version
+last-shown : (old now : State) (domain : Domain) (version : NumberedNet) → old ≡ now → old.current ≡ Some version → state_of domain ≡ now → last_version domain.nets ≡ Some version
 last-shown old now domain version is some same = ap (λ (s : State). s.current) (same ∙ sym is) ∙ some
 
 -- ---- edits
 
 -- an edit that was staged, or not, is told of the domain that the session shows
 stages-shown : (edit : Edit) (domain : Domain) (new : Editing) (staged : Result ℕ StageFault) (told : Told) → Stages edit domain.editing new staged → TellsStaged staged told
-    → (next : Domain) × (shown next ≡ record { editing = new; current = last_version domain.nets }) × StagesEdit edit domain told next
+    → (next : Domain) × (state_of next ≡ record { editing = new; current = last_version domain.nets }) × StagesEdit edit domain told next
 stages-shown edit domain new (Ok count) told s t =
     (with_staged domain edit, with-editing domain _ new (sym s.state), inr (s.room, t ∙ ap Staged s.counted, refl))
 stages-shown edit domain new (Err (Stale stored given)) told s t = absurd s
@@ -79,7 +79,7 @@ stages-shown edit domain new (Err (WantingMemory error)) told s t = absurd t
 pub stages-told : (edit : Edit) (old now : State) (new : Editing) (staged : Result ℕ StageFault) (told : Told) → old ≡ now → Stages edit old.editing new staged → TellsStaged staged told
     → Moves (StagesEdit edit) now (record { editing = new; current = old.current }) told
 stages-told edit old now new staged told is s t domain same =
-    let here : old ≡ shown domain = is ∙ sym same in
+    let here : old ≡ state_of domain = is ∙ sym same in
     let next = stages-shown edit domain new staged told (subst (λ (x : State). Stages edit x.editing new staged) here s) t in
     (next.0, next.1 ∙ same-current old domain new here, next.2)
 
@@ -107,7 +107,7 @@ link-missing edit link old now version reason is some lacks domain same = (
 
 -- a PDU that was staged, or not
 pdu-shown : (octets : List ℕ) (lsp : Lsp) (domain : Domain) (new : Editing) (staged : Result ℕ StageFault) (told : Told) → Reads octets lsp → StagesLsp lsp domain.editing new staged → TellsStaged staged told
-    → (next : Domain) × (shown next ≡ record { editing = new; current = last_version domain.nets }) × Announces octets domain told next
+    → (next : Domain) × (state_of next ≡ record { editing = new; current = last_version domain.nets }) × Announces octets domain told next
 pdu-shown octets lsp domain new (Ok count) told reads s t =
     (with_staged domain (Announce lsp), with-editing domain _ new (sym s.1.state), inr (lsp, reads, inr (s.0, inr (s.1.room, t ∙ ap Staged s.1.counted, refl))))
 pdu-shown octets lsp domain new (Err (Stale stored given)) told reads s t =
@@ -119,7 +119,7 @@ pdu-shown octets lsp domain new (Err (WantingMemory error)) told reads s t = abs
 pub pdu-told : (octets : List ℕ) (lsp : Lsp) (old now : State) (new : Editing) (staged : Result ℕ StageFault) (told : Told) → old ≡ now → Reads octets lsp → StagesLsp lsp old.editing new staged → TellsStaged staged told
     → Moves (Announces octets) now (record { editing = new; current = old.current }) told
 pdu-told octets lsp old now new staged told is reads s t domain same =
-    let here : old ≡ shown domain = is ∙ sym same in
+    let here : old ≡ state_of domain = is ∙ sym same in
     let next = pdu-shown octets lsp domain new staged told reads (subst (λ (x : State). StagesLsp lsp x.editing new staged) here s) t in
     (next.0, next.1 ∙ same-current old domain new here, next.2)
 
@@ -127,7 +127,7 @@ pdu-told octets lsp old now new staged told is reads s t domain same =
 pub drops-told : (old now : State) (new : Editing) (count : ℕ) → old ≡ now → count ≡ old.editing.staged → new ≡ with_none_staged old.editing
     → Moves DropsStaged now (record { editing = new; current = old.current }) (Dropped count)
 drops-told old now new count is counted state domain same =
-    let here : old ≡ shown domain = is ∙ sym same in
+    let here : old ≡ state_of domain = is ∙ sym same in
     let edited : old.editing ≡ domain.editing = ap (λ (x : State). x.editing) here in (
       with_dropped domain,
       with-editing domain _ new (sym (state ∙ ap with_none_staged edited)) ∙ same-current old domain new here,
@@ -147,20 +147,20 @@ state-parts s editing current e c =
     ap (λ (x : Editing). (let y : State = record { editing = x; current = current } in y)) (sym e) ∙ ap (λ (x : Option NumberedNet). (let y : State = record { editing = s.editing; current = x } in y)) (sym c)
 
 -- a state with the version after the last one is kept
-pub next-kept : (old : State) (editing : Editing) (version : NumberedNet) → editing ≡ old.editing → number_of old.current < MOST_VERSIONS → IsNext old version → IsKeptState (record { editing = with_accepted editing; current = Some version })
+pub next-kept : (old : State) (editing : Editing) (version : NumberedNet) → editing ≡ old.editing → number_of old.current < MOST_VERSIONS → IsNextVersion old version → IsKeptState (record { editing = with_accepted editing; current = Some version })
 next-kept old editing version same room next =
     record { few = omega (arith, room, next.counted); counted = omega (arith, next.counted); fresh = subst (λ (e : Editing). IsNetOf e.tentative version.net) (sym same) next.net }
 
 -- the state whose net is accepted
-pub accepted-next : (old : State) (version : NumberedNet) → number_of old.current < MOST_VERSIONS → IsNext old version → (domain : Domain) → shown domain ≡ old
-    → (shown (with_net domain version.net) ≡ with_version old version) × Commits domain (Version version) (with_net domain version.net) × (version ≡ version_of (length domain.nets + 1) version.net)
+pub accepted-next : (old : State) (version : NumberedNet) → number_of old.current < MOST_VERSIONS → IsNextVersion old version → (domain : Domain) → state_of domain ≡ old
+    → (state_of (with_net domain version.net) ≡ with_next_version old version) × Commits domain (Version version) (with_net domain version.net) × (version ≡ version_of (length domain.nets + 1) version.net)
 accepted-next old version room next domain same =
     let edited : domain.editing ≡ old.editing = ap (λ (x : State). x.editing) same in
     let net : IsNetOf domain.editing.tentative version.net = subst (λ (e : Editing). IsNetOf e.tentative version.net) (sym edited) next.net in
     let number : number_of old.current ≡ length domain.nets = ap (λ (x : State). number_of x.current) (sym same) ∙ number-length domain.nets in
     let count : version.number ≡ length domain.nets + 1 = omega (arith, next.counted, number) in
     let one : version ≡ version_of (length domain.nets + 1) version.net = ap (λ (k : ℕ). version_of k version.net) count in (
-      state-parts (with_version old version) (with_accepted domain.editing) (Some (version_of (length domain.nets + 1) version.net)) (ap with_accepted (sym edited)) (ap (λ (v : NumberedNet). Some v) one),
+      state-parts (with_next_version old version) (with_accepted domain.editing) (Some (version_of (length domain.nets + 1) version.net)) (ap with_accepted (sym edited)) (ap (λ (v : NumberedNet). Some v) one),
       inr (omega (arith, room, number), inr (record { net = version.net; is_net = net; told_is = ap Version one; accepted = refl })),
       one,
     )
@@ -188,7 +188,7 @@ full-told old now is full domain same =
 pub shows-told : (old now : State) (version nodes links depth staged : ℕ) → old ≡ now → version ≡ number_of old.current → nodes ≡ version_nodes old.current → links ≡ version_links old.current → depth ≡ old.editing.accepted.depth → staged ≡ old.editing.staged
     → Moves Shows now now (Show (record { version = version; nodes = nodes; links = links; depth = depth; staged = staged }))
 shows-told old now version nodes links depth staged is v n l d s domain same =
-    let here : old ≡ shown domain = is ∙ sym same in
+    let here : old ≡ state_of domain = is ∙ sym same in
     let parts : (let x : Shown = record { version = version; nodes = nodes; links = links; depth = depth; staged = staged } in x) ≡ shown_of domain =
     cc (v, n, l, d, s, ap (λ (x : State). number_of x.current) here, ap (λ (x : State). version_nodes x.current) here, ap (λ (x : State). version_links x.current) here, ap (λ (x : State). x.editing.accepted.depth) here, ap (λ (x : State). x.editing.staged) here) in
     (domain, same, (ap Show parts, refl))

@@ -10,7 +10,7 @@ use Rattle.sr_engine.specs.Lines.{most_bytes}
 use Rattle.sr_engine.specs.Endings.{Devices, Ran, CountsShow, OutputIs, status_of}
 use Rattle.sr_engine.specs.declared.end.End.{End}
 use Rattle.sr_engine.specs.declared.end.End.TheVariants.{Done, ReadFailed, WriteFailed, Memory, TooMuch}
-use Rattle.sr_run.specs.Domain.{opening}
+use Rattle.sr_run.specs.Domain.{opening_domain}
 use Rattle.sr_store.specs.declared.usage.Usage.{Usage}
 use Rattle.sr_run.specs.State.{Session, IsShown, session_before}
 use Rattle.sr_run.specs.Usage.{ServesWatches}
@@ -18,8 +18,8 @@ use Rattle.sr_run.specs.Session.{conduct}
 use Rattle.sr_run.specs.Handlers.{RunsLent, session_conduct}
 use Rattle.sr_make.specs.Making.{MakingShows, Makes}
 use Rattle.sr_make.specs.Script.{made_script}
-use Rattle.sr_words.specs.declared.task.Task.{Task}
-use Rattle.sr_words.specs.declared.task.Task.TheVariants as task
+use Rattle.sr_words.specs.declared.task.AskedTask.{AskedTask}
+use Rattle.sr_words.specs.declared.task.AskedTask.TheVariants as task
 use Rattle.sr_words.specs.Tasks.{Asked, BeginWithMake, IsTaskOf}
 use Rattle.sr_words.proofs.TaskLemmas.{one-task}
 use Rattle.sr_run.specs.Program.{Execution, EndShows, TaskShows, MakesScript, StatusShows, RunsTo, RunsThrough}
@@ -31,7 +31,7 @@ use Rattle.sr_run.proofs.UsageLemmas.{shown-first, serves-all}
 end-shows : (run : Execution) (end : End) (final : Session) → OutputIs session_conduct run.new.left (record { opening = session_before run.used; taken = run.taken; out = run.out; final = final }) end
     → CountsShow run.old run.new end → run.usage ≡ final.usage → EndShows run end
 end-shows run (Done refused) final output counts usage =
-    let script = script-like session_conduct conduct (IsShown run.used) (session-follows run.used) (session_before run.used) final opening run.taken run.out refused output.2 (shown-first run.used) in
+    let script = script-like session_conduct conduct (IsShown run.used) (session-follows run.used) (session_before run.used) final opening_domain run.taken run.out refused output.2 (shown-first run.used) in
     record {
       at_end = output.0;
       few = output.1;
@@ -42,10 +42,10 @@ end-shows run (Done refused) final output counts usage =
       reads = counts.0;
       writes = counts.1;
     }
-end-shows run ReadFailed final output counts usage = (answered-like session_conduct conduct (IsShown run.used) (session-follows run.used) (session_before run.used) opening run.taken run.out output (shown-first run.used), counts.0, counts.1)
-end-shows run WriteFailed final output counts usage = (begins-like session_conduct conduct (IsShown run.used) (session-follows run.used) (session_before run.used) opening run.new.left run.taken run.out output (shown-first run.used), counts.0, counts.1)
-end-shows run Memory final output counts usage = (begins-like session_conduct conduct (IsShown run.used) (session-follows run.used) (session_before run.used) opening run.new.left run.taken run.out output (shown-first run.used), counts.0, counts.1)
-end-shows run TooMuch final output counts usage = (output.0, answered-like session_conduct conduct (IsShown run.used) (session-follows run.used) (session_before run.used) opening _ run.out output.1 (shown-first run.used), counts.0, counts.1)
+end-shows run ReadFailed final output counts usage = (answered-like session_conduct conduct (IsShown run.used) (session-follows run.used) (session_before run.used) opening_domain run.taken run.out output (shown-first run.used), counts.0, counts.1)
+end-shows run WriteFailed final output counts usage = (begins-like session_conduct conduct (IsShown run.used) (session-follows run.used) (session_before run.used) opening_domain run.new.left run.taken run.out output (shown-first run.used), counts.0, counts.1)
+end-shows run Memory final output counts usage = (begins-like session_conduct conduct (IsShown run.used) (session-follows run.used) (session_before run.used) opening_domain run.new.left run.taken run.out output (shown-first run.used), counts.0, counts.1)
+end-shows run TooMuch final output counts usage = (output.0, answered-like session_conduct conduct (IsShown run.used) (session-follows run.used) (session_before run.used) opening_domain _ run.out output.1 (shown-first run.used), counts.0, counts.1)
 
 -- a run over a script
 pub runs-to : (words : List (String Global)) (old new : Devices) (used usage : Usage) (end : End) (status : ℕ) → Asked words task.Run
@@ -124,14 +124,14 @@ module _ (words : List (String Global)) (run : Execution) (status : ℕ) where
   answered-through : Asked words task.Run → length run.taken ≤ most_bytes → ¬ Rose run.old.read_faults run.new.read_faults → ¬ Rose run.old.write_faults run.new.write_faults
       → StatusShows words run status → (status ≡ 0) ⊎ (status ≡ 1) ⊎ (status ≡ 5)
   answered-through ask few reads writes (inl did) =
-      end-known run did.end status few reads writes did.is (subst (λ (t : Task). TaskShows t run did.end) (one-task words did.asked task.Run did.asks ask) did.shows)
+      end-known run did.end status few reads writes did.is (subst (λ (t : AskedTask). TaskShows t run did.end) (one-task words did.asked task.Run did.asks ask) did.shows)
   answered-through ask few reads writes (inr (inl none)) = absurd (none.0 task.Run ask)
   answered-through ask few reads writes (inr (inr unread)) = inr (inr unread.1)
 
   -- a script that is made
   made-through : (nodes start : ℕ) → Asked words (task.Make nodes start) → ¬ Rose run.old.write_faults run.new.write_faults → StatusShows words run status → (status ≡ 0) ⊎ (status ≡ 5)
   made-through nodes start ask writes (inl did) =
-      let shows = subst (λ (t : Task). TaskShows t run did.end) (one-task words did.asked (task.Make nodes start) did.asks ask) did.shows in
+      let shows = subst (λ (t : AskedTask). TaskShows t run did.end) (one-task words did.asked (task.Make nodes start) did.asks ask) did.shows in
       made-known (made_script nodes start) run.out run.old.write_faults run.new.write_faults did.end status writes did.is shows.shows
   made-through nodes start ask writes (inr (inl none)) = absurd (none.0 (task.Make nodes start) ask)
   made-through nodes start ask writes (inr (inr unread)) = inr unread.1

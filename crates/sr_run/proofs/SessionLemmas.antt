@@ -16,6 +16,8 @@ use Rattle.sr_print.specs.declared.refusal.Refusal.TheVariants as refusal
 use Rattle.sr_print.specs.Told.{Told, spelled, is_refusal}
 use Rattle.sr_print.specs.Told.Told.{Version, Hold, Watch, Joined, Refused}
 use Rattle.sr_print.specs.Work.{report_lines, joined_line}
+use Rattle.sr_audit.proofs.AppendLemmas.{get-left}
+use Rattle.sr_store.proofs.Numbers.{get-last}
 use Rattle.sr_store.specs.Counts.{counted, opened, spread, turned}
 use Rattle.sr_store.specs.declared.usage.Usage.{Usage}
 use Rattle.sr_work.specs.Watched.{Watched}
@@ -32,14 +34,14 @@ use Rattle.sr_run.specs.declared.session.Reply.{Reply}
 use Rattle.sr_run.specs.declared.session.Reply.TheVariants.{Text, Audit}
 use Rattle.sr_run.specs.Domain.{Domain, Background, BegunWatch, WatchTotals, last_version, number_of, versions_since, with_net, with_hold, with_watch, with_joined, with_commit_during, with_watch_begun}
 use Rattle.sr_run.specs.Domain.Background.{AtRest, OfHold, OfWatch}
-use Rattle.sr_run.specs.Background.{BeginsHold, BeginsWatch, BeginsWork, AreDue, Joins, JoinsWork, EndsWork, watch_from}
+use Rattle.sr_run.specs.Background.{BeginsHold, BeginsWatch, BeginsWork, AreDue, JoinsReporting, JoinsWork, EndsWork, watch_from}
 use Rattle.sr_run.specs.Edits.{Refuses, Commits}
 use Rattle.sr_run.specs.Usage.{unused}
 use Rattle.sr_run.specs.Session.{Tells, EndsScript}
-use Rattle.sr_run.specs.State.{State, Session, IsShown, IsWorkOf, IsWatchOf, ShowsWatches, CanReport, HasAudit, IsKeptWork, IsNext, is_running, turns_due, shown, with_version as with_last}
+use Rattle.sr_run.specs.State.{State, Session, IsShown, IsWorkOf, IsWatchOf, ShowsWatches, CanReport, HasAudit, IsKeptWork, IsNextVersion, is_running, turns_due, state_of, with_next_version}
 use Rattle.sr_run.specs.Handlers.{PutsTold, PutsJoined, Carries, Moves, RepliesTo, SessionReplies, SessionTells, StepsAs, SessionEnds, IsOfDomain, IsHindrance, IsNoRefusal, IsPublished, IsReply, MayBegin, CommitsVersion}
 use Rattle.sr_run.proofs.StepLemmas.{Stays, quiet-stays}
-use Rattle.sr_run.proofs.VersionLemmas.{since-more, since-last, last-number, get-more, get-behind}
+use Rattle.sr_run.proofs.VersionLemmas.{since-more, since-last, last-number}
 use Rattle.sr_run.proofs.HandlerLemmas.{accepted-next}
 
 -- a session of these parts
@@ -52,7 +54,7 @@ work-stays : (old new : Domain) (work : Work) → Stays old new → IsWorkOf old
 work-stays old new work s is =
     subst (λ (nets : List Net). IsWorkOf nets new.background work) (sym s.nets) (subst (λ (b : Background). IsWorkOf old.nets b work) (sym s.background) is)
 
-still-shown : (lent : Usage) (old new : State) (work : Work) (usage : Usage) (domain next : Domain) → IsShown lent (session old work usage) domain → shown next ≡ new → Stays domain next → IsShown lent (session new work usage) next
+still-shown : (lent : Usage) (old new : State) (work : Work) (usage : Usage) (domain next : Domain) → IsShown lent (session old work usage) domain → state_of next ≡ new → Stays domain next → IsShown lent (session new work usage) next
 still-shown lent old new work usage domain next like is s = record {
   state = is;
   work = work-stays domain next work s like.work;
@@ -100,7 +102,7 @@ commit-rejected old new work usage reason can m = record {
 can-published : (work : Work) (version : NumberedNet) → CanReport work → CanReport (after_publishing work version)
 can-published Idle version can = tt
 can-published (Holds held) version can = can
-can-published (Watches watched) version can = (can.0, get-more watched.versions (version ∷ []) 0 can.0 can.1, can.2)
+can-published (Watches watched) version can = (can.0, get-left watched.versions (version ∷ []) 0 can.0 can.1, can.2)
 
 -- what runs once a net is accepted
 work-published : (nets : List Net) (background : Background) (work : Work) (net : Net) (version : NumberedNet) → version ≡ version_of (length nets + 1) net
@@ -144,8 +146,8 @@ usage-published nets (OfWatch begun) totals (Watches watched) usage version w s 
   enough = s.enough;
 }
 
-pub commit-accepted : (old : State) (work : Work) (usage : Usage) (version : NumberedNet) → IsNext old version → number_of old.current < MOST_VERSIONS → CanReport work
-    → SessionTells Commits (session old work usage) (session (with_last old version) (after_publishing work version) (usage_published work usage)) (Version version)
+pub commit-accepted : (old : State) (work : Work) (usage : Usage) (version : NumberedNet) → IsNextVersion old version → number_of old.current < MOST_VERSIONS → CanReport work
+    → SessionTells Commits (session old work usage) (session (with_next_version old version) (after_publishing work version) (usage_published work usage)) (Version version)
 commit-accepted old work usage version next room can = record {
   reports = can-published work version can;
   steps = λ lent domain like.
@@ -167,7 +169,7 @@ follows-published (Holds held) version next after = tt
 follows-published (Watches watched) version next after = λ last is.
     let at : length (watched.versions ++ version ∷ []) - 1 ≡ length watched.versions = omega (arith, length-append watched.versions (version ∷ [])) in
     let here : slice_get (watched.versions ++ version ∷ []) (length watched.versions) ≡ Some last = subst (λ (k : ℕ). slice_get (watched.versions ++ version ∷ []) k ≡ Some last) at is in
-    let same : Some version ≡ Some last = sym (get-behind watched.versions version) ∙ here in
+    let same : Some version ≡ Some last = sym (get-last watched.versions version) ∙ here in
     let one : version ≡ last = cc in
     omega (arith, after, ap (λ (v : NumberedNet). v.number) one)
 
@@ -317,7 +319,7 @@ usage-joined totals (Watches watched) usage s = record {
 
 -- what runs is joined
 pub joined : (old : Session) (reports : List RoundReport) (usage : Usage) → AreReportsOf old.work reports → usage ≡ usage_joined old.work old.usage
-    → StepsAs (λ domain next. Joins domain reports next) old (session old.state Idle usage)
+    → StepsAs (λ domain next. JoinsReporting domain reports next) old (session old.state Idle usage)
 joined old reports usage are is = record {
   reports = tt;
   steps = λ lent domain like. (
@@ -344,7 +346,7 @@ joined-told old new before after p = record {
 }
 
 running-ends : (nets : List Net) (background : Background) (work : Work) (domain next : Domain) (reports : List RoundReport) → is_running work ≡ true → IsWorkOf nets background work
-    → Joins domain reports next → EndsWork background domain (report_lines reports ++ joined_line (length reports)) next
+    → JoinsReporting domain reports next → EndsWork background domain (report_lines reports ++ joined_line (length reports)) next
 running-ends nets AtRest Idle domain next reports runs w j = cc
 running-ends nets AtRest (Holds held) domain next reports runs w j = absurd w
 running-ends nets AtRest (Watches watched) domain next reports runs w j = absurd w
@@ -352,7 +354,7 @@ running-ends nets (OfHold held) work domain next reports runs w j = (reports, j,
 running-ends nets (OfWatch begun) work domain next reports runs w j = (reports, j, refl)
 
 -- work that runs is joined at the end
-pub ends-joined : (old new : Session) (reports : List RoundReport) → is_running old.work ≡ true → StepsAs (λ domain next. Joins domain reports next) old new
+pub ends-joined : (old new : Session) (reports : List RoundReport) → is_running old.work ≡ true → StepsAs (λ domain next. JoinsReporting domain reports next) old new
     → SessionEnds old (report_lines reports ++ joined_line (length reports)) new
 ends-joined old new reports runs j = record {
   reports = j.reports;
@@ -396,8 +398,8 @@ watch-told old here version watchers rounds work usage number same few may start
 pub joined-puts : (old here : Session) (reports : List RoundReport) (usage : Usage) (before after : List ℕ) → here ≡ old → AreReportsOf here.work reports → usage ≡ usage_joined here.work here.usage
     → ((number : ℕ) → after ≡ before ++ spelled number (Joined reports)) → PutsJoined old (session here.state Idle usage) before after
 joined-puts old here reports usage before after same are is text =
-    let j : StepsAs (λ domain next. Joins domain reports next) here (session here.state Idle usage) = joined here reports usage are is in
-    record { reports = reports; joins = subst (λ (s : Session). StepsAs (λ domain next. Joins domain reports next) s (session here.state Idle usage)) same j; appended = text }
+    let j : StepsAs (λ domain next. JoinsReporting domain reports next) here (session here.state Idle usage) = joined here reports usage are is in
+    record { reports = reports; joins = subst (λ (s : Session). StepsAs (λ domain next. JoinsReporting domain reports next) s (session here.state Idle usage)) same j; appended = text }
 
 pub hold-refused : (old here : Session) (reason : Refusal) → here ≡ old → CanReport here.work → IsHindrance old.state.current old.work reason → SessionTells BeginsHold old here (Refused reason)
 hold-refused old here reason same can h =
@@ -421,13 +423,13 @@ commit-told old here new work after_work usage counted before after same can com
     let version = committed.0 in
     let some : new.current ≡ Some version = ap (λ (s : State). s.current) committed.2 in
     let p : IsPublished (Some version) work usage after_work counted = subst (λ (o : Option NumberedNet). IsPublished o work usage after_work counted) some published in
-    let tells : SessionTells Commits old (session (with_last here version) (after_publishing work version) (usage_published work usage)) (Version version) =
-    subst (λ (s : Session). SessionTells Commits s (session (with_last here version) (after_publishing work version) (usage_published work usage)) (Version version)) same (commit-accepted here work usage version committed.1 committed.3 can) in
+    let tells : SessionTells Commits old (session (with_next_version here version) (after_publishing work version) (usage_published work usage)) (Version version) =
+    subst (λ (s : Session). SessionTells Commits s (session (with_next_version here version) (after_publishing work version) (usage_published work usage)) (Version version)) same (commit-accepted here work usage version committed.1 committed.3 can) in
     record {
       told = Version version;
       is = subst (λ (s : State). SessionTells Commits old (session s after_work counted) (Version version)) (sym committed.2)
-          (subst (λ (w : Work). SessionTells Commits old (session (with_last here version) w counted) (Version version)) (sym p.0)
-          (subst (λ (u : Usage). SessionTells Commits old (session (with_last here version) (after_publishing work version) u) (Version version)) (sym p.1) tells));
+          (subst (λ (w : Work). SessionTells Commits old (session (with_next_version here version) w counted) (Version version)) (sym p.0)
+          (subst (λ (u : Usage). SessionTells Commits old (session (with_next_version here version) (after_publishing work version) u) (Version version)) (sym p.1) tells));
       accepted = refl;
       appended = committed.4;
     }

@@ -5,7 +5,7 @@ use Rattle.sr_repair.specs.Delivery.{EachRepairDelivers}
 use Rattle.sr_repair.proofs.DeliveryLemmas.{repair_delivers}
 use Rattle.sr_store.specs.declared.usage.Usage.{Usage}
 use Rattle.sr_engine.specs.Replies.{Replies, Answered, Script}
-use Rattle.sr_run.specs.Domain.{Domain, opening}
+use Rattle.sr_run.specs.Domain.{Domain, opening_domain}
 use Rattle.sr_run.specs.State.{IsShown}
 use Rattle.sr_run.specs.Session.{Answers, conduct}
 use Rattle.sr_run.specs.Handlers.{session_conduct}
@@ -25,12 +25,12 @@ pub replies-deliver : (old : Domain) (number : ℕ) (lines : List (List ℕ)) (o
 replies-deliver old number lines out refused new r h = replies-keep EachDelivers (nets-kept EachRepairDelivers repair_delivers) old number lines out refused new r h
 
 -- before the first line there are no nets
-none-delivers : EachDelivers opening
+none-delivers : EachDelivers opening_domain
 none-delivers = All-nil EachRepairDelivers
 
-pub answered-delivers : (bytes out : List ℕ) (answered : Answered Answers opening bytes out) → EachDelivers answered.last
-answered-delivers bytes out a = replies-deliver opening 1 a.lines out a.refused a.last a.replies none-delivers
+pub answered-delivers : (bytes out : List ℕ) (answered : Answered Answers opening_domain bytes out) → EachDelivers answered.last
+answered-delivers bytes out a = replies-deliver opening_domain 1 a.lines out a.refused a.last a.replies none-delivers
 
-pub script-delivers : (bytes out : List ℕ) (refused : Bool) (final : Domain) → Script conduct opening bytes out refused final → EachDelivers final
+pub script-delivers : (bytes out : List ℕ) (refused : Bool) (final : Domain) → Script conduct opening_domain bytes out refused final → EachDelivers final
 script-delivers bytes out refused final s =
-    ends-keep EachDelivers (nets-kept EachRepairDelivers repair_delivers) s.last s.tail final s.end (replies-deliver opening 1 _ s.said refused s.last s.replies none-delivers)
+    ends-keep EachDelivers (nets-kept EachRepairDelivers repair_delivers) s.last s.tail final s.end (replies-deliver opening_domain 1 _ s.said refused s.last s.replies none-delivers)

@@ -13,7 +13,7 @@ use Rattle.sr_work.specs.declared.work.Work.{Work}
 use Rattle.sr_work.specs.declared.work.Work.TheVariants.{Idle, Holds, Watches}
 use Rattle.sr_engine.specs.Lines.{Splits, with_feed, last_line, most_bytes}
 use Rattle.sr_engine.specs.Replies.{Replies, Script}
-use Rattle.sr_run.specs.Domain.{Domain, Background, WatchTotals, opening, no_watches, last_version, with_hold, with_watch, with_commit_during}
+use Rattle.sr_run.specs.Domain.{Domain, Background, WatchTotals, opening_domain, no_watches, last_version, with_hold, with_watch, with_commit_during}
 use Rattle.sr_run.specs.Domain.Background.{AtRest, OfHold, OfWatch}
 use Rattle.sr_run.specs.Background.{BeginsWork, EndsWork, watch_from}
 use Rattle.sr_run.specs.Edits.{Refuses, Commits}
@@ -28,7 +28,7 @@ use Rattle.sr_run.proofs.LineLemmas.{said-well}
 none-shown : ShowsWatches no_watches Idle unused
 none-shown = record { places = omega arith; published = omega arith; given = 0; given_is = omega arith; few = omega arith; turns = 0; turns_are = omega arith; enough = omega arith }
 
-pub shown-first : (lent : Usage) → IsShown lent (session_before lent) opening
+pub shown-first : (lent : Usage) → IsShown lent (session_before lent) opening_domain
 shown-first lent = record { state = refl; work = tt; usage = λ fresh. subst (ShowsWatches no_watches Idle) (sym fresh) none-shown }
 
 -- ---- how far the totals go
@@ -128,11 +128,11 @@ serves-idle nets totals Idle usage few w s = record {
 serves-idle nets totals (Holds version) usage few w s = absurd w
 serves-idle nets totals (Watches watched) usage few w s = absurd w
 
-pub serves-all : (bytes out : List ℕ) (refused : Bool) (final : Domain) (last : Session) → length bytes ≤ most_bytes → Script conduct opening bytes out refused final
+pub serves-all : (bytes out : List ℕ) (refused : Bool) (final : Domain) (last : Session) → length bytes ≤ most_bytes → Script conduct opening_domain bytes out refused final
     → ShowsWatches final.totals last.work last.usage → IsWorkOf final.nets final.background last.work → ServesWatches final.totals last.usage
 serves-all bytes out refused final last short s shows work =
     let end = end-rests s.last.background s.last s.tail final refl s.end in
-    let sum = replies-sums opening 1 _ s.said refused s.last s.replies in
+    let sum = replies-sums opening_domain 1 _ s.said refused s.last s.replies in
     let lines = lines-few bytes s.lines s.rest s.splits in
     serves-idle final.nets final.totals last.work last.usage
     (subst (λ (t : WatchTotals). t.places + (t.rounds + t.commits) < 2 ^ 60) (sym end.1) (omega (arith, sum, lines, short)))

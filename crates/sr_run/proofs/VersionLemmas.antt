@@ -1,5 +1,5 @@
 -- The versions of the accepted commits from a number on.
-use Rattle.std.proofs.Common.{◌≡◌, ℕ, zero, suc, ◌+◌, ◌-◌, ◌≤◌, List, [], ◌∷◌, ◌++◌, length, take, reverse, slice_get, Option, Some, None, refl, sym, ap, subst, ◌∙◌, arith}
+use Rattle.std.proofs.Common.{◌≡◌, ℕ, suc, ◌+◌, ◌-◌, ◌≤◌, List, [], ◌∷◌, ◌++◌, length, take, reverse, Option, Some, None, refl, sym, ap, subst, ◌∙◌, arith}
 use Rattle.std.proofs.lemmas.List.{length-reverse, length-take, reverse-append}
 use Rattle.sr_model.specs.Label.{Net}
 use Rattle.sr_repair.specs.Version.{NumberedNet, version_of}
@@ -30,14 +30,3 @@ last-number [] version is = cc
 last-number (net ∷ nets) version is =
     let same : version_of (length nets + 1) net ≡ version = cc in
     omega (arith, ap (λ (v : NumberedNet). v.number) same)
-
--- a version stands at its place also in front of more
-pub get-more : {X : Type 0} (xs ys : List X) (k : ℕ) (x : X) → slice_get xs k ≡ Some x → slice_get (xs ++ ys) k ≡ Some x
-get-more {X} [] ys k x is = cc
-get-more {X} (y ∷ xs) ys zero x is = is
-get-more {X} (y ∷ xs) ys (suc k) x is = get-more xs ys k x is
-
--- and the one behind stands last
-pub get-behind : {X : Type 0} (xs : List X) (x : X) → slice_get (xs ++ x ∷ []) (length xs) ≡ Some x
-get-behind {X} [] x = refl
-get-behind {X} (y ∷ xs) x = get-behind xs x

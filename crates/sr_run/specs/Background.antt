@@ -47,17 +47,17 @@ AreDue (OfHold version) nets reports = (report : RoundReport) × (reports ≡ re
 AreDue (OfWatch watch) nets reports = AreReports watch.watchers watch.rounds (versions_since watch.from nets) reports
 
 -- what runs is joined, and reports this
-abbrev pub Joins : Domain → List RoundReport → Domain → Type 0
-Joins old reports new = AreDue old.background old.nets reports × (new ≡ with_joined old)
+abbrev pub JoinsReporting : Domain → List RoundReport → Domain → Type 0
+JoinsReporting old reports new = AreDue old.background old.nets reports × (new ≡ with_joined old)
 
 -- `join`: what runs is joined, and its reports are told
 abbrev pub JoinsWork : Domain → Told → Domain → Type 0
-JoinsWork old told new = (reports : List RoundReport) × Joins old reports new × (told ≡ Joined reports)
+JoinsWork old told new = (reports : List RoundReport) × JoinsReporting old reports new × (told ≡ Joined reports)
 
 -- the end of the script, where work runs: it is joined, and answered as a `join` line
 abbrev pub EndsAsJoin : Domain → List ℕ → Domain → Type 0
 EndsAsJoin old out new =
-    (reports : List RoundReport) × Joins old reports new
+    (reports : List RoundReport) × JoinsReporting old reports new
     × (out ≡ report_lines reports ++ joined_line (length reports))
 
 -- the end of the script: where nothing runs, nothing is answered, and nothing changes

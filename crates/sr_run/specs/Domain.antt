@@ -37,8 +37,8 @@ abbrev pub no_watches : WatchTotals
 no_watches = record { places = 0; rounds = 0; commits = 0 }
 
 -- before the first line
-abbrev pub opening : Domain
-opening = record { editing = no_edits; nets = []; background = AtRest; totals = no_watches }
+abbrev pub opening_domain : Domain
+opening_domain = record { editing = no_edits; nets = []; background = AtRest; totals = no_watches }
 
 -- the version of the last of these nets: its number is how many there are
 abbrev pub last_version : List Net → Option NumberedNet

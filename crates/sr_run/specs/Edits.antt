@@ -37,7 +37,8 @@ StagesEdit edit old told new =
 -- a PDU is stale, or it is staged
 abbrev pub StagesPdu : Lsp → Domain → Told → Domain → Type 0
 StagesPdu lsp old told new =
-    ((stored : ℕ) × (given : ℕ) × IsStale (stored_under old.editing.tentative lsp.id) lsp stored given × Refuses old told new (Stale stored given))
+    ((stored : ℕ) × (given : ℕ) × IsStale (stored_under old.editing.tentative lsp.id) lsp stored given
+    × Refuses old told new (Stale stored given))
     ⊎ (IsTaken (stored_under old.editing.tentative lsp.id) lsp × StagesEdit (Announce lsp) old told new)
 
 -- the refusal of octets that fail a check, by its offset and its number

@@ -40,7 +40,8 @@ TellsSpacesOf net case d told =
 
 -- `spaces`: those of the case and the destination that are named
 abbrev pub TellsSpaces : RepairName → NumberedNet → Told → Type 0
-TellsSpaces repair version told = OfFailure (IsRefused told) version.net repair (λ case d. TellsSpacesOf version.net case d told)
+TellsSpaces repair version told =
+    OfFailure (IsRefused told) version.net repair (λ case d. TellsSpacesOf version.net case d told)
 
 -- the answer of a case of the net for a node that it affects
 pub record IsAnswerOf (net : Net) (case : Case) (d : ℕ) (answer : Answer) : Type 0 where
@@ -58,11 +59,14 @@ pub record IsRepaired (net : Net) (case : Case) (d : ℕ) (answer : Answer) (lab
 
 -- the answer of a case for a destination that it affects, and its labels
 abbrev pub TellsRepairOf : Net → Case → ℕ → Told → Type 0
-TellsRepairOf net case d told = (answer : Answer) × (labels : List ℕ) × IsRepaired net case d answer labels × (told ≡ Repair net case d answer labels)
+TellsRepairOf net case d told =
+    (answer : Answer) × (labels : List ℕ) × IsRepaired net case d answer labels
+    × (told ≡ Repair net case d answer labels)
 
 -- `repair`: that of the case and the destination that are named
 abbrev pub TellsRepair : RepairName → NumberedNet → Told → Type 0
-TellsRepair repair version told = OfAffected (IsRefused told) version.net repair (λ case d. TellsRepairOf version.net case d told)
+TellsRepair repair version told =
+    OfAffected (IsRefused told) version.net repair (λ case d. TellsRepairOf version.net case d told)
 
 -- the packet of the repair crosses its first link, and goes on under its stack by the choice number, the failed links
 -- being closed; it reaches the destination with an empty stack, at the cost of the repair
@@ -82,15 +86,18 @@ pub record IsRepairWalked (net : Net) (case : Case) (d choice : ℕ) (links : Li
 abbrev pub TellsRepairWalkOf : Net → Case → ℕ → ℕ → Told → Type 0
 TellsRepairWalkOf net case d choice told =
     ((answer : Answer) × IsCaseAnswer net case d answer × (is_least answer ≡ false) × (told ≡ Uncovered answer))
-    ⊎ ((links : List LinkNo) × IsRepairWalked net case d choice links × (told ≡ Walk net (source_of net.graph case) (Some links)))
+    ⊎ ((links : List LinkNo) × IsRepairWalked net case d choice links
+    × (told ≡ Walk net (source_of net.graph case) (Some links)))
 
 -- `walk` of a repaired packet: of the case and the destination that are named
 abbrev pub TellsRepairWalk : RepairName → ℕ → NumberedNet → Told → Type 0
-TellsRepairWalk repair choice version told = OfAffected (IsRefused told) version.net repair (λ case d. TellsRepairWalkOf version.net case d choice told)
+TellsRepairWalk repair choice version told =
+    OfAffected (IsRefused told) version.net repair (λ case d. TellsRepairWalkOf version.net case d choice told)
 
 -- `audit`: how many answers of each sort the audit has
 abbrev pub TellsSummary : NumberedNet → Told → Type 0
-TellsSummary version told = (items : List Item) × IsAudit version.net items × (told ≡ Summary version.number (counts_of items))
+TellsSummary version told =
+    (items : List Item) × IsAudit version.net items × (told ≡ Summary version.number (counts_of items))
 
 -- `audit full`: the audit, item by item, and how many answers of each sort it has
 abbrev pub TellsAudit : NumberedNet → Told → Type 0

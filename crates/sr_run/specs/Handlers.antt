@@ -47,10 +47,10 @@ use Rattle.sr_work.specs.Works.{after_publishing, usage_published}
 use Rattle.sr_run.specs.declared.commit.TheConstants.{MOST_VERSIONS}
 use Rattle.sr_run.specs.Domain.{Domain, number_of}
 use Rattle.sr_run.specs.Edits.{Commits}
-use Rattle.sr_run.specs.Background.{Joins}
+use Rattle.sr_run.specs.Background.{JoinsReporting}
 use Rattle.sr_run.specs.Names.{IsNamedNode, NamesNode, OfEnds, OfAnnounced, OfFailure, OfAffected, IsLinkOf, key_meant}
 use Rattle.sr_run.specs.Session.{Tells, Answers, EndsScript, IsRefusedAs}
-use Rattle.sr_run.specs.State.{State, Session, IsShown, CanReport, HasAudit, IsNext, session_before, shown, with_version}
+use Rattle.sr_run.specs.State.{State, Session, IsShown, CanReport, HasAudit, IsNextVersion, session_before, state_of, with_next_version}
 
 -- what is told was appended, and it is no refusal: so it is spelled whatever the line's number
 pub record PutsTold (tells : Told → Type 0) (before after : List ℕ) : Type 0 where
@@ -67,11 +67,13 @@ Carries tells before after (Err (Memory error)) = Unit {0}
 
 -- whatever domain a session in the first state shows, there is one after it that a session in the second state shows
 abbrev pub Moves : (Domain → Told → Domain → Type 0) → State → State → Told → Type 0
-Moves tells old new told = (domain : Domain) → shown domain ≡ old → (next : Domain) × (shown next ≡ new) × tells domain told next
+Moves tells old new told = (domain : Domain) → state_of domain ≡ old
+    → (next : Domain) × (state_of next ≡ new) × tells domain told next
 
 -- a command is carried out
 abbrev pub CarriesOut : Command → State → State → List ℕ → List ℕ → Result (Unit {0}) Stop → Type 0
-CarriesOut command old new before after result = Carries (Moves (λ domain told next. Tells domain command told next) old new) before after result
+CarriesOut command old new before after result =
+    Carries (Moves (λ domain told next. Tells domain command told next) old new) before after result
 
 -- the second session has something to report of its work; and whatever domain the first one shows, there is one after
 -- this step that the second one shows
@@ -174,7 +176,8 @@ IsLinkEdit UpEdit = Unit {0}
 -- is yet to be written; or the line is refused, and that is told; memory may run out at any time
 abbrev pub RepliesTo : Command → State → State → List ℕ → List ℕ → Result Reply Stop → Type 0
 RepliesTo command old new before after (Ok Text) = CarriesOut command old new before after (Ok tt)
-RepliesTo command old new before after (Ok Audit) = (command ≡ AuditFull) × (is_some old.current ≡ true) × (new ≡ old) × (after ≡ before)
+RepliesTo command old new before after (Ok Audit) =
+    (command ≡ AuditFull) × (is_some old.current ≡ true) × (new ≡ old) × (after ≡ before)
 RepliesTo command old new before after (Err stop) = CarriesOut command old new before after (Err stop)
 
 -- a session carries a command out: the same
@@ -195,7 +198,8 @@ GivesCommand command number old = λ said refused new.
 -- what a line of this number with a fault gives
 abbrev pub RefusesLine : LineFault → ℕ → Session → Allowed Session
 RefusesLine fault number old = λ said refused new.
-    (reason : Refusal) × IsRefusedAs fault reason × (said ≡ refused_line number reason) × (refused ≡ true) × (new ≡ old)
+    (reason : Refusal) × IsRefusedAs fault reason
+    × (said ≡ refused_line number reason) × (refused ≡ true) × (new ≡ old)
 
 -- the lines of an audit of the version, and of how many answers of each sort it has
 abbrev pub audit_text : NumberedNet → List Item → List ℕ
@@ -204,15 +208,19 @@ audit_text version items = item_lines version.net items ++ summary_line version.
 -- the audit of the version is written, or a beginning of it
 abbrev pub WritesAudit : Option NumberedNet → Written → Written → Result (Unit {0}) SinkFault → Type 0
 WritesAudit None before after result = ⊥
-WritesAudit (Some version) before after result = (items : List Item) × IsAudit version.net items × Puts before after (audit_text version items) result
+WritesAudit (Some version) before after result =
+    (items : List Item) × IsAudit version.net items × Puts before after (audit_text version items) result
 
 -- the lines of all cases of the net are written, or a beginning of them
 abbrev pub WritesCases : Net → Written → Written → Result (Unit {0}) SinkFault → Type 0
-WritesCases net before after result = (items : List Item) × IsAudit net items × Puts before after (item_lines net items) result
+WritesCases net before after result =
+    (items : List Item) × IsAudit net items × Puts before after (item_lines net items) result
 
 -- how many answers of each sort an audit of the version has is written, or a beginning of it
 abbrev pub WritesCounts : NumberedNet → Written → Written → Result (Unit {0}) SinkFault → Type 0
-WritesCounts version before after result = (items : List Item) × IsAudit version.net items × Puts before after (summary_line version.number (counts_of items)) result
+WritesCounts version before after result =
+    (items : List Item) × IsAudit version.net items
+    × Puts before after (summary_line version.number (counts_of items)) result
 
 -- there is a version, of which the audit is yet to be written, or that there is none is refused
 abbrev pub BeginsAudit : Option NumberedNet → Result Reply Stop → Type 0
@@ -222,7 +230,9 @@ BeginsAudit (Some version) result = result ≡ Ok Audit
 -- the refusal of the line of this number is written, or a beginning of it
 abbrev pub WritesRefusal : ℕ → Refusal → Written → Written → Result Bool SinkFault → Type 0
 WritesRefusal number reason before after result =
-    MatchResult result (λ refused. (refused ≡ true) × Says before after (refused_line number reason)) (Breaks before after (refused_line number reason))
+    MatchResult result
+    (λ refused. (refused ≡ true) × Says before after (refused_line number reason))
+    (Breaks before after (refused_line number reason))
 
 -- what was told is told by its text, or the same stopped it
 abbrev pub IsReply : Result (Unit {0}) Stop → Result Reply Stop → Type 0
@@ -232,9 +242,10 @@ IsReply told result = MatchResult told (λ _. result ≡ Ok Text) (λ stop. resu
 -- the last version stays
 abbrev pub CommitsVersion : State → State → List ℕ → List ℕ → Result (Unit {0}) Stop → Type 0
 CommitsVersion old new before after (Ok done) =
-    (version : NumberedNet) × IsNext old version × (new ≡ with_version old version)
+    (version : NumberedNet) × IsNextVersion old version × (new ≡ with_next_version old version)
     × (number_of old.current < MOST_VERSIONS) × ((number : ℕ) → after ≡ before ++ spelled number (Version version))
-CommitsVersion old new before after (Err (Refused reason)) = (new.current ≡ old.current) × Moves Commits old new (RefusedTold reason)
+CommitsVersion old new before after (Err (Refused reason)) =
+    (new.current ≡ old.current) × Moves Commits old new (RefusedTold reason)
 CommitsVersion old new before after (Err (Memory error)) = new.current ≡ old.current
 
 -- an answer that was written is no refusal, or there was the fault
@@ -268,7 +279,7 @@ IsPublished (Some version) work usage published counted =
 -- the work is joined, and its reports were appended
 pub record PutsJoined (old new : Session) (before after : List ℕ) : Type 0 where
   pub reports : List RoundReport
-  pub joins : StepsAs (λ domain next. Joins domain reports next) old new
+  pub joins : StepsAs (λ domain next. JoinsReporting domain reports next) old new
   pub appended : (number : ℕ) → after ≡ before ++ spelled number (Joined reports)
 
 -- the run of a script with a usage that was lent: how it ended, and that the session's usage was given back

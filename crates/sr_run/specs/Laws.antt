@@ -8,7 +8,7 @@ use Rattle.sr_engine.specs.Replies.{Answered, Script}
 use Rattle.sr_script.specs.declared.command.Command.TheVariants.{Join}
 use Rattle.sr_script.specs.declared.line.Line.TheVariants.{Word}
 use Rattle.sr_script.specs.LineSays.{LineSays}
-use Rattle.sr_run.specs.Domain.{Domain, BegunWatch, opening}
+use Rattle.sr_run.specs.Domain.{Domain, BegunWatch, opening_domain}
 use Rattle.sr_run.specs.Domain.Background.{OfWatch}
 use Rattle.sr_run.specs.Session.{Answers, conduct}
 use Rattle.sr_run.specs.Program.{EachDelivers}
@@ -35,13 +35,14 @@ LinesHaveOneAnswer = (old : Domain) (number : ℕ) (line out other : List ℕ) (
 -- unless a commit was accepted while a watch ran
 abbrev pub ScriptsHaveOneOutput : Type 0
 ScriptsHaveOneOutput = (bytes out other : List ℕ) (refused again : Bool) (final last : Domain)
-    → Script conduct opening bytes out refused final → Script conduct opening bytes other again last
+    → Script conduct opening_domain bytes out refused final → Script conduct opening_domain bytes other again last
     → (refused ≡ again) × (final ≡ last) × (final.totals.commits ≡ 0 → out ≡ other)
 
 -- whatever lines were answered, in the net of each accepted commit every repair of every case has a stack, and
 -- delivers under it
 abbrev pub AcceptedNetsDeliver : Type 0
-AcceptedNetsDeliver = (bytes out : List ℕ) (answered : Answered Answers opening bytes out) → EachDelivers answered.last
+AcceptedNetsDeliver = (bytes out : List ℕ) (answered : Answered Answers opening_domain bytes out)
+    → EachDelivers answered.last
 
 -- the flags of a Prefix-SID have their bits (RFC 8667, 2.1.1)
 pub record PrefixSidFlags : Type 0 where

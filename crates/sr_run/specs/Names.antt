@@ -29,7 +29,8 @@ OfNode refuses graph system holds =
 
 -- the first of two systems that isn't a node is refused; or both are, and this holds of the nodes
 abbrev pub OfEnds : (Refusal → Type 0) → Graph → EndNames → (ℕ → ℕ → Type 0) → Type 0
-OfEnds refuses graph ends holds = OfNode refuses graph ends.from (λ from. OfNode refuses graph ends.to (λ to. holds from to))
+OfEnds refuses graph ends holds = OfNode refuses graph ends.from (λ from.
+    OfNode refuses graph ends.to (λ to. holds from to))
 
 -- the ends of a link's name
 abbrev pub ends_of : LinkName → EndNames

@@ -11,11 +11,11 @@ use Rattle.sr_engine.specs.declared.end.End.{End}
 use Rattle.sr_engine.specs.declared.end.End.TheVariants.{Done, ReadFailed, WriteFailed, Memory, TooMuch}
 use Rattle.sr_make.specs.Making.{MakingShows}
 use Rattle.sr_make.specs.Script.{made_script}
-use Rattle.sr_words.specs.declared.task.Task.{Task}
-use Rattle.sr_words.specs.declared.task.Task.TheVariants as task
+use Rattle.sr_words.specs.declared.task.AskedTask.{AskedTask}
+use Rattle.sr_words.specs.declared.task.AskedTask.TheVariants as task
 use Rattle.sr_words.specs.Tasks.{Asked, IsTaskOf, BeginWithMake}
 use Rattle.sr_store.specs.declared.usage.Usage.{Usage}
-use Rattle.sr_run.specs.Domain.{Domain, opening}
+use Rattle.sr_run.specs.Domain.{Domain, opening_domain}
 use Rattle.sr_run.specs.Session.{Answers, conduct}
 use Rattle.sr_run.specs.Usage.{unused, ServesWatches}
 
@@ -55,7 +55,7 @@ pub record AnswersScript (run : Execution) (refused : Bool) : Type 0 where
   pub at_end : IsAtEnd run.new.left
   pub few : length run.taken ≤ most_bytes
   pub final : Domain
-  pub script : Script conduct opening run.taken run.out refused final
+  pub script : Script conduct opening_domain run.taken run.out refused final
   pub delivers : EachDelivers final
   pub serves : run.used ≡ unused → ServesWatches final.totals run.usage
   pub reads : ReadsWell run
@@ -63,11 +63,11 @@ pub record AnswersScript (run : Execution) (refused : Bool) : Type 0 where
 
 -- all lines that end within these first bytes were answered
 abbrev pub AnswersLines : Execution → List ℕ → Type 0
-AnswersLines run bytes = Answered Answers opening bytes run.out
+AnswersLines run bytes = Answered Answers opening_domain bytes run.out
 
 -- what was written is a beginning of what may be answered to some first lines, or to the whole script
 abbrev pub BeginsToAnswer : Execution → Type 0
-BeginsToAnswer run = BeginsOutput conduct opening run.new.left run.taken run.out
+BeginsToAnswer run = BeginsOutput conduct opening_domain run.new.left run.taken run.out
 
 -- how a run over a script ended says of it: the script was read to its end; the count of failed reads rose, or stands
 -- at its last value, and all lines before were answered; the count of failed writes did so, or memory ran out, and a
@@ -77,7 +77,8 @@ EndShows run (Done refused) = AnswersScript run refused
 EndShows run ReadFailed = AnswersLines run run.taken × FailsReading run × WritesWell run
 EndShows run WriteFailed = BeginsToAnswer run × FailsWriting run × ReadsWell run
 EndShows run Memory = BeginsToAnswer run × ReadsWell run × WritesWell run
-EndShows run TooMuch = (most_bytes < length run.taken) × AnswersLines run (script_of run.taken) × ReadsWell run × WritesWell run
+EndShows run TooMuch =
+    (most_bytes < length run.taken) × AnswersLines run (script_of run.taken) × ReadsWell run × WritesWell run
 
 -- nothing was taken, the count of failed reads and the usage stayed, and the ending says how much of the script was
 -- written
@@ -88,7 +89,7 @@ pub record MakesScript (nodes start : ℕ) (run : Execution) (end : End) : Type 
   pub shows : MakingShows (made_script nodes start) run.out run.old.write_faults run.new.write_faults end
 
 -- what the ending of a task says of the run, which answers a script or makes one
-abbrev pub TaskShows : Task → Execution → End → Type 0
+abbrev pub TaskShows : AskedTask → Execution → End → Type 0
 TaskShows task.Run run end = EndShows run end
 TaskShows (task.Make nodes start) run end = MakesScript nodes start run end
 
@@ -104,7 +105,7 @@ pub record DoesNothing (run : Execution) : Type 0 where
 -- refused, 3 where a read failed, 4 where a write failed, 5 where memory ran out, 6 where there are too many
 -- bytes
 pub record DoesTask (words : List (String Global)) (run : Execution) (status : ℕ) : Type 0 where
-  pub asked : Task
+  pub asked : AskedTask
   pub asks : Asked words asked
   pub end : End
   pub is : status ≡ status_of end

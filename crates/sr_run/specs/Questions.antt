@@ -60,4 +60,5 @@ TellsWalkTo net system from to choice told =
 
 -- `walk` from one node to another
 abbrev pub TellsWalk : EndNames → ℕ → NumberedNet → Told → Type 0
-TellsWalk ends choice version told = OfEnds (IsRefused told) version.net.graph ends (λ from to. TellsWalkTo version.net ends.to from to choice told)
+TellsWalk ends choice version told = OfEnds (IsRefused told) version.net.graph ends (λ from to.
+    TellsWalkTo version.net ends.to from to choice told)

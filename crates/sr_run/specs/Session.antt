@@ -88,7 +88,8 @@ IsRefusedAs (fault.Memory error) reason = ⊥
 -- what is told to a line, and the state after it: it has a fault, says nothing, or says a command
 abbrev pub TellsLine : Domain → List ℕ → Told → Domain → Type 0
 TellsLine old line told new =
-    ((fault : LineFault) × (reason : Refusal) × IsLineFault line fault × IsRefusedAs fault reason × Refuses old told new reason)
+    ((fault : LineFault) × (reason : Refusal) × IsLineFault line fault × IsRefusedAs fault reason
+    × Refuses old told new reason)
     ⊎ ((LineSays line NoWord × (told ≡ Nothing) × (new ≡ old))
     ⊎ ((command : Command) × LineSays line (Word command) × Tells old command told new))
 

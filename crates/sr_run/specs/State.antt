@@ -14,7 +14,7 @@ use Rattle.sr_work.specs.Works.{MayFollow}
 use Rattle.sr_work.specs.declared.work.Work.{Work}
 use Rattle.sr_work.specs.declared.work.Work.TheVariants.{Idle, Holds, Watches}
 use Rattle.sr_run.specs.declared.commit.TheConstants.{MOST_VERSIONS}
-use Rattle.sr_run.specs.Domain.{Domain, opening, Background, BegunWatch, WatchTotals, last_version, number_of, versions_since}
+use Rattle.sr_run.specs.Domain.{Domain, opening_domain, Background, BegunWatch, WatchTotals, last_version, number_of, versions_since}
 use Rattle.sr_run.specs.Domain.Background.{AtRest, OfHold, OfWatch}
 use Rattle.sr_run.specs.Usage.{unused}
 
@@ -24,8 +24,8 @@ pub record State : Type 0 where
   pub current : Option NumberedNet
 
 -- what a session shows of the domain: of its nets the last one, with their number
-abbrev pub shown : Domain → State
-shown domain = record { editing = domain.editing; current = last_version domain.nets }
+abbrev pub state_of : Domain → State
+state_of domain = record { editing = domain.editing; current = last_version domain.nets }
 
 -- what a session keeps: no more versions than there may be, counted from 1, and the last net is that of the accepted
 -- facts
@@ -35,11 +35,11 @@ pub record IsKeptState (state : State) : Type 0 where
   pub fresh : IfSome state.current (λ version. IsNetOf state.editing.accepted version.net)
 
 -- the state after the tentative facts are accepted with this version
-abbrev pub with_version : State → NumberedNet → State
-with_version state version = record { editing = with_accepted state.editing; current = Some version }
+abbrev pub with_next_version : State → NumberedNet → State
+with_next_version state version = record { editing = with_accepted state.editing; current = Some version }
 
 -- the version after the last one, of the net of the tentative facts
-pub record IsNext (state : State) (version : NumberedNet) : Type 0 where
+pub record IsNextVersion (state : State) (version : NumberedNet) : Type 0 where
   pub counted : version.number ≡ number_of state.current + 1
   pub net : IsNetOf state.editing.tentative version.net
 
@@ -57,7 +57,7 @@ is_running (Watches watched) = true
 
 -- a session before its first line
 abbrev pub session_before : Usage → Session
-session_before usage = record { state = shown opening; work = Idle; usage = usage }
+session_before usage = record { state = state_of opening_domain; work = Idle; usage = usage }
 
 -- the version has an audit
 abbrev pub HasAudit : NumberedNet → Type 0
@@ -113,6 +113,6 @@ pub record ShowsWatches (totals : WatchTotals) (work : Work) (usage : Usage) : T
 
 -- the session, which was lent this usage, shows the domain
 pub record IsShown (lent : Usage) (session : Session) (domain : Domain) : Type 0 where
-  pub state : shown domain ≡ session.state
+  pub state : state_of domain ≡ session.state
   pub work : IsWorkOf domain.nets domain.background session.work
   pub usage : lent ≡ unused → ShowsWatches domain.totals session.work session.usage

@@ -20,7 +20,7 @@ use sr_repair::{Version, case_count};
 use std::alloc::{AllocError, Global};
 
 /// Appends how many answers of each sort the audit of the version of this number has.
-fn put_counts(number: u32, counts: Counts, out: &mut Vec<u8>) -> Result<(), AllocError>
+fn put_audit_counts(number: u32, counts: Counts, out: &mut Vec<u8>) -> Result<(), AllocError>
     ensures { OnOk result (out.new.items ≡ out.old.items ++ summary_line number counts) }
 {
     put_summary(
@@ -38,7 +38,7 @@ pub(crate) fn audit_counts(current: &CurrentVersion, out: &mut Vec<u8>) -> Resul
     ensures { Carries (TellsOf TellsSummary current.now) out.old.items out.new.items result }
 {
     let version = found!(last_version(current));
-    put_counts(version.number(), counts(version), out)?;
+    put_audit_counts(version.number(), counts(version), out)?;
     Ok(())
 }
 
@@ -89,7 +89,7 @@ fn write_counts<K: Sink>(
         (written (K.held sink.new) (K.faults sink.new) out.new) result }
 {
     text.clear();
-    match put_counts(version.number(), counts(version), text) {
+    match put_audit_counts(version.number(), counts(version), text) {
         Ok(()) => out.put(sink, text),
         Err(error) => Err(SinkFault::Memory(error)),
     }

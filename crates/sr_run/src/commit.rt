@@ -6,7 +6,7 @@ ghost use Rattle.sr_domain.specs.Rules.{IsFirstBrokenRule};
 ghost use Rattle.sr_print.specs.Printed.{version_line};
 ghost use Rattle.sr_repair.specs.Version.{version_of};
 ghost use Rattle.sr_run.specs.Domain.{number_of};
-ghost use Rattle.sr_run.specs.State.{IsKeptState, IsNext, with_version};
+ghost use Rattle.sr_run.specs.State.{IsKeptState, IsNextVersion, with_next_version};
 ghost use Rattle.sr_run.specs.Handlers.{CommitsVersion};
 
 use crate::current::{CurrentVersion, last_number, last_version};
@@ -64,7 +64,7 @@ impl DomainSession {
     /// too. None where something was staged, or nothing was committed yet. Fails only out of memory.
     fn renumbered_version(&self) -> Result<Option<Version>, AllocError>
         requires { number_of self.now.current < MOST_VERSIONS }
-        ensures { IfOk result (λ found. IfSome found (IsNext self.now)) }
+        ensures { IfOk result (λ found. IfSome found (IsNextVersion self.now)) }
     {
         if self.editor.staged() != 0 {
             return Ok(None);
@@ -82,7 +82,7 @@ impl DomainSession {
     fn next_version(&self, rt: &impl Runtime) -> Result<Result<Version, DomainRule>, AllocError>
         requires { number_of self.now.current < MOST_VERSIONS }
         ensures { IfOk result (λ made. MatchResult made
-            (IsNext self.now)
+            (IsNextVersion self.now)
             (IsFirstBrokenRule self.now.editing.tentative)) }
     {
         let net = match net_of(self.alloc, self.editor.tentative()) {
@@ -100,7 +100,7 @@ impl DomainSession {
     fn make_version(&self, rt: &impl Runtime) -> Result<Result<Version, DomainRule>, AllocError>
         requires { number_of self.now.current < MOST_VERSIONS }
         ensures { IfOk result (λ made. MatchResult made
-            (IsNext self.now)
+            (IsNextVersion self.now)
             (IsFirstBrokenRule self.now.editing.tentative)) }
     {
         match self.renumbered_version() {
@@ -112,7 +112,7 @@ impl DomainSession {
 
     /// Appends the number, nodes and links of a version, and accepts the tentative facts with it.
     fn accept(&mut self, version: Version, out: &mut Vec<u8>) -> Result<(), AllocError>
-        requires { IsKeptState (with_version self.old version) }
+        requires { IsKeptState (with_next_version self.old version) }
         ensures said { OnOk result (out.new.items ≡ out.old.items ++
             version_line version.number (node_count version.net.graph) (link_count version.net.graph)) }
         ensures editing { OnOk result (self.new.editing ≡ with_accepted self.old.editing) }

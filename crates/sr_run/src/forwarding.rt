@@ -9,7 +9,7 @@ ghost use Rattle.sr_run.specs.Handlers.{Carries};
 use crate::current::{CurrentVersion, last_version};
 use crate::names::{EndNodes, find_ends, find_node};
 use crate::stop::{Stop, found};
-use crate::version::{forwarded, look};
+use crate::version::{forwarded, look_up};
 use sr_model::SystemId;
 use sr_print::{Refusal, put_label, put_walk};
 use sr_repair::Version;
@@ -27,7 +27,7 @@ pub(crate) fn label(
 {
     let version = found!(last_version(current));
     let node = found!(find_node(version, system));
-    put_label(version.net(), look(version, node, label), out)?;
+    put_label(version.net(), look_up(version, node, label), out)?;
     Ok(())
 }
 

@@ -10,7 +10,7 @@ use sr_engine::End;
 use sr_make::make;
 use sr_store::Usage;
 use sr_watch::Gate;
-use sr_words::{Task, task_of};
+use sr_words::{AskedTask, task_of};
 use std::alloc::AllocGlobal;
 use std::mem::replace;
 use std::sync::Arc;
@@ -69,8 +69,8 @@ pub fn tilfa<R: AllocGlobal + Runtime + 'static, S: Source, K: Sink, G: Gate + '
 {
     let alloc = rt.alloc();
     match task_of(alloc, words) {
-        Ok(Some(Task::Run)) => run_lent(rt, source, sink, gate, usage).status(),
-        Ok(Some(Task::Make { nodes, start })) => make(alloc, nodes, start, sink).status(),
+        Ok(Some(AskedTask::Run)) => run_lent(rt, source, sink, gate, usage).status(),
+        Ok(Some(AskedTask::Make { nodes, start })) => make(alloc, nodes, start, sink).status(),
         Ok(None) => 2,
         Err(_) => End::Memory.status(),
     }

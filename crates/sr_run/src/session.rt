@@ -128,13 +128,13 @@ fn size_of(current: &CurrentVersion) -> NetSize
 
 impl DomainSession {
     ghost use Rattle.sr_script.specs.declared.command.Command.TheVariants.{Show};
-    ghost use Rattle.sr_run.specs.Domain.{opening};
-    ghost use Rattle.sr_run.specs.State.{shown};
+    ghost use Rattle.sr_run.specs.Domain.{opening_domain};
+    ghost use Rattle.sr_run.specs.State.{state_of};
     ghost use Rattle.sr_run.specs.Handlers.{CarriesOut, IsAsked, IsOfDomain, RepliesTo};
 
     /// A session before its first line.
     pub(crate) fn new(alloc: Global) -> DomainSession
-        ensures { result ≡ shown opening }
+        ensures { result ≡ state_of opening_domain }
     {
         DomainSession {
             alloc,

@@ -2,13 +2,13 @@
 use Rattle.std.proofs.Common.{ℕ, ◌≡◌, ◌≤◌, Result, Ok, Err, IfErr, List, ◌∷◌, None, codes, length, ap, ap₂, sym, subst, refl, ◌∙◌, arith}
 use Rattle.std.specs.Str.Parse.{digits_value, without_leading_plus}
 use Rattle.clap.specs.Walk.{Row, Text}
-use Rattle.sr_words.specs.declared.task.Task.{Task}
-use Rattle.sr_words.specs.declared.task.Task.TheVariants.{Run, Make}
+use Rattle.sr_words.specs.declared.task.AskedTask.{AskedTask}
+use Rattle.sr_words.specs.declared.task.AskedTask.TheVariants.{Run, Make}
 use Rattle.sr_words.specs.Making.{Ranged, nodes_range, start_range, HasNumber, GiveNumbers, AreNumbersOf}
 use Rattle.sr_words.specs.Tasks.{AskFor}
 use Rattle.sr_words.specs.Laws.{WordsAskForOneTask}
 
-pub asks-for-none : (first : Text) (rest : List Text) → 4 ≤ length first → AreNumbersOf rest None → (task : Task) → ¬ AskFor (first ∷ rest) task
+pub asks-for-none : (first : Text) (rest : List Text) → 4 ≤ length first → AreNumbersOf rest None → (task : AskedTask) → ¬ AskFor (first ∷ rest) task
 asks-for-none first rest long none Run asks =
     let is : first ≡ codes "run" = cc asks in
     let three : length first ≡ 3 = ap length is in

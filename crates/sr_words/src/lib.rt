@@ -6,7 +6,7 @@ mod making;
 mod task;
 
 pub use laws::words_ask_for_one_task;
-pub use task::{Task, task_of};
+pub use task::{AskedTask, task_of};
 
 #[cfg(test)]
 mod tests;

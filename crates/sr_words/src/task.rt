@@ -8,7 +8,7 @@ use std::alloc::{AllocError, Global};
 
 /// What the program can be asked to do.
 #[derive(Debug, Drop, Clone, Copy, PartialEq, Eq)]
-pub enum Task {
+pub enum AskedTask {
     /// `run`: answers the script that the source gives.
     Run,
     /// `make --nodes N --start S`: writes a script for a domain of N nodes, made from the number S.
@@ -24,7 +24,7 @@ fn is_word(word: &String, bytes: &[u8]) -> bool
 
 /// The task that the words ask for, and None exactly where they ask for none (this project's rule). Where memory runs
 /// out it isn't known, which only words that begin with `make` can meet.
-pub fn task_of(alloc: Global, words: &[String]) -> Result<Option<Task>, AllocError>
+pub fn task_of(alloc: Global, words: &[String]) -> Result<Option<AskedTask>, AllocError>
     ensures task { IfOk result (IsTaskOf words.now) }
     ensures refused { IfErr result (λ _. BeginWithMake words.now) }
 {
@@ -32,13 +32,13 @@ pub fn task_of(alloc: Global, words: &[String]) -> Result<Option<Task>, AllocErr
         return Ok(None);
     };
     if is_word(first, b"run") && rest.is_empty() {
-        return Ok(Some(Task::Run));
+        return Ok(Some(AskedTask::Run));
     }
     if !is_word(first, b"make") {
         return Ok(None);
     }
     match given_numbers(alloc, rest)? {
-        Some((nodes, start)) => Ok(Some(Task::Make { nodes, start })),
+        Some((nodes, start)) => Ok(Some(AskedTask::Make { nodes, start })),
         None => Ok(None),
     }
 }

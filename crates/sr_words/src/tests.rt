@@ -4,7 +4,7 @@ use std::process::Abort;
 use std::test::Fail;
 
 /// The task that these words ask for.
-fn asked(alloc: Global, texts: &[&str]) -> Result<Option<Task>, AllocError> {
+fn asked(alloc: Global, texts: &[&str]) -> Result<Option<AskedTask>, AllocError> {
     let mut words = Vec::new(alloc);
     for text in texts {
         words.push(String::from_str(alloc, text)?)?;
@@ -15,12 +15,12 @@ fn asked(alloc: Global, texts: &[&str]) -> Result<Option<Task>, AllocError> {
 #[test]
 fn words_that_ask_for_a_task(rt: HostRuntime) -> Result<(), Fail> {
     let alloc = rt.alloc();
-    let least = Some(Task::Make { nodes: 3, start: 0 });
-    let most = Some(Task::Make {
+    let least = Some(AskedTask::Make { nodes: 3, start: 0 });
+    let most = Some(AskedTask::Make {
         nodes: 256,
         start: 4_294_967_295,
     });
-    assert_eq!(rt; asked(alloc, &["run"])?, Some(Task::Run));
+    assert_eq!(rt; asked(alloc, &["run"])?, Some(AskedTask::Run));
     assert_eq!(rt;
         asked(alloc, &["make", "--nodes", "3", "--start", "0"])?,
         least

@@ -12,4 +12,4 @@ returns c =
     let version = c.in-Ok.found.now in
     let counted = c.counts.ensures in
     puts-of TellsSummary c.args.current.now version _ _ (Summary version.number (counts_of counted.items)) c.in-Ok.ensures (counted.items, counted.audit, refl) refl
-    (λ number. c.in_ok-put_counts.ensures ∙ ap (λ k. c.args.out.now.items ++ summary_line k c.counts.result) c.number.ensures ∙ ap (λ (k : Counts). c.args.out.now.items ++ summary_line version.number k) counted.counted)
+    (λ number. c.in_ok-put_audit_counts.ensures ∙ ap (λ k. c.args.out.now.items ++ summary_line k c.counts.result) c.number.ensures ∙ ap (λ (k : Counts). c.args.out.now.items ++ summary_line version.number k) counted.counted)

@@ -1,6 +1,6 @@
 use Rattle.std.proofs.Common.{refl, ◌≡◌, subst, Some}
 use Rattle.sr_words.specs.Tasks.{IsTaskOf}
-use Rattle.sr_words.specs.declared.task.Task.TheVariants as task
+use Rattle.sr_words.specs.declared.task.AskedTask.TheVariants as task
 use Rattle.sr_engine.specs.Endings.{devices_of}
 use Rattle.sr_run.proofs.ProgramLemmas.{runs-to, makes-to, runs-nothing, runs-unread, completes}
 use Rattle.sr_run.proofs.program.tilfa.Goals as goal
