@@ -137,6 +137,18 @@ module _ (xs : List ℕ) (node : ℕ) (x : AreWords xs) (within : node < 256) wh
     | inr ne ↦ told-beside v (bit_and here (18446744073709551615 - 1 * 2 ^ (node % 64) % 18446744073709551616)) ne (λ i lt other. bit_at_clear_other w64 here (node % 64) bit_within i lt other) ∙ rw (ne_eqb v node ne) refl
   ]
 
+-- so it is where the word and the place in it are known
+pub word-without : (xs : List ℕ) (k t : ℕ) → AreWords xs → k < 4 → t < 64 → (v : ℕ)
+    → tells (set xs k (bit_and (get_or xs k 0) (18446744073709551615 - 1 * 2 ^ t % 18446744073709551616))) v
+    ≡ (not (nat_eq v (64 * k + t)) && tells xs v)
+word-without xs k t x few lt v =
+    let at : (64 * k + t) / 64 ≡ k = omega (arith, lt) in
+    let place : (64 * k + t) % 64 ≡ t = omega (arith, lt) in
+    let told : Bool = not (nat_eq v (64 * k + t)) && tells xs v in
+    subst (λ (i : ℕ). tells (set xs i (bit_and (get_or xs i 0) (18446744073709551615 - 1 * 2 ^ t % 18446744073709551616))) v ≡ told) at
+    (subst (λ (p : ℕ). tells (set xs ((64 * k + t) / 64) (bit_and (get_or xs ((64 * k + t) / 64) 0) (18446744073709551615 - 1 * 2 ^ p % 18446744073709551616))) v ≡ told) place
+    (tells-without xs (64 * k + t) x (omega (arith, few, lt)) v))
+
 -- no word has a one
 module _ (xs : List ℕ) where
   pub nothing-told : ((k : ℕ) → get_or xs k 0 ≡ 0) → (v : ℕ) → tells xs v ≡ false

@@ -162,8 +162,17 @@ impl NodeBits {
         ensures first { MatchOption result ((v : ℕ) → is_in self.old v ≡ false) (IsFirstIn self.old) }
         ensures left { MatchOption result (self.new ≡ self.old) (IsWithout self.old self.new) }
     {
-        let first = self.first()?;
-        *self = self.without(first);
-        Some(first)
+        // Word by word, so that what is left can stand in registers.
+        for k in 0..4 {
+            let word = self.words[k];
+            if word != 0 {
+                let bit = word.trailing_zeros() as usize;
+                let mut words = self.words;
+                words[k] = word & !(1 << bit);
+                *self = NodeBits { words };
+                return Some(A_WORD * k + bit);
+            }
+        }
+        None
     }
 }

@@ -16,4 +16,4 @@ pub(crate) const LANES: usize = 8;
 pub(crate) const GROUPS: usize = A_WORD / LANES;
 
 /// Of a set of at most this many nodes each is tested alone (this project's rule: that costs less than a pass).
-pub(crate) const FEW: usize = 8;
+pub(crate) const FEW: usize = 40;

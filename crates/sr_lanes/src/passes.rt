@@ -1,10 +1,12 @@
 //! Passes over rows of distances: the nodes at whose cells a test says yes.
 
-ghost use Rattle.std.specs.Prelude.{◌≡◌, ℕ, ◌<◌, ◌≤◌, ◌&&◌, true, length};
+ghost use Rattle.std.specs.Prelude.{◌≡◌, ℕ, ◌+◌, ◌<◌, ◌≤◌, ◌&&◌, true, length};
+ghost use Rattle.std.specs.Int.{bit_at};
 ghost use Rattle.sr_lanes.specs.Bits.{is_in};
 ghost use Rattle.sr_lanes.specs.Passes.{AreCells, is_tight, differs, has_distance};
+ghost use Rattle.sr_lanes.specs.Tests.{AreBitsAmong};
 
-use crate::limits::{CELL_AT_MOST, FEW, NODES_AT_MOST};
+use crate::limits::{A_WORD, CELL_AT_MOST, FEW, NODES_AT_MOST};
 use crate::place_test::places_of;
 use crate::row_tests::{OneRow, TwoRows};
 use crate::tight_rows::TightRows;
@@ -21,8 +23,31 @@ pub fn tight(row: &[u64], cost: u64, base: &[u64]) -> NodeBits
     places_of(&TightRows { row, cost, base })
 }
 
+/// Those of the nodes of a word, whose bits tell of nodes from `from` on, to which the way over the base's node, to which it
+/// costs `cost`, costs what the row says. Each is tested alone.
+#[inline(always)]
+fn tight_in_word(row: &[u64], cost: u64, base: &[u64], from: usize, among: u64) -> u64
+    requires lengths { length base.now ≡ length row.now }
+    requires cost { cost ≤ CELL_AT_MOST }
+    requires base { AreCells base.now }
+    requires from { from + A_WORD ≤ NODES_AT_MOST }
+    requires among { (i : ℕ) → i < A_WORD → bit_at among i ≡ 1 → from + i < length row.now }
+    ensures { AreBitsAmong (is_tight row.now cost base.now) from among result }
+{
+    let mut left = among;
+    let mut found = 0;
+    'left: while left != 0 {
+        let bit = left.trailing_zeros() as usize;
+        left &= !(1 << bit);
+        if cost + base[from + bit] == row[from + bit] {
+            found |= 1 << bit;
+        }
+    }
+    found
+}
+
 /// Those of the nodes to which the way over the base's node, to which it costs `cost`, costs what the row says. Each is
-/// tested alone.
+/// tested alone, word by word: what is left of a word stands in a register.
 fn tight_singly(row: &[u64], cost: u64, base: &[u64], among: NodeBits) -> NodeBits
     requires lengths { length base.now ≡ length row.now }
     requires cost { cost ≤ CELL_AT_MOST }
@@ -30,14 +55,15 @@ fn tight_singly(row: &[u64], cost: u64, base: &[u64], among: NodeBits) -> NodeBi
     requires among { (v : ℕ) → is_in among v ≡ true → v < length row.now }
     ensures { (v : ℕ) → is_in result v ≡ (is_in among v && is_tight row.now cost base.now v) }
 {
-    let mut left = among;
-    let mut found = NodeBits::none();
-    'left: while let Some(node) = left.take_first() {
-        if cost + base[node] == row[node] {
-            found = found.with(node);
-        }
+    let [a, b, c, d] = among.words;
+    NodeBits {
+        words: [
+            tight_in_word(row, cost, base, 0, a),
+            tight_in_word(row, cost, base, A_WORD, b),
+            tight_in_word(row, cost, base, 2 * A_WORD, c),
+            tight_in_word(row, cost, base, 3 * A_WORD, d),
+        ],
     }
-    found
 }
 
 /// Those of the nodes to which the way over the base's node, to which it costs `cost`, costs what the row says. A few nodes

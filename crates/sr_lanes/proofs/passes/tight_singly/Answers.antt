@@ -1,42 +1,36 @@
-use Rattle.std.proofs.Common.{◌≡◌, ◌+◌, ◌<◌, ◌&&◌, ◌==◌, false, nat_lt, length, slice_index, arith, ap, ◌∙◌}
-use Rattle.std.proofs.lemmas.Bool.{and_from, lt-ltb, eq-eqb}
+use Rattle.std.proofs.Common.{◌+◌, ◌/◌, ◌&&◌, arith, ap, refl}
+use Rattle.std.proofs.lemmas.List.{get_or_past}
+use Rattle.sr_lanes.specs.Bits.{is_in}
 use Rattle.sr_lanes.specs.Passes.{is_tight}
-use Rattle.sr_lanes.proofs.SizeLemmas.{apart_test, size-less}
-use Rattle.sr_lanes.proofs.AmongLemmas.{tested-none, tested-yes, tested-no}
+use Rattle.sr_lanes.proofs.AmongLemmas.{among-told, word-told}
+use Rattle.sr_lanes.proofs.RunLemmas.{tells-words}
+use Rattle.sr_lanes.proofs.WordLemmas.{tells, tells-none}
 use Rattle.sr_lanes.proofs.passes.tight_singly.Goals as goal
 
-pub left-init : goal.left-init
-left-init c = tested-none (is_tight c.args.row.now c.args.cost c.args.base.now) c.args.among c.none-found.result c.none-found.ensures
+pub tight_in_word-requires-clause-among : goal.tight_in_word-requires-clause-among
+unfolding is_in
+tight_in_word-requires-clause-among c = λ i lt is. c.requires.among (0 + i) (word-told c.args.among.words 0 0 i (omega arith) lt is)
 
-pub bounds-base-node : goal.bounds-base-node
-bounds-base-node c =
-    let lt = c.requires.among c.in-Some.node (c.left.invariant.inside c.in-Some.node c.in-Some.ensures.first.member) in
-    omega (arith, lt, c.requires.lengths)
+pub tight_in_word-requires-2-clause-among : goal.tight_in_word-requires-2-clause-among
+unfolding is_in
+tight_in_word-requires-2-clause-among c = λ i lt is. c.requires.among (64 + i) (word-told c.args.among.words 1 64 i (omega arith) lt is)
 
-pub bounds-row-node : goal.bounds-row-node
-bounds-row-node c = c.requires.among c.in-Some.node (c.left.invariant.inside c.in-Some.node c.in-Some.ensures.first.member)
+pub tight_in_word-requires-3-clause-among : goal.tight_in_word-requires-3-clause-among
+unfolding is_in
+tight_in_word-requires-3-clause-among c = λ i lt is. c.requires.among (128 + i) (word-told c.args.among.words 2 128 i (omega arith) lt is)
 
-pub left-smaller-then-cost-base : goal.left-smaller-then-cost-base
-left-smaller-then-cost-base c = size-less c.left.left c.take_first.new.self c.in-Some.node c.in-Some.ensures.first c.in-Some.ensures.left
+pub tight_in_word-requires-4-clause-among : goal.tight_in_word-requires-4-clause-among
+unfolding is_in
+tight_in_word-requires-4-clause-among c = λ i lt is. c.requires.among (192 + i) (word-told c.args.among.words 3 192 i (omega arith) lt is)
 
-pub left-preserved-then-cost-base : goal.left-preserved-then-cost-base
-left-preserved-then-cost-base c =
-    let node = c.in-Some.node in
-    let member = c.in-Some.ensures.first.member in
-    let lt : node < length c.args.row.now = c.requires.among node (c.left.invariant.inside node member) in
-    tested-yes (is_tight c.args.row.now c.args.cost c.args.base.now) c.args.among c.left.left c.left.found c.take_first.new.self node c.left.invariant member c.in-Some.ensures.left c.with-found.result c.with-found.ensures
-    (and_from (nat_lt node (length c.args.row.now)) (c.args.cost + slice_index c.args.base.now node == slice_index c.args.row.now node)
-    (lt-ltb node (length c.args.row.now) lt)
-    (eq-eqb (c.args.cost + slice_index c.args.base.now node) (slice_index c.args.row.now node) c.if-cost-base.true))
-
-pub left-smaller : goal.left-smaller
-left-smaller c = size-less c.left.left c.take_first.new.self c.in-Some.node c.in-Some.ensures.first c.in-Some.ensures.left
-
-pub left-preserved : goal.left-preserved
-left-preserved c =
-    let node = c.in-Some.node in
-    let member = c.in-Some.ensures.first.member in
-    let lt : node < length c.args.row.now = c.requires.among node (c.left.invariant.inside node member) in
-    let apart : (c.args.cost + slice_index c.args.base.now node == slice_index c.args.row.now node) ≡ false = apart_test (c.args.cost + slice_index c.args.base.now node) (slice_index c.args.row.now node) c.if-cost-base.false in
-    tested-no (is_tight c.args.row.now c.args.cost c.args.base.now) c.args.among c.left.left c.left.found c.take_first.new.self node c.left.invariant member c.in-Some.ensures.left
-    (ap (λ t. t && (c.args.cost + slice_index c.args.base.now node == slice_index c.args.row.now node)) (lt-ltb node (length c.args.row.now) lt) ∙ apart)
+pub returns : goal.returns
+unfolding is_in
+returns c =
+    let xs = c.args.among.words in
+    let test = is_tight c.args.row.now c.args.cost c.args.base.now in
+    tells-words (λ v. tells xs v && test v) c.tight_in_word.result c.tight_in_word-2.result c.tight_in_word-3.result c.tight_in_word-4.result
+    (among-told xs test 0 0 _ c.tight_in_word.result (omega arith) refl (omega arith) c.tight_in_word.ensures)
+    (among-told xs test 1 64 _ c.tight_in_word-2.result (omega arith) refl (omega arith) c.tight_in_word-2.ensures)
+    (among-told xs test 2 128 _ c.tight_in_word-3.result (omega arith) refl (omega arith) c.tight_in_word-3.ensures)
+    (among-told xs test 3 192 _ c.tight_in_word-4.result (omega arith) refl (omega arith) c.tight_in_word-4.ensures)
+    (λ v le. ap (λ t. t && test v) (tells-none xs v (get_or_past xs (v / 64) 0 (let four = c.args.among.whole.four in omega (arith, le, four)))))
