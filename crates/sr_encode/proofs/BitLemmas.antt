@@ -3,7 +3,7 @@ use Rattle.std.proofs.Common.{◌≡◌, ℕ, ◌⊎◌, ⊎_elim, inl, inr, tru
 use Rattle.std.proofs.lemmas.Bool.{eq-eqb, eqb-true, cases_eq, or_cases, or_left, or_right, true≢false}
 use Rattle.sr_lanes.specs.declared.words.NodeBits.{NodeBits}
 use Rattle.sr_lanes.specs.Bits.{is_in, IsWithout}
-use Rattle.sr_lanes.proofs.SizeLemmas.{without-same, without-other, without-inside}
+use Rattle.sr_lanes.proofs.SizeLemmas.{without-other, without-inside}
 
 -- the set with node v
 abbrev pub IsWith : NodeBits → ℕ → NodeBits → Type 0

@@ -1,20 +1,16 @@
 -- How places are given to nodes, and destinations wait for them.
-use Rattle.std.proofs.Common.{◌≡◌, ◌≢◌, ℕ, ◌+◌, ◌<◌, ◌≤◌, ⊎_elim, true, false, List, length, set, replicate, refl, arith, ap, sym, ◌∙◌, subst, Option, Some, None}
-use Rattle.std.specs.Prelude.{is_some, slice_index}
+use Rattle.std.proofs.Common.{◌≡◌, ◌≢◌, ℕ, ◌<◌, ◌≤◌, ⊎_elim, true, false, List, length, set, replicate, refl, arith, ap, sym, ◌∙◌, subst, Option, Some, None}
+use Rattle.std.specs.Prelude.{is_some}
 use Rattle.std.proofs.lemmas.Bool.{cases_eq, cases_lt, true≢false}
 use Rattle.std.proofs.lemmas.List.{length-set, length-replicate, get_or-set_same, get_or-set_other, get_or-replicate, get_or_past}
-use Rattle.sr_model.specs.declared.link.NodeNo.{NodeNo}
-use Rattle.sr_model.specs.declared.link.TheConstants.{FAR}
 use Rattle.sr_model.specs.Graph.{node_count}
 use Rattle.sr_lanes.specs.declared.words.NodeBits.{NodeBits}
 use Rattle.sr_lanes.specs.Bits.{is_in, IsWithout}
-use Rattle.sr_post.specs.Nodes.{listed_at}
 use Rattle.sr_encode.specs.declared.waypoint.Waypoint.{Waypoint}
 use Rattle.sr_encode.specs.declared.served.Served.{Served}
 use Rattle.sr_encode.specs.Aftermath.{Aftermath, AreInside}
 use Rattle.sr_encode.specs.Serve.{place_at, ArePlaced, AreOffered}
 use Rattle.sr_lanes.proofs.SizeLemmas.{without-other, without-inside}
-use Rattle.sr_encode.proofs.BitLemmas.{IsWith, none_in, with-same, with-old, with-back}
 
 -- of these nodes, those that aren't left have the place
 pub record IsMarking (before : List (Option ℕ)) (nodes : NodeBits) (k : ℕ) (left : NodeBits) (places : List (Option ℕ)) : Type 0 where
@@ -44,39 +40,6 @@ marking-next before nodes k left less places v r within is taken = record {
 pub marking-over : (before : List (Option ℕ)) (nodes : NodeBits) (k : ℕ) (left : NodeBits) (places : List (Option ℕ))
     → IsMarking before nodes k left places → ((d : ℕ) → is_in left d ≡ false) → ArePlaced before nodes k places
 marking-over before nodes k left places r none = record { long = r.long; these = λ d is. r.these d is (none d); others = r.others }
-
--- of the first m destinations those to which a walk leads are in the set, which has nodes alone
-pub record ArePendingUpto (after : Aftermath) (wanted : List NodeNo) (m : ℕ) (pending : NodeBits) : Type 0 where
-  pub inside : AreInside after pending
-  pub all : (j : ℕ) → j < m → slice_index after.post (listed_at wanted j) < FAR
-      → is_in pending (listed_at wanted j) ≡ true
-
-pub pending-start : (after : Aftermath) (wanted : List NodeNo) (none : NodeBits) → ((v : ℕ) → is_in none v ≡ false)
-    → ArePendingUpto after wanted 0 none
-pending-start after wanted none empty = record { inside = λ v is. absurd (none_in none v empty is); all = λ j lt. absurd (omega arith) }
-
-pub pending-with : (after : Aftermath) (wanted : List NodeNo) (m : ℕ) (pending more : NodeBits)
-    → ArePendingUpto after wanted m pending → listed_at wanted m < node_count after.net.graph
-    → IsWith pending (listed_at wanted m) more
-    → ArePendingUpto after wanted (m + 1) more
-pending-with after wanted m pending more r within added = record {
-  inside = λ v is. ⊎_elim (λ same. subst (λ k. k < node_count after.net.graph) (sym same) within) (λ old. r.inside v old) (with-back pending more (listed_at wanted m) v added is);
-  all = λ j lt near. ⊎_elim
-      (λ (here : j ≡ m). subst (λ k. is_in more (listed_at wanted k) ≡ true) (sym here) (with-same pending more (listed_at wanted m) added))
-      (λ (ne : j ≢ m). with-old pending more (listed_at wanted m) (listed_at wanted j) added (r.all j (omega arith) near))
-      (cases_eq j m);
-}
-
-pub pending-skip : (after : Aftermath) (wanted : List NodeNo) (m : ℕ) (pending : NodeBits)
-    → ArePendingUpto after wanted m pending → (slice_index after.post (listed_at wanted m) < FAR → ⊥)
-    → ArePendingUpto after wanted (m + 1) pending
-pending-skip after wanted m pending r far = record {
-  inside = r.inside;
-  all = λ j lt near. ⊎_elim
-      (λ (here : j ≡ m). absurd (far (subst (λ k. slice_index after.post (listed_at wanted k) < FAR) here near)))
-      (λ (ne : j ≢ m). r.all j (omega arith) near)
-      (cases_eq j m);
-}
 
 no-place : (m d : ℕ) → place_at (replicate m None) d ≡ None
 no-place m d =

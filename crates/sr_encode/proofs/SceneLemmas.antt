@@ -1,7 +1,7 @@
 -- What the scene of a search tells of waypoints and segments.
 use Rattle.std.proofs.Common.{◌≡◌, ◌≢◌, ℕ, ◌+◌, ◌<◌, ◌↔◌, Bool, true, false, ◌&&◌, ◌==◌, List, [], length, IsTrue, refl, arith, sym, ◌∙◌}
 use Rattle.std.specs.Prelude.{is_some, nat_lt, slice_index}
-use Rattle.std.proofs.lemmas.Bool.{and_parts, and_from, ltb-true, lt-ltb, eqb-true, eq-eqb}
+use Rattle.std.proofs.lemmas.Bool.{and_parts, and_from, lt-ltb, eqb-true, eq-eqb}
 use Rattle.sr_model.specs.declared.link.NodeNo.{NodeNo}
 use Rattle.sr_model.specs.declared.link.LinkNo.{LinkNo}
 use Rattle.sr_model.specs.declared.repair.Segment.TheVariants.{Node, Adj}

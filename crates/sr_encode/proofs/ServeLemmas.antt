@@ -1,5 +1,5 @@
 -- How destinations are served, and that they are found when the search stops.
-use Rattle.std.proofs.Common.{◌≡◌, ◌≢◌, ℕ, ◌+◌, ◌<◌, ◌≤◌, ◌↔◌, ⊎_elim, inl, inr, true, false, not, ◌&&◌, List, length, IsTrue, arith, ap, sym, ◌∙◌, subst, Option, Some, None}
+use Rattle.std.proofs.Common.{◌≡◌, ◌≢◌, ℕ, ◌+◌, ◌<◌, ◌≤◌, ◌↔◌, ⊎_elim, inl, inr, true, false, not, ◌&&◌, List, length, IsTrue, arith, ap, sym, ◌∙◌, subst, Some}
 use Rattle.std.specs.Prelude.{is_some}
 use Rattle.std.proofs.lemmas.Bool.{cases_eq, cases_Bool, and_parts, not-true, not_from_false, and_from, true≢false}
 use Rattle.sr_model.specs.declared.link.NodeNo.{NodeNo}
@@ -11,7 +11,7 @@ use Rattle.sr_encode.specs.declared.served.Served.{Served}
 use Rattle.sr_encode.specs.Waypoints.{AreParents, Extends, waypoint_node, path_to}
 use Rattle.sr_encode.specs.Aftermath.{Aftermath, IsAftermath}
 use Rattle.sr_encode.specs.Search.{IsSearching}
-use Rattle.sr_encode.specs.Serve.{EndsAt, NoneEnds, AreLeastFrom, place_at, IsServedBy, AreOffered, ArePending, IsLater, ArePlaced, AreSearched, AreResolved}
+use Rattle.sr_encode.specs.Serve.{EndsAt, NoneEnds, AreLeastFrom, place_at, IsServedBy, AreOffered, AreTended, IsTended, IsLater, ArePlaced, AreSearched, AreResolved}
 use Rattle.sr_post.specs.Nodes.{listed_at}
 use Rattle.sr_encode.proofs.BitLemmas.{none_in}
 use Rattle.sr_encode.proofs.QueueLemmas.{path-kept}
@@ -124,18 +124,22 @@ searched-end after queue unmet i served is search over within r = record {
   some = r.some;
 }
 
--- the destinations that have walks were pending
+-- who was pending or had a place still is or has
+pub tended-later : (before served : Served) → IsLater before served → (d : ℕ) → IsTended before d → IsTended served d
+tended-later before served later d was = ⊎_elim (λ waits. later.pending d waits) (λ has. inr (later.places d has)) was
+
+-- the destinations that have walks were pending, or had places
 pub found-from : (after : Aftermath) (queue : List Waypoint) (wanted : List NodeNo) (before served : Served)
-    → ArePending after wanted before → IsLater before served → AreSearched after queue served
+    → AreTended after wanted (length wanted) before → IsLater before served → AreSearched after queue served
     → AreResolved after queue wanted served.places.items
-found-from after queue wanted before served pending later r = record {
+found-from after queue wanted before served tended later r = record {
   parents = r.parents;
   long = r.long;
   each = λ j lt. record {
     none = λ none near. ⊎_elim
         (λ still. r.none (listed_at wanted j) still)
         (λ has. absurd (true≢false (sym has ∙ ap is_some none)))
-        (later.pending (listed_at wanted j) (pending j lt near));
+        (tended-later before served later (listed_at wanted j) (tended j lt near));
     some = r.some (listed_at wanted j);
   };
 }

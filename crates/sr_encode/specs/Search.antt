@@ -1,5 +1,5 @@
 -- What the search keeps.
-use Rattle.std.specs.Prelude.{count_by, is_some, not, false, ◌++◌, ◌≡◌, ℕ, ◌+◌, ◌-◌, ◌<◌, ◌⊎◌, ◌==◌, ◌&&◌, nat_lt, if◌then◌else◌, true, List, [], ◌∷◌, length, Option, None, slice_index, slice_index_or}
+use Rattle.std.specs.Prelude.{count_by, is_some, not, false, ◌++◌, ◌≡◌, ℕ, ◌+◌, ◌-◌, ◌<◌, ◌⊎◌, nat_lt, if◌then◌else◌, true, List, [], ◌∷◌, length, Option, None, slice_index, slice_index_or}
 use Rattle.sr_model.specs.declared.repair.Segment.{Segment}
 use Rattle.sr_model.specs.declared.repair.Segment.TheVariants.{Node, Adj}
 use Rattle.sr_model.specs.declared.link.NodeNo.{NodeNo}

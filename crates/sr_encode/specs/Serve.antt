@@ -71,16 +71,18 @@ pub record AreOffered (after : Aftermath) (queue : List Waypoint) (k : ℕ) (ser
   pub none : (d : ℕ) → is_in served.pending d ≡ true → NoneEnds after queue d k
   pub some : (d : ℕ) → IsServedBy after.net after.failed after.source queue d (place_at served.places.items d)
 
--- the destinations to which a walk leads are pending
-abbrev pub ArePending : Aftermath → List NodeNo → Served → Type 0
-ArePending after wanted served =
-    (j : ℕ) → j < length wanted → slice_index after.post (listed_at wanted j) < FAR
-    → is_in served.pending (listed_at wanted j) ≡ true
+-- the destination is pending, or has a place
+abbrev pub IsTended : Served → ℕ → Type 0
+IsTended served d = (is_in served.pending d ≡ true) ⊎ (is_some (place_at served.places.items d) ≡ true)
+
+-- of the first m destinations those to which a walk leads are pending, or have a place
+abbrev pub AreTended : Aftermath → List NodeNo → ℕ → Served → Type 0
+AreTended after wanted m served =
+    (j : ℕ) → j < m → slice_index after.post (listed_at wanted j) < FAR → IsTended served (listed_at wanted j)
 
 -- what was pending still is, or has a place now, and what had a place has one
 pub record IsLater (before served : Served) : Type 0 where
-  pub pending : (d : ℕ) → is_in before.pending d ≡ true
-      → (is_in served.pending d ≡ true) ⊎ (is_some (place_at served.places.items d) ≡ true)
+  pub pending : (d : ℕ) → is_in before.pending d ≡ true → IsTended served d
   pub places : (d : ℕ) → is_some (place_at before.places.items d) ≡ true
       → is_some (place_at served.places.items d) ≡ true
 

@@ -54,8 +54,7 @@ pub(crate) fn search(
     ensures { IfOk result (λ found. AreResolved scene.now found.queue.items wanted.now found.places.items) }
 {
     let mut met = Met::first(alloc, scene)?;
-    let mut served = Served::none(alloc, scene, wanted)?;
-    served.take_hops(scene, &met.queue, post);
+    let mut served = Served::by_hops(alloc, scene, &met.queue, post, wanted)?;
     explore(scene, &mut met, &mut served)?;
     Ok(Serving {
         queue: met.queue,

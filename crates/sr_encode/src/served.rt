@@ -1,11 +1,9 @@
 //! Which waypoint serves which destination.
-ghost use Rattle.std.specs.Prelude.{◌≡◌, ℕ, ◌+◌, ◌<◌, ◌≤◌, ◌↔◌, true, false, List, length, IsTrue, IfOk, IfSome};
+ghost use Rattle.std.specs.Prelude.{◌≡◌, ℕ, ◌+◌, ◌*◌, ◌<◌, ◌≤◌, ◌↔◌, true, false, length, slice_index, IsTrue, IfOk, IfSome};
+ghost use Rattle.sr_model.specs.declared.link.TheConstants.{FAR as Far};
 ghost use Rattle.sr_lanes.specs.Bits.{is_in};
 ghost use Rattle.sr_model.specs.Graph.{node_count};
-ghost use Rattle.sr_encode.specs.declared.waypoint.Waypoint.{Waypoint as Step};
-ghost use Rattle.sr_post.specs.Kept.{IsKeptHop};
-ghost use Rattle.sr_encode.specs.Aftermath.{Aftermath as Setting};
-ghost use Rattle.sr_encode.specs.Serve.{AreNodes, AreLeastFrom, AreOffered, ArePending, ArePlaced, IsLater, IsMetBy, AreHopsOf};
+ghost use Rattle.sr_encode.specs.Serve.{AreNodes, AreLeastFrom, AreOffered, AreTended, ArePlaced, IsLater, IsTended, IsMetBy, AreHopsOf};
 
 use crate::scene::Scene;
 use crate::waypoint::Waypoint;
@@ -47,63 +45,73 @@ fn place_over(queue: &[Waypoint], link: LinkNo) -> Option<usize>
     Some(place)
 }
 
+/// The place in the queue of the waypoint to which the link alone leads, where it is found. The place `near` is looked at
+/// first: destinations that follow one another mostly keep the same hop.
+fn place_near(queue: &[Waypoint], near: usize, link: LinkNo) -> Option<usize>
+    ensures { IfSome result (IsMetBy queue.now link.0) }
+{
+    if near < queue.len() && queue[near].first.0 == link.0 && queue[near].depth == 0 {
+        return Some(near);
+    }
+    place_over(queue, link)
+}
+
 impl Served {
-    /// None of the destinations is served.
-    pub(crate) fn none(
-        alloc: Global,
+    /// Serves the destination by the waypoint to which the hop kept towards it leads, where that is found. Where it isn't,
+    /// but a walk leads there, the destination is pending. Gives the place at which the next hop is looked for first.
+    fn take(
+        &mut self,
         scene: &Scene,
-        wanted: &[NodeNo],
-    ) -> Result<Served, AllocError>
-        requires { AreNodes scene.now.net wanted.now }
-        ensures offered { IfOk result (λ served. (queue : List Step) → AreOffered scene.now queue 0 served) }
-        ensures pending { IfOk result (ArePending scene.now wanted.now) }
-    {
-        let count = scene.graph().node_count() as usize;
-        let mut pending = NodeBits::none();
-        for j in 0..wanted.len() {
-            let node = wanted[j];
-            if scene.is_reached(node) {
-                pending = pending.with(node.0 as usize);
-            }
-        }
-        Ok(Served {
-            places: vec![in alloc; None; count]?,
-            pending,
-        })
-    }
-
-    /// Serves a node by the waypoint to which the hop kept towards it leads, if that is found.
-    fn take_hop(&mut self, queue: &[Waypoint], node: usize, hop: LinkNo)
-        requires node { node < length self.old.places.items }
-        requires few { length self.old.places.items ≤ 256 }
-        requires short { length queue.now ≤ length self.old.places.items }
-        ensures offered { (after : Setting) → IsKeptHop after.net.graph after.failed after.source node hop.0
-            → AreOffered after queue.now 0 self.old → AreOffered after queue.now 0 self.new }
-        ensures later { IsLater self.old self.new }
-    {
-        let Some(place) = place_over(queue, hop) else {
-            return;
-        };
-        self.places[node] = Some(place as u16);
-        self.pending = self.pending.without(node);
-    }
-
-    /// Serves those of the pending destinations to which a next hop still leads: the least sound list to such a one is that
-    /// hop alone. One whose hop isn't found in the queue stays pending.
-    pub(crate) fn take_hops(&mut self, scene: &Scene, queue: &[Waypoint], post: &Post)
+        queue: &[Waypoint],
+        post: &Post,
+        node: NodeNo,
+        near: usize,
+    ) -> usize
         requires hops { AreHopsOf scene.now post.now.hops }
-        requires short { length queue.now ≤ node_count scene.now.net.graph }
+        requires inside { (node.0 < node_count scene.now.net.graph) × (length queue.now ≤ node_count scene.now.net.graph) }
         requires offered { AreOffered scene.now queue.now 0 self.old }
         ensures offered { AreOffered scene.now queue.now 0 self.new }
-        ensures later { IsLater self.old self.new }
+        ensures later { IsLater self.old self.new × (slice_index scene.now.post node.0 < Far → IsTended self.new node.0) }
     {
         let _graph = scene.graph();
-        let mut left = self.pending;
-        'left: while let Some(node) = left.take_first() {
-            if let Some(hop) = post.hop(NodeNo(node as u16)) {
-                self.take_hop(queue, node, hop);
+        if let Some(hop) = post.hop(node) {
+            if let Some(place) = place_near(queue, near, hop) {
+                self.places[node.0 as usize] = Some(place as u16);
+                return place;
             }
         }
+        if !scene.is_reached(node) {
+            return near;
+        }
+        self.pending = self.pending.with(node.0 as usize);
+        near
+    }
+
+    /// The destinations to which a next hop still leads are served: the least sound list to such a one is that hop alone.
+    /// The others to which a walk leads are pending.
+    pub(crate) fn by_hops(
+        alloc: Global,
+        scene: &Scene,
+        queue: &[Waypoint],
+        post: &Post,
+        wanted: &[NodeNo],
+    ) -> Result<Served, AllocError>
+        requires hops { AreHopsOf scene.now post.now.hops }
+        requires short { length queue.now ≤ node_count scene.now.net.graph }
+        requires wanted { AreNodes scene.now.net wanted.now }
+        ensures offered { IfOk result (AreOffered scene.now queue.now 0) }
+        ensures tended { IfOk result (AreTended scene.now wanted.now (length wanted.now)) }
+    {
+        let count = scene.graph().node_count() as usize;
+        let mut served = Served {
+            places: vec![in alloc; None; count]?,
+            pending: NodeBits::none(),
+        };
+        let mut near = 0;
+        for j in 0..wanted.len() {
+            near = served.take(scene, queue, post, wanted[j], near);
+        }
+        Ok(served)
     }
 
     /// Whether each destination to which a walk leads is served.
