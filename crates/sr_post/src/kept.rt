@@ -66,6 +66,15 @@ fn is_kept(hop: Option<LinkNo>, source: NodeNo, v: NodeNo) -> bool
     }
 }
 
+/// The cells of the row, as a list of their own.
+fn copied(alloc: Global, row: &[u64]) -> Result<Vec<u64>, AllocError>
+    ensures { IfOk result (λ cells. cells.items ≡ row.now) }
+{
+    let mut cells = Vec::with_capacity(alloc, row.len())?;
+    cells.extend_from_slice(row)?;
+    Ok(cells)
+}
+
 /// What is known from the source without a search.
 #[derive(Drop)]
 pub(crate) struct Known {
@@ -97,18 +106,18 @@ pub(crate) fn known_distances(
 {
     let count = spaces.graph().node_count();
     let row = spaces.row(source);
-    let mut cells = Vec::with_capacity(alloc, count as usize)?;
+    let mut cells = copied(alloc, row)?;
     let mut lost = Vec::with_capacity(alloc, count as usize)?;
     let mut hops = Vec::with_capacity(alloc, count as usize)?;
     for v in 0..count as u16 {
         let hop = kept_hop(spaces, trees, at_source, source, NodeNo(v));
         hops.push(hop)?;
-        if !is_kept(hop, source, NodeNo(v)) {
-            cells.push(FAR)?;
-            lost.push(NodeNo(v))?;
+        // Most nodes keep the cell of the row.
+        if is_kept(hop, source, NodeNo(v)) {
             continue;
         }
-        cells.push(row[v as usize])?;
+        cells[v as usize] = FAR;
+        lost.push(NodeNo(v))?;
     }
     Ok(Known { cells, lost, hops })
 }
