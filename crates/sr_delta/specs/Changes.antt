@@ -1,0 +1,33 @@
+-- What is kept of two nets.
+use Rattle.std.specs.Prelude.{◌≡◌, ◌↔◌, ℕ, ◌<◌, Bool, true, false, List, [], length, Option}
+use Rattle.sr_model.specs.declared.link.LinkNo.{LinkNo}
+use Rattle.sr_model.specs.Graph.{node_count}
+use Rattle.sr_model.specs.Label.{Net}
+use Rattle.sr_model.specs.Rule.{IsNet}
+use Rattle.sr_model.specs.Stay.{HaveSameNodes}
+use Rattle.sr_delta.specs.declared.change.Change.{Change}
+use Rattle.sr_delta.specs.Partners.{ArePartners}
+use Rattle.sr_delta.specs.Changed.{change_at, AreChangedLinks}
+
+-- how many nodes the old net has, whether the nodes are the same in the new one, the changed links, and the partner of
+-- each old link
+pub record Differences : Type 0 where
+  pub nodes : ℕ
+  pub same : Bool
+  pub links : List Change
+  pub partners : List (Option LinkNo)
+
+-- the ends of the changed links are nodes below this number
+abbrev pub AreWithin : ℕ → List Change → Type 0
+AreWithin nodes links =
+    (n : ℕ) → n < length links → ((change_at links n).from.0 < nodes) × ((change_at links n).to.0 < nodes)
+
+-- the differences of the two nets; where the nodes aren't the same, nothing more is told
+pub record AreChanges (n m : Net) (c : Differences) : Type 0 where
+  pub old : IsNet n
+  pub new : IsNet m
+  pub count : c.nodes ≡ node_count n.graph
+  pub nodes : (c.same ≡ true) ↔ HaveSameNodes n.graph m.graph
+  pub links : c.same ≡ true → AreChangedLinks n.graph m.graph c.links
+  pub partners : c.same ≡ true → ArePartners n.graph m.graph c.partners
+  pub none : c.same ≡ false → (c.links ≡ []) × (c.partners ≡ [])

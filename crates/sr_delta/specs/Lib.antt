@@ -1,0 +1,4 @@
+pub mod Partners
+pub mod Changed
+pub mod Changes
+pub mod Idle

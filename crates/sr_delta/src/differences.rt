@@ -1,0 +1,72 @@
+//! What differs between two nets, as it is read.
+ghost use Rattle.std.specs.Prelude.{◌≡◌, ◌<◌, length};
+ghost use Rattle.sr_delta.specs.Partners.{partner_at};
+ghost use Rattle.sr_delta.specs.Changes.{AreWithin};
+
+use crate::change::Change;
+use sr_model::LinkNo;
+use std::marker::Model;
+
+/// What differs between an old net and a new one: whether their nodes are the same, and if so each changed link and, by
+/// number, the link of the new net that has an old link's key.
+#[derive(Debug, Drop)]
+pub struct Changes {
+    nodes: u32,
+    same: bool,
+    links: Vec<Change>,
+    partners: Vec<Option<LinkNo>>,
+}
+
+impl Model for Changes {
+    ghost use Rattle.sr_delta.specs.Changes.{Differences, AreWithin};
+
+    ghost Value = { Differences };
+
+    ghost view = { λ a.
+        record { nodes = a.nodes; same = a.same; links = a.links.items; partners = a.partners.items } };
+
+    ghost invariant = { λ a. AreWithin a.nodes a.links.items };
+}
+
+impl Changes {
+    /// The differences, of these parts. The ends of the changed links are nodes below `nodes`.
+    pub(crate) fn new(
+        nodes: u32,
+        same: bool,
+        links: Vec<Change>,
+        partners: Vec<Option<LinkNo>>,
+    ) -> Changes
+        requires { AreWithin nodes links.items }
+        ensures { result ≡ record { nodes = nodes; same = same; links = links.items; partners = partners.items } }
+    {
+        Changes {
+            nodes,
+            same,
+            links,
+            partners,
+        }
+    }
+
+    /// Whether the nodes are the same, and the same of them overloaded.
+    pub fn same_nodes(&self) -> bool
+        ensures { result ≡ self.now.same }
+    {
+        self.same
+    }
+
+    /// The changed links.
+    pub fn links(&self) -> &[Change]
+        ensures links { result.now ≡ self.now.links }
+        ensures within { AreWithin self.now.nodes result.now }
+    {
+        &self.links
+    }
+
+    /// The link of the new net that has the key of this old link. None exactly where the new net has none.
+    pub fn partner(&self, link: LinkNo) -> Option<LinkNo>
+        requires { link.0 < length self.now.partners }
+        ensures { result ≡ partner_at self.now.partners link.0 }
+    {
+        self.partners[link.0 as usize]
+    }
+}

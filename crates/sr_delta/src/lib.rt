@@ -1,0 +1,16 @@
+//! What stays from an old net to a new one: the links that differ, matched by key, and whether a tree stays in spite of
+//! them.
+#![tactic(auto)]
+
+mod change;
+mod changed;
+mod compared;
+mod differences;
+mod nodes;
+mod partners;
+mod stays;
+
+pub use change::Change;
+pub use compared::changes;
+pub use differences::Changes;
+pub use stays::tree_stays;
