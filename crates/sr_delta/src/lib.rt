@@ -9,6 +9,8 @@ mod differences;
 mod nodes;
 mod partners;
 mod stays;
+#[cfg(test)]
+mod tests;
 
 pub use change::Change;
 pub use compared::changes;
