@@ -1,3 +1,4 @@
 pub mod PartnerLemmas
 pub mod ChangeLemmas
 pub mod IdleLemmas
+pub mod AlikeLemmas

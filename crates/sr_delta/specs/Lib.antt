@@ -2,3 +2,4 @@ pub mod Partners
 pub mod Changed
 pub mod Changes
 pub mod Idle
+pub mod Alike

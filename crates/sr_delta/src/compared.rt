@@ -2,6 +2,7 @@
 ghost use Rattle.std.specs.Prelude.{IfOk};
 ghost use Rattle.sr_delta.specs.Changes.{AreChanges};
 
+use crate::alike::{Alike, all_alike};
 use crate::changed::changed_links;
 use crate::differences::Changes;
 use crate::nodes::same_nodes;
@@ -17,10 +18,17 @@ pub fn changes(alloc: Global, old: &Net, new: &Net) -> Result<Changes, AllocErro
     let after = new.graph();
     let nodes = before.node_count();
     if !same_nodes(alloc, before, after)? {
-        return Ok(Changes::new(nodes, false, Vec::new(alloc), Vec::new(alloc)));
+        return Ok(Changes::new(
+            nodes,
+            false,
+            Vec::new(alloc),
+            Vec::new(alloc),
+            Alike::none(),
+        ));
     }
     let partners_of_old = partners(alloc, before, after)?;
     let origins = partners(alloc, after, before)?;
     let links = changed_links(alloc, before, after, &partners_of_old, &origins)?;
-    Ok(Changes::new(nodes, true, links, partners_of_old))
+    let alike = all_alike(old, new, &partners_of_old);
+    Ok(Changes::new(nodes, true, links, partners_of_old, alike))
 }

@@ -3,18 +3,21 @@ ghost use Rattle.std.specs.Prelude.{◌≡◌, ◌<◌, length};
 ghost use Rattle.sr_delta.specs.Partners.{partner_at};
 ghost use Rattle.sr_delta.specs.Changes.{AreWithin};
 
+use crate::alike::Alike;
 use crate::change::Change;
+use sr_lanes::NodeBits;
 use sr_model::LinkNo;
 use std::marker::Model;
 
-/// What differs between an old net and a new one: whether their nodes are the same, and if so each changed link and, by
-/// number, the link of the new net that has an old link's key.
+/// What differs between an old net and a new one: whether their nodes are the same, and if so each changed link, by
+/// number the link of the new net that has an old link's key, and which nodes announce the same.
 #[derive(Debug, Drop)]
 pub struct Changes {
     nodes: u32,
     same: bool,
     links: Vec<Change>,
     partners: Vec<Option<LinkNo>>,
+    alike: Alike,
 }
 
 impl Model for Changes {
@@ -23,7 +26,13 @@ impl Model for Changes {
     ghost Value = { Differences };
 
     ghost view = { λ a.
-        record { nodes = a.nodes; same = a.same; links = a.links.items; partners = a.partners.items } };
+        record {
+          nodes = a.nodes;
+          same = a.same;
+          links = a.links.items;
+          partners = a.partners.items;
+          alike = a.alike;
+        } };
 
     ghost invariant = { λ a. AreWithin a.nodes a.links.items };
 }
@@ -35,15 +44,18 @@ impl Changes {
         same: bool,
         links: Vec<Change>,
         partners: Vec<Option<LinkNo>>,
+        alike: Alike,
     ) -> Changes
         requires { AreWithin nodes links.items }
-        ensures { result ≡ record { nodes = nodes; same = same; links = links.items; partners = partners.items } }
+        ensures { result
+            ≡ record { nodes = nodes; same = same; links = links.items; partners = partners.items; alike = alike } }
     {
         Changes {
             nodes,
             same,
             links,
             partners,
+            alike,
         }
     }
 
@@ -68,5 +80,26 @@ impl Changes {
         ensures { result ≡ partner_at self.now.partners link.0 }
     {
         self.partners[link.0 as usize]
+    }
+
+    /// The nodes that have the same index and flags in both nets, and the same adjacency label on each link in both.
+    pub fn labels_alike(&self) -> NodeBits
+        ensures { result ≡ self.now.alike.labels }
+    {
+        self.alike.labels()
+    }
+
+    /// The nodes that have an index in both nets, or in neither.
+    pub fn indexed_alike(&self) -> NodeBits
+        ensures { result ≡ self.now.alike.indexed }
+    {
+        self.alike.indexed()
+    }
+
+    /// The nodes that announce the same MSD in both nets, or none in either where the nets have the same depth.
+    pub fn depths_alike(&self) -> NodeBits
+        ensures { result ≡ self.now.alike.depths }
+    {
+        self.alike.depths()
     }
 }

@@ -1,7 +1,8 @@
-//! What stays from an old net to a new one: the links that differ, matched by key, and whether a tree stays in spite of
-//! them.
+//! What stays from an old net to a new one: the links that differ, matched by key, the nodes that announce the same, and
+//! whether a tree stays.
 #![tactic(auto)]
 
+mod alike;
 mod change;
 mod changed;
 mod compared;

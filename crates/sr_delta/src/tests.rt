@@ -5,6 +5,7 @@ ghost use Rattle.sr_model.specs.Graph.{node_count};
 ghost use Rattle.sr_graph.specs.Draft.{IsDraft};
 ghost use Rattle.sr_spf.specs.Trees.{tree_count};
 
+use crate::alike::Alike;
 use crate::changed::changed_links;
 use crate::nodes::same_nodes;
 use crate::partners::partners;
@@ -100,11 +101,11 @@ fn changes_of(alloc: Global, old: &Graph, new: &Graph) -> Result<Option<Changes>
     let there = partners(alloc, old, new)?;
     let back = partners(alloc, new, old)?;
     let links = changed_links(alloc, old, new, &there, &back)?;
-    Ok(Some(Changes::new(old.node_count(), true, links, there)))
+    Ok(Some(Changes::new(old.node_count(), true, links, there, Alike::none())))
 }
 
-/// In order of key the links from 1 to 2, 3 and 4 come first. Only the distances from node 1 are touched: from 1 to 3 they
-/// are 2, as the metric is then.
+/// The metric from 1 to 3 goes from 3 to 2. Only the distances from node 1 are touched: that to 3 is 2 too, by way of 2
+/// and of 4.
 #[test]
 fn a_metric_touches_the_trees_that_it_ties(rt: HostRuntime) -> Result<(), Fail> {
     let alloc = rt.alloc();

@@ -1,0 +1,174 @@
+//! Which nodes announce the same in two nets.
+ghost use Rattle.std.specs.Prelude.{◌≡◌, ◌↔◌, ℕ, ◌<◌, ◌==◌, ◌||◌, if◌then◌else◌, is_some, IsTrue};
+ghost use Rattle.sr_lanes.specs.Bits.{is_in};
+ghost use Rattle.sr_model.specs.Graph.{node_count, link_count};
+ghost use Rattle.sr_model.specs.Label.{labels_at, adj_at};
+ghost use Rattle.sr_model.specs.Stay.{HaveSameName, HaveSameNodes, HasSameDepth};
+ghost use Rattle.sr_lanes.specs.declared.limits.TheConstants.{NODES_AT_MOST as Most};
+ghost use Rattle.sr_delta.specs.Partners.{IsPartner, ArePartners};
+ghost use Rattle.sr_delta.specs.Alike.{HasSameAdj, HasSameLabels, IsIndexedAlike, AreAlike};
+
+use sr_graph::LinkRange;
+use sr_labels::{Net, NodeLabels};
+use sr_lanes::NodeBits;
+use sr_model::{LinkNo, NodeNo};
+use std::marker::Model;
+
+/// The nodes that have the same index, flags and adjacency labels in two nets, those that have an index in both nets or
+/// in neither, and those with the same maximum SID depth (MSD).
+#[derive(Debug, Drop)]
+pub(crate) struct Alike {
+    labels: NodeBits,
+    indexed: NodeBits,
+    depths: NodeBits,
+}
+
+impl Model for Alike {
+    ghost use Rattle.sr_delta.specs.Alike.{Likeness};
+
+    ghost Value = { Likeness };
+
+    ghost view = { λ a. record { labels = a.labels; indexed = a.indexed; depths = a.depths } };
+}
+
+impl Alike {
+    /// No node: what is told of nets whose nodes differ.
+    pub(crate) fn none() -> Alike {
+        Alike {
+            labels: NodeBits::none(),
+            indexed: NodeBits::none(),
+            depths: NodeBits::none(),
+        }
+    }
+
+    /// The nodes with the same index, flags and adjacency labels.
+    pub(crate) fn labels(&self) -> NodeBits
+        ensures { result ≡ self.now.labels }
+    {
+        self.labels
+    }
+
+    /// The nodes that have an index in both nets, or in neither.
+    pub(crate) fn indexed(&self) -> NodeBits
+        ensures { result ≡ self.now.indexed }
+    {
+        self.indexed
+    }
+
+    /// The nodes with the same MSD.
+    pub(crate) fn depths(&self) -> NodeBits
+        ensures { result ≡ self.now.depths }
+    {
+        self.depths
+    }
+}
+
+/// Whether the labels are the same, or neither is there.
+fn same_label(a: Option<u32>, b: Option<u32>) -> bool
+    ensures { IsTrue result ↔ (a ≡ b) }
+{
+    a == b
+}
+
+/// Whether the adjacency label of the link is that of its partner, if it has one.
+fn same_adj_on(old: &Net, new: &Net, link: LinkNo, partner: Option<LinkNo>) -> bool
+    requires link { link.0 < link_count old.now.graph }
+    requires partner { IsPartner old.now.graph new.now.graph link.0 partner }
+    ensures { IsTrue result ↔ ((k : ℕ) → HaveSameName old.now.graph new.now.graph link.0 k
+        → adj_at old.now link.0 ≡ adj_at new.now k) }
+{
+    match partner {
+        None => true,
+        Some(other) => same_label(old.adj(link), new.adj(other)),
+    }
+}
+
+/// Whether the adjacency labels of the node's links that are in both nets are the same.
+fn same_adj(old: &Net, new: &Net, partners: &[Option<LinkNo>], v: NodeNo) -> bool
+    requires partners { ArePartners old.now.graph new.now.graph partners.now }
+    requires v { v.0 < node_count old.now.graph }
+    ensures { IsTrue result ↔ HasSameAdj old.now new.now v.0 }
+{
+    let LinkRange { first, end } = old.graph().links_from(v);
+    for l in first..end {
+        if !same_adj_on(old, new, LinkNo(l), partners[l as usize]) {
+            return false;
+        }
+    }
+    true
+}
+
+/// Whether the index and the flags are the same.
+fn same_segment(old: &NodeLabels, new: &NodeLabels) -> bool
+    ensures { IsTrue result ↔ ((old.now.index ≡ new.now.index) × (old.now.keep ≡ new.now.keep)
+        × (old.now.explicit ≡ new.now.explicit)) }
+{
+    old.index() == new.index() && old.keep() == new.keep() && old.explicit() == new.explicit()
+}
+
+/// Whether the node has the same labels in both nets.
+fn same_labels(old: &Net, new: &Net, partners: &[Option<LinkNo>], v: NodeNo) -> bool
+    requires partners { ArePartners old.now.graph new.now.graph partners.now }
+    requires old { v.0 < node_count old.now.graph }
+    requires new { v.0 < node_count new.now.graph }
+    ensures { IsTrue result ↔ HasSameLabels old.now new.now v.0 }
+{
+    same_segment(old.labels(v), new.labels(v)) && same_adj(old, new, partners, v)
+}
+
+/// Whether the node has an index in both nets, or in neither.
+fn same_indexed(old: &Net, new: &Net, v: NodeNo) -> bool
+    requires old { v.0 < node_count old.now.graph }
+    requires new { v.0 < node_count new.now.graph }
+    ensures { IsTrue result ↔ IsIndexedAlike old.now new.now v.0 }
+{
+    old.labels(v).index().is_some() == new.labels(v).index().is_some()
+}
+
+/// Whether the node announces the same MSD in both nets, or none in either and the nets have the same depth.
+fn same_depth(old: &Net, new: &Net, v: NodeNo) -> bool
+    requires old { v.0 < node_count old.now.graph }
+    requires new { v.0 < node_count new.now.graph }
+    ensures { IsTrue result ↔ HasSameDepth old.now new.now v.0 }
+{
+    match old.labels(v).imposes() {
+        Some(before) => match new.labels(v).imposes() {
+            Some(after) => before == after,
+            None => false,
+        },
+        None => match new.labels(v).imposes() {
+            Some(_) => false,
+            None => old.depth() == new.depth(),
+        },
+    }
+}
+
+/// The set with the node, if the test says yes.
+fn put(set: NodeBits, v: NodeNo, test: bool) -> NodeBits
+    requires { v.0 < Most }
+    ensures { (u : ℕ) → is_in result u ≡ (if u == v.0 then (is_in set u || test) else is_in set u) }
+{
+    if test { set.with(v.0 as usize) } else { set }
+}
+
+/// Which nodes announce the same in both nets. `partners` are those of the old links.
+pub(crate) fn all_alike(old: &Net, new: &Net, partners: &[Option<LinkNo>]) -> Alike
+    requires same { HaveSameNodes old.now.graph new.now.graph }
+    requires partners { ArePartners old.now.graph new.now.graph partners.now }
+    ensures { AreAlike old.now new.now (node_count old.now.graph) result }
+{
+    let mut labels = NodeBits::none();
+    let mut indexed = NodeBits::none();
+    let mut depths = NodeBits::none();
+    for v in 0..old.graph().node_count() as u16 {
+        let node = NodeNo(v);
+        labels = put(labels, node, same_labels(old, new, partners, node));
+        indexed = put(indexed, node, same_indexed(old, new, node));
+        depths = put(depths, node, same_depth(old, new, node));
+    }
+    Alike {
+        labels,
+        indexed,
+        depths,
+    }
+}
