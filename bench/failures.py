@@ -218,7 +218,7 @@ def devices(program, script):
         ("a full device", f"{run} <'{script}' >/dev/full", 4),
         ("a closed output, made", f"{make} >&-", 4),
         ("a full device, made", f"{make} >/dev/full", 4),
-        ("a reader that went away", f"set -o pipefail; {make} | sleep 0", 4),
+        ("a reader that went away", f"set -o pipefail; (sleep 0.5; {make}) | true", 4),
         ("neither input nor output", f"{run} <&- >&-", 3),
         ("a closed error output", f"'{program}' fly 2>&-", 2),
     ]

@@ -121,12 +121,23 @@ def filled(unit):
         lines.append(line)
 
 
-def announced():
+def noted(pdus=252):
+    """One link of two routers, which so many PDUs say to be in as many groups as they can."""
+    ends = {node: scripts.capability(node) + scripts.rich_reach(3 - node, 10, 1) for node in (1, 2)}
+    lines = [line_of(node, 0, 0, 1, body) for node, body in ends.items()]
+    each = (LONGEST_PDU - 27) // 255
+    for pdu in range(pdus):
+        groups = range(pdu * each * 59, (pdu + 1) * each * 59)
+        lines.append(line_of(1, 0, 1 + pdu, 1, b"".join(floods.risks(2, 1, groups))))
+    return Candidate(lines + ["commit"], [], 0, 0)
+
+
+def announced(pdus):
     """One link that a router announces again and again, and commits that are refused for it, each after another PDU."""
-    body = tlv(22, (octets(2, 6) + bytes([0]) + octets(10, 3) + bytes([0])) * 23) * 250
+    body = tlv(22, (octets(2, 6) + bytes([0]) + octets(10, 3) + bytes([0])) * 23) * 254
     back = tlv(22, octets(1, 6) + bytes([0]) + octets(10, 3) + bytes([0]))
     lines = [line_of(1, 0, 0, 1, scripts.capability(1))]
-    lines += [line_of(1, 0, fragment, 1, body) for fragment in range(1, 101)]
+    lines += [line_of(1, 0, fragment, 1, body) for fragment in range(1, 1 + pdus)]
     lines.append(line_of(2, 0, 0, 1, scripts.capability(2) + back))
     other = line_of(3, 0, 0, 0, scripts.capability(3))
     at = len("lsp ") + 2 * 20
@@ -153,14 +164,16 @@ def candidates():
     lines = tied()
     yield "tied", repeated(lines, [f"cost {system(1)} {system(2)} 1 {{}}", "commit"], 2, MOST_COMMITS)
     yield "spaces-tied", repeated(lines, [f"spaces risk {system(1)} {system(200)} 1 {system(201)}"], 20)
-    lines, again = announced()
+    lines, again = announced(100)
     yield "announced", repeated(lines, again, 10)
+    yield "announced-all", Candidate(announced(253)[0] + ["commit"], [], 0, 0)
     yield "names", filled(tlv(137, b""))
     yield "short-names", filled(tlv(137, b"x"))
     yield "prefixes", filled(tlv(135, bytes(5) * 51))
     yield "neighbours", filled(tlv(22, bytes(11) * 23))
     yield "capabilities", filled(tlv(242, bytes(5)))
     yield "groups", filled(tlv(138, bytes(20)))
+    yield "notes", noted()
     yield "unknown", filled(tlv(200, bytes(255)))
 
 
