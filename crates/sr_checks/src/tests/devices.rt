@@ -28,10 +28,19 @@ fn only(alloc: Global, call: u64) -> Result<Vec<u64>, AllocError> {
 fn a_read_fails(rt: HostRuntime) -> Result<(), AllocError> {
     let alloc = rt.alloc();
     let words = words(alloc, "run")?;
-    // The number of bytes that were given before the read failed, and the answers to the lines that end within them.
-    for (given, answers) in [(0, &[] as &[u8]), (6, &[]), (7, FIRST), (13, FIRST)] {
+    // The number of bytes that were given before the read failed, and the answers to the lines that end within them. Each
+    // of the two routers' lines has 121 bytes with its line feed.
+    let cases: [(&[u8], usize, &[u8]); 6] = [
+        (COMMITS, 0, b""),
+        (COMMITS, 6, b""),
+        (COMMITS, 7, FIRST),
+        (COMMITS, 13, FIRST),
+        (TWO_NODES, 241, b"staged 1\n"),
+        (TWO_NODES, 242, b"staged 1\nstaged 2\n"),
+    ];
+    for (script, given, answers) in cases {
         let mut source = MemorySource::new(
-            Vec::from_slice(alloc, COMMITS)?,
+            Vec::from_slice(alloc, script)?,
             ones(alloc, given)?,
             only(alloc, given as u64)?,
         );
@@ -47,10 +56,17 @@ fn a_read_fails(rt: HostRuntime) -> Result<(), AllocError> {
 fn a_write_fails(rt: HostRuntime) -> Result<(), AllocError> {
     let alloc = rt.alloc();
     let words = words(alloc, "run")?;
-    for (call, answers) in [(0, &[] as &[u8]), (1, FIRST)] {
+    // The bytes are given one by one, and each answer is written before the next read: so a call of the sink is made for
+    // each answer.
+    let cases: [(&[u8], u64, &[u8]); 3] = [
+        (COMMITS, 0, b""),
+        (COMMITS, 1, FIRST),
+        (TWO_NODES, 1, b"staged 1\n"),
+    ];
+    for (script, call, answers) in cases {
         let mut source = MemorySource::new(
-            Vec::from_slice(alloc, COMMITS)?,
-            ones(alloc, COMMITS.len())?,
+            Vec::from_slice(alloc, script)?,
+            ones(alloc, script.len())?,
             Vec::new(alloc),
         );
         let mut sink = MemorySink::new(alloc, only(alloc, call)?);

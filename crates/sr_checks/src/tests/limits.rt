@@ -1,4 +1,4 @@
-//! The longest line, the longest script, and as many edits and versions as there may be.
+//! The longest line, PDU and script, and as many edits and versions as there may be.
 
 use super::{run, words};
 use sr_base::{SteadySink, SteadySource};
@@ -41,6 +41,40 @@ fn a_line_has_at_most_140_000_bytes(rt: HostRuntime) -> Result<(), AllocError> {
         assert_eq!(rt; sink.bytes(), answers, "{bytes} bytes");
         assert_eq!(rt; status, 1, "{bytes} bytes");
     }
+    Ok(())
+}
+
+/// Appends a TLV as hexadecimal digits: its type and length, and a value of that many zeros.
+fn push_tlv(line: &mut Vec<u8>, head: &[u8], octets: usize) -> Result<(), AllocError> {
+    line.extend_from_slice(head)?;
+    for _ in 0..octets {
+        line.extend_from_slice(b"00")?;
+    }
+    Ok(())
+}
+
+/// The line of a PDU of 65,535 octets: a header, 254 TLVs of an unknown type with 255 octets, and one with 228.
+fn longest_pdu(alloc: Global) -> Result<Vec<u8>, AllocError> {
+    let head: &[u8] = b"lsp 831b010014010000ffff04b0000000000001000000000001000003";
+    let mut line = Vec::from_slice(alloc, head)?;
+    for _ in 0..254 {
+        push_tlv(&mut line, b"c8ff", 255)?;
+    }
+    push_tlv(&mut line, b"c8e4", 228)?;
+    Ok(line)
+}
+
+#[test]
+fn a_pdu_has_at_most_65_535_octets(rt: HostRuntime) -> Result<(), AllocError> {
+    let alloc = rt.alloc();
+    let words = words(alloc, "run")?;
+    let line = longest_pdu(alloc)?;
+    assert_eq!(rt; line.len(), 131_074);
+    let mut source = SteadySource::new(line);
+    let mut sink = SteadySink::new(alloc);
+    let status = run(&rt, words.as_slice(), &mut source, &mut sink)?;
+    assert_eq!(rt; sink.bytes(), b"staged 1\n".as_slice());
+    assert_eq!(rt; status, 0);
     Ok(())
 }
 
