@@ -1,4 +1,4 @@
--- What is kept of two nets.
+-- The differences of two nets.
 use Rattle.std.specs.Prelude.{◌≡◌, ◌↔◌, ℕ, ◌<◌, Bool, true, false, List, [], length, Option}
 use Rattle.sr_model.specs.declared.link.LinkNo.{LinkNo}
 use Rattle.sr_model.specs.Graph.{node_count}

@@ -1,4 +1,4 @@
--- The imposition depth of a node, one entry, one part and one depth after the other.
+-- The MSD of a node, one entry, one part and one depth after the other.
 use Rattle.std.proofs.Common.{◌≡◌, ℕ, Bool, true, false, cond, List, [], ◌∷◌, ◌++◌, Option, Some, None, refl, ap, sym, ◌∙◌}
 use Rattle.std.specs.Prelude.{slice_get, filter}
 use Rattle.std.specs.Option.{option_or}

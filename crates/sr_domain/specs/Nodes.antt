@@ -1,5 +1,5 @@
--- The nodes of a domain: which are present, the label ranges, the index, the flags and the imposition depth that each
--- announces, and which are overloaded (this project's rules).
+-- The nodes of a domain: which are present, the label ranges, the index, the flags and the MSD (maximum SID depth) that
+-- each announces, and which are overloaded (this project's rules).
 use Rattle.std.specs.Prelude.{ℕ, Bool, false, not, ◌==◌, nat_lt, ◌&&◌, if◌then◌else◌, List, [], ◌∷◌, Option, Some, None, is_some, bit_and, bit_or, map, slice_get}
 use Rattle.std.specs.Option.{unwrap_or, option_map, option_or}
 use Rattle.std.specs.List.{filter_map, flat_map}
@@ -143,12 +143,12 @@ msds_in _ = []
 abbrev pub imposition_in : List Part → Option ℕ
 imposition_in parts = slice_get (filter_map imposition_by (flat_map msds_in parts)) 0
 
--- the imposition depth of a node, which is how many labels it can impose: the first of its own LSPs, by fragment, by
--- place and by place within the part, or none
+-- how many labels a node can impose, by its MSD: the first such value of its own LSPs, by fragment, by place and by
+-- place within the part, or none
 abbrev pub imposition_of : Facts → ℕ → Option ℕ
 imposition_of facts node = imposition_in (parts_of_node facts node)
 
--- what a node with these ranges, this index and this imposition depth announces
+-- what a node with these ranges, this index and this MSD announces
 abbrev pub labels_with : List Range → Option NodeSid → Option ℕ → Labels
 labels_with ranges sid imposes = record {
   srgb = ranges;

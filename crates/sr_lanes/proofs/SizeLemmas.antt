@@ -82,7 +82,7 @@ ones-bit zero small = refl
 ones-bit (suc zero) small = refl
 ones-bit (suc (suc b)) small = absurd (omega arith)
 
--- the lowest n bits of a word that are 1 are counted as its ones
+-- the lowest n bits of a word of value 1 are counted as its ones
 ones-below : (w n : ℕ) → count_below (λ i. nat_eq (bit_at w i) 1) n ≡ ones (w % 2 ^ n)
 unfolding count_below ones
 ones-below w zero = let e : w % 1 ≡ 0 = omega arith in rw e refl

@@ -49,8 +49,9 @@ fn run_lent<R: AllocGlobal + Runtime + 'static, S: Source, K: Sink, G: Gate + 's
 /// write failed; 5: memory ran out; 6: the script has more than 33,554,432 bytes.
 ///
 /// A commit splits its cases among threads where there are any: the answers are the same without. Each round of a watch
-/// passes the gate before it looks at a version. The usage counts, from what it counted before, the places that watches asked
-/// for, the readers that they were given, the versions that were published to them and their turns.
+/// passes the gate before it looks at a version, which tests show and no clause says. The usage counts the places that
+/// watches asked for, the readers that they were given, the versions that were published to them and their turns; what it
+/// shows is said of a usage that is new, where the status is 0 or 1.
 pub fn tilfa<R: AllocGlobal + Runtime + 'static, S: Source, K: Sink, G: Gate + 'static>(
     rt: &R,
     words: &[String],
