@@ -181,7 +181,7 @@ def main():
     with tempfile.TemporaryDirectory() as folder:
         work = pathlib.Path(folder)
         if os.environ.get("PEER"):
-            programs["peer"] = [built(os.environ["PEER"], work), "run", "--rules", "base", "--eager"]
+            programs["peer"] = [built(os.environ["PEER"], work), "run", "--rules", "overload", "--eager"]
         print(f"{'script':<14}{'octets':>12}" + "".join(f"{name:>25}" for name in programs))
         for name, lines in floods().items():
             size = sum(len(line) + 1 for line in lines)

@@ -26,7 +26,7 @@ import hostile
 import scripts
 from scripts import octets, tlv
 
-RULES = "base"
+RULES = "overload"
 
 # Raised where a seed makes another script than before, so that no log tells of scripts that weren't run.
 GENERATION = 2

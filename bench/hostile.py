@@ -8,7 +8,7 @@ are written, a `commit` in the middle of every 500 of them, and a `drop` at thei
 those of an independent program:
 
     python3 bench/hostile.py examples/frr_mesh9.script 1 30000 >script
-    build/tilfa run <script >answers; python3 "$MODEL/compare_answers.py" --rules base --status $? script answers
+    build/tilfa run <script >answers; python3 "$MODEL/compare_answers.py" --rules overload --status $? script answers
 
 This is for developers, and no part of the gate.
 """

@@ -34,7 +34,7 @@ OVERLOAD = 0x04
 
 
 def cleared(line):
-    """The line with the overload bit (ISO 10589, 9.9) of its PDU cleared, since a commit may refuse it."""
+    """The line with the overload bit (ISO 10589, 9.9) of its PDU cleared: the domains were made when a commit refused it."""
     octets = bytearray(bytes.fromhex(line.split()[1]))
     octets[26] &= ~OVERLOAD
     return f"lsp {octets.hex()}"
@@ -122,7 +122,7 @@ def peer_phases(lines, count):
     """The least times of a second implementation's phases: distances and cases, printing, and all."""
     script = Script(lines)
     threads = ["--threads", str(count)]
-    command = ["taskset", "-c", ",".join(map(str, PROCESSORS[:count])), PEER, "run", "--rules", "base", "--eager", *threads, "--time"]
+    command = ["taskset", "-c", ",".join(map(str, PROCESSORS[:count])), PEER, "run", "--rules", "overload", "--eager", *threads, "--time"]
     least = [float("inf")] * 3
     for _ in range(RUNS):
         with script.open() as given:
