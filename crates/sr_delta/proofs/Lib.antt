@@ -2,3 +2,4 @@ pub mod PartnerLemmas
 pub mod ChangeLemmas
 pub mod IdleLemmas
 pub mod AlikeLemmas
+pub mod PairLemmas

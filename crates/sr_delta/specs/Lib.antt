@@ -3,3 +3,4 @@ pub mod Changed
 pub mod Changes
 pub mod Idle
 pub mod Alike
+pub mod Pairs

@@ -24,7 +24,7 @@ fn is_dearer_by(from: u64, to: u64, metric: Option<u32>) -> bool
 }
 
 /// Whether the changed link is idle for the distances.
-fn is_idle(cells: &[u64], change: &Change) -> bool
+pub(crate) fn is_idle(cells: &[u64], change: &Change) -> bool
     requires from { change.now.from.0 < length cells.now }
     requires to { change.now.to.0 < length cells.now }
     ensures { IsTrue result ↔ IsIdleChange cells.now change.now }
