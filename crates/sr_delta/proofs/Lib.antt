@@ -3,3 +3,4 @@ pub mod ChangeLemmas
 pub mod IdleLemmas
 pub mod AlikeLemmas
 pub mod PairLemmas
+pub mod CaseLemmas

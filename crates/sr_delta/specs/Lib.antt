@@ -4,3 +4,4 @@ pub mod Changes
 pub mod Idle
 pub mod Alike
 pub mod Pairs
+pub mod Cases

@@ -4,18 +4,24 @@
 
 mod after;
 mod alike;
+mod cases;
 mod change;
 mod changed;
 mod compared;
 mod differences;
+mod ends;
 mod nodes;
+mod old_case;
 mod pairs;
 mod partners;
 mod stays;
 #[cfg(test)]
 mod tests;
+mod ways;
 
+pub use cases::case_stays;
 pub use change::Change;
 pub use compared::changes;
 pub use differences::Changes;
+pub use old_case::OldCase;
 pub use stays::tree_stays;
