@@ -4,3 +4,4 @@ pub mod IdleLemmas
 pub mod AlikeLemmas
 pub mod PairLemmas
 pub mod CaseLemmas
+pub mod TestLemmas

@@ -1,17 +1,22 @@
 //! A ring with a chord, in which one metric changes. What is wanted is from the definitions.
-ghost use Rattle.std.specs.Prelude.{◌≡◌, ◌<◌, [], IfOk, IfSome};
+ghost use Rattle.std.specs.Prelude.{◌≡◌, ◌<◌, [], length, IfOk, IfSome};
 ghost use Rattle.sr_model.specs.declared.name.Ident.TheVariants.{None as NoIdent};
 ghost use Rattle.sr_model.specs.Graph.{node_count};
 ghost use Rattle.sr_graph.specs.Draft.{IsDraft};
-ghost use Rattle.sr_spf.specs.Trees.{tree_count};
+ghost use Rattle.sr_model.specs.Rule.{AreAnnounced};
+ghost use Rattle.sr_model.specs.Case.{IsCase};
+ghost use Rattle.sr_spf.specs.Trees.{tree_count, AreTrees};
+ghost use Rattle.sr_delta.specs.Changes.{AreChanges};
 
 use crate::alike::Alike;
 use crate::changed::changed_links;
 use crate::nodes::same_nodes;
 use crate::partners::partners;
-use crate::{Change, Changes, tree_stays};
+use crate::{Change, Changes, OldCase, case_stays, changes, tree_stays};
 use sr_graph::{Draft, DraftLink, Graph};
-use sr_model::{Ident, LinkKey, NodeNo, SystemId};
+use sr_labels::{Net, NodeLabels, Srgb, first_clash};
+use sr_model::{Case, Ident, Kind, LinkKey, LinkNo, NodeNo, Range, SystemId};
+use sr_post::{post, walks};
 use sr_seq::Seq;
 use sr_spf::{Steps, Trees};
 use std::alloc::{AllocError, Global};
@@ -78,7 +83,8 @@ fn trees_from<L: Ledger>(
 ) -> Result<Trees, AllocError>
     requires name { blank.name ≡ L.name }
     requires parts { (blank.parts ≡ L.parts) × (0 < L.parts) }
-    ensures { IfOk result (λ t. tree_count t ≡ node_count graph.now) }
+    ensures count { IfOk result (λ t. tree_count t ≡ node_count graph.now) }
+    ensures trees { IfOk result (AreTrees graph.now) }
 {
     let mut steps = Steps::<L>::new(blank);
     Trees::build(rt, alloc, graph, &mut steps)
@@ -86,7 +92,8 @@ fn trees_from<L: Ledger>(
 
 /// The trees of the graph.
 fn trees_of(rt: &(impl Threads + Sync), alloc: Global, graph: &Graph) -> Result<Trees, AllocError>
-    ensures { IfOk result (λ t. tree_count t ≡ node_count graph.now) }
+    ensures count { IfOk result (λ t. tree_count t ≡ node_count graph.now) }
+    ensures trees { IfOk result (AreTrees graph.now) }
 {
     trees_from::<Brand>(rt, alloc, graph, Blank::new(1))
 }
@@ -131,6 +138,114 @@ fn a_metric_touches_the_trees_that_it_ties(rt: HostRuntime) -> Result<(), Fail> 
             tree_stays(&changes, &trees, NodeNo(v)) == (v != 0),
             "node {v}"
         );
+    }
+    Ok(())
+}
+
+/// What a node announces that has this index, and the labels 16000 to 16099.
+fn node(alloc: Global, index: u32) -> Result<NodeLabels, Fail> {
+    let ranges = vec![in alloc;
+        Range {
+            first: 16000,
+            size: 100
+        },
+    ]?;
+    Ok(NodeLabels::new(Srgb::new(ranges)?, Some(index), false, false, None))
+}
+
+/// What the nodes announce, each of which has its number as its index.
+fn nodes_of(alloc: Global, graph: &Graph) -> Result<Vec<NodeLabels>, Fail>
+    ensures { IfOk result (λ list. length list.items ≡ node_count graph.now) }
+{
+    let mut list = Vec::new(alloc);
+    for v in 0..graph.node_count() {
+        list.push(node(alloc, v)?)?;
+    }
+    Ok(list)
+}
+
+/// The names of the links.
+fn keys_of(alloc: Global, graph: &Graph) -> Result<Vec<LinkKey>, AllocError>
+    ensures { IfOk result (λ list. AreAnnounced graph.now list.items) }
+{
+    let mut list = Vec::new(alloc);
+    for l in 0..graph.link_count() as u16 {
+        list.push(graph.link(LinkNo(l)).key)?;
+    }
+    Ok(list)
+}
+
+/// The net of the graph, with no adjacency label. None where labels clash.
+fn net_of(alloc: Global, graph: Graph) -> Result<Option<Net>, Fail> {
+    let nodes = nodes_of(alloc, &graph)?;
+    match first_clash(alloc, &nodes, &[])? {
+        Some(_) => Ok(None),
+        None => {
+            let adj = vec![in alloc; None; graph.link_count() as usize]?;
+            let announced = keys_of(alloc, &graph)?;
+            Ok(Some(Net::new(graph, nodes, adj, announced, 3)))
+        }
+    }
+}
+
+/// Whether the case stays. What its failure leaves is counted from nothing.
+fn stays_from<L: Ledger>(
+    alloc: Global,
+    changes: &Changes,
+    old: &Net,
+    trees: &Trees,
+    new: &Net,
+    case: Case,
+    blank: Blank,
+) -> Result<bool, AllocError>
+    requires name { blank.name ≡ L.name }
+    requires parts { (blank.parts ≡ L.parts) × (0 < L.parts) }
+    requires changes { AreChanges old.now new.now changes.now }
+    requires trees { AreTrees old.now.graph trees.now }
+    requires case { IsCase old.now.graph case }
+{
+    let mut steps = Steps::<L>::new(blank);
+    let left = post(alloc, old, trees, case, &mut steps)?;
+    let marks = walks(alloc, old, trees, &left, case)?;
+    case_stays(
+        alloc,
+        changes,
+        &OldCase::new(old, trees, case, &left, &marks),
+        new,
+    )
+}
+
+/// Whether the case stays.
+fn stays(
+    alloc: Global,
+    changes: &Changes,
+    old: &Net,
+    trees: &Trees,
+    new: &Net,
+    case: Case,
+) -> Result<bool, AllocError>
+    requires changes { AreChanges old.now new.now changes.now }
+    requires trees { AreTrees old.now.graph trees.now }
+    requires case { IsCase old.now.graph case }
+{
+    stays_from::<Brand>(alloc, changes, old, trees, new, case, Blank::new(1))
+}
+
+/// Each case that protects the link from 3 to 1 stays, and so does each node case in which node 1 fails. No other does.
+#[test]
+fn cases_stay_that_the_metric_does_not_touch(rt: HostRuntime) -> Result<(), Fail> {
+    let alloc = rt.alloc();
+    let old = net_of(alloc, Graph::build(alloc, ring_with_chord(alloc, 3)?)?)?.ok_or("a clash")?;
+    let new = net_of(alloc, Graph::build(alloc, ring_with_chord(alloc, 2)?)?)?.ok_or("a clash")?;
+    let trees = trees_of(&rt, alloc, old.graph())?;
+    let found = changes(alloc, &old, &new)?;
+    for l in 0..old.graph().link_count() as u16 {
+        for kind in [Kind::Link, Kind::Node, Kind::Risk] {
+            let link = LinkNo(l);
+            let wanted = l == 5 || (kind == Kind::Node && (l == 3 || l == 8));
+            let kept = stays(alloc, &found, &old, &trees, &new, Case { kind, link })?;
+            assert!(rt; kept == wanted, "link {l}");
+        }
     }
     Ok(())
 }
