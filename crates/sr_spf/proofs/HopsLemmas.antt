@@ -1,9 +1,9 @@
 -- Next hops told by sums of cells, and their lists as they grow.
 use Rattle.std.proofs.Common.{◌≡◌, ◌≢◌, ℕ, zero, suc, ◌+◌, ◌-◌, ◌*◌, ◌<◌, ◌≤◌, ◌⊎◌, ⊎_elim, inl, inr, true, List, [], ◌∷◌, ◌++◌, append_assoc, length, refl, arith, ap, sym, ◌∙◌, subst}
-use Rattle.std.specs.Prelude.{Some, slice_get, slice_index, slice_index_or, slice_range, take, drop}
+use Rattle.std.specs.Prelude.{Some, slice_get, slice_index, slice_range, take, drop}
 use Rattle.std.proofs.Math.Seq.{drop-append_seam}
 use Rattle.std.proofs.lemmas.Bool.{cases_eq}
-use Rattle.std.proofs.lemmas.List.{length_push, get_or_push, get_or_append_left, length-append, length-drop, take_all, take-append-le, drop-append-le, append-nil, get_or_default}
+use Rattle.std.proofs.lemmas.List.{length_push, get_or_push, get_or_append_left, length-append, length-drop, take_all, take-append-le, drop-append-le, append-nil}
 use Rattle.sr_model.specs.declared.link.TheConstants.{FAR}
 use Rattle.sr_model.specs.declared.link.LinkNo.{LinkNo}
 use Rattle.sr_model.specs.Graph.{Graph, node_count, link_count, tail, head, metric, carries, link_at, IsGraph, IsLink}
@@ -20,8 +20,8 @@ pub is_cell : (g : Graph) (rows : List (List ℕ)) (u v : ℕ) → AreRows g row
 is_cell g rows u v r a b = (r.each u a).each v b
 
 -- a cell that is read is the cell of its row
-pub cell_read : (g : Graph) (rows : List (List ℕ)) (u v : ℕ) (row cells : List ℕ) → AreRows g rows (node_count g) → u < node_count g → row ≡ slice_index_or rows u row → cells ≡ row → slice_index cells v ≡ cell_in rows u v
-cell_read g rows u v row cells r within at is = ap (λ k. slice_index k v) (is ∙ at ∙ get_or_default rows u row [] (omega (arith, r.long)))
+pub cell_read : (rows : List (List ℕ)) (u v : ℕ) (row cells : List ℕ) → row ≡ row_at rows u → cells ≡ row → slice_index cells v ≡ cell_in rows u v
+cell_read rows u v row cells at is = ap (λ k. slice_index k v) (is ∙ at)
 
 -- a link whose metric and the cell of its end add up to the cell is a next hop
 pub hop-from_test : (g : Graph) (rows : List (List ℕ)) (u v l : ℕ) → IsGraph g → AreRows g rows (node_count g) → v < node_count g → l < link_count g → tail g l ≡ u → cell_in rows u v < FAR → carries g v (head g l) ≡ true → metric g l + cell_in rows (head g l) v ≡ cell_in rows u v → IsNextHop g [] u v l

@@ -3,6 +3,8 @@ pub mod QueueLemmas
 pub mod BegunLemmas
 pub mod OrderLemmas
 pub mod TreesLemmas
+pub mod SharedLemmas
+pub mod RenewedLemmas
 pub mod HopsLemmas
 pub mod FixtureLemmas
 pub mod DrawnLemmas

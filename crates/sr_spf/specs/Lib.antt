@@ -4,4 +4,5 @@ pub mod Begun
 pub mod Hops
 pub mod Trees
 pub mod Rows
+pub mod Renewed
 pub mod Drawn

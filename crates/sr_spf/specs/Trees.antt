@@ -1,6 +1,6 @@
 -- Shortest-path trees of all nodes: a row of distances and the next hops from each.
-use Rattle.std.specs.Prelude.{◌≡◌, ℕ, ◌+◌, ◌<◌, nat_lt, if◌then◌else◌, List, [], length, Option, Some, None, slice_index, slice_index_or}
-use Rattle.sr_model.specs.declared.link.TheConstants.{FAR}
+use Rattle.std.specs.Prelude.{◌≡◌, ℕ, ◌+◌, ◌<◌, ◌≤◌, nat_lt, if◌then◌else◌, List, [], length, Option, Some, None, slice_index, slice_index_or}
+use Rattle.sr_model.specs.declared.link.TheConstants.{FAR, MOST_NODES}
 use Rattle.sr_model.specs.declared.link.LinkNo.{LinkNo}
 use Rattle.sr_model.specs.Graph.{Graph, IsGraph, node_count}
 use Rattle.sr_model.specs.Walk.{IsRow}
@@ -46,8 +46,10 @@ hops_at t u v = hops_to (lists_at t.hops u) v
 abbrev pub IsSquare : List (List ℕ) → Type 0
 IsSquare rows = (u : ℕ) → u < length rows → length (row_at rows u) ≡ length rows
 
--- each row has a cell for each node, and each node has a place for each node
+-- there are no more rows than a graph may have nodes; each row has a cell for each node, and each node has a place
+-- for each node
 pub record IsWholeForest (t : Forest) : Type 0 where
+  pub few : length t.rows ≤ MOST_NODES
   pub square : IsSquare t.rows
   pub long : length t.hops ≡ length t.rows
   pub places : (u : ℕ) → u < length t.rows → length (lists_at t.hops u).starts ≡ length t.rows + 1

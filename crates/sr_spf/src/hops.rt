@@ -5,7 +5,9 @@ ghost use Rattle.sr_model.specs.Walk.{IsNextHop};
 ghost use Rattle.sr_model.specs.declared.link.TheConstants.{FAR as Far};
 ghost use Rattle.sr_spf.specs.Hops.{hops_to, AddsNextHops, AreHopsFrom, IsCut};
 ghost use Rattle.sr_spf.specs.Trees.{AreRows, row_at};
+ghost use Rattle.sr_spf.specs.Renewed.{moved_link, moved_links, moved_table};
 
+use crate::shared::Shared;
 use sr_graph::{Graph, LinkRange};
 use sr_model::{FAR, LinkNo, NodeNo};
 use sr_seq::Seq;
@@ -30,6 +32,35 @@ impl Model for HopTable {
     ghost invariant = { λ a. IsCut (record { starts = a.starts.items; links = a.links.items }) };
 }
 
+/// The number of the link in the new graph, where the list has one, else the link itself.
+fn renumbered(links: &[Option<LinkNo>], link: LinkNo) -> LinkNo
+    ensures { result ≡ moved_link links.now link }
+{
+    let place = link.0 as usize;
+    if place >= links.len() {
+        return link;
+    }
+    match links[place] {
+        Some(number) => number,
+        None => link,
+    }
+}
+
+/// The numbers of the links in the new graph.
+fn all_renumbered(
+    alloc: Global,
+    list: &[LinkNo],
+    links: &[Option<LinkNo>],
+) -> Result<Vec<LinkNo>, AllocError>
+    ensures { IfOk result (λ moved. moved.items ≡ moved_links links.now list.now) }
+{
+    let mut moved = Vec::with_capacity(alloc, list.len())?;
+    for link in list {
+        moved.push(renumbered(links, *link))?;
+    }
+    Ok(moved)
+}
+
 impl HopTable {
     /// The next hops that stand at these places.
     fn new(starts: Vec<u32>, links: Vec<LinkNo>) -> HopTable
@@ -48,11 +79,25 @@ impl HopTable {
         let end = self.starts[node.0 as usize + 1] as usize;
         &self.links[from..end]
     }
+
+    /// The same next hops, by the numbers of the links in the new graph.
+    pub(crate) fn moved(
+        &self,
+        alloc: Global,
+        links: &[Option<LinkNo>],
+    ) -> Result<HopTable, AllocError>
+        ensures { IfOk result (λ t. t ≡ moved_table links.now self.now) }
+    {
+        let mut starts = Vec::with_capacity(alloc, self.starts.len())?;
+        starts.extend_from_slice(&self.starts)?;
+        let moved = all_renumbered(alloc, &self.links, links)?;
+        Ok(HopTable::new(starts, moved))
+    }
 }
 
 /// Whether the link begins a shortest walk to the node. `whole` is the distance to the node from where the link begins:
 /// there is a walk.
-fn is_next_hop(graph: &Graph, rows: &[Seq<u64>], link: LinkNo, to: NodeNo, whole: u64) -> bool
+fn is_next_hop(graph: &Graph, rows: &Shared<Seq<u64>>, link: LinkNo, to: NodeNo, whole: u64) -> bool
     requires rows { AreRows graph.now rows.now (node_count graph.now) }
     requires link { link.0 < link_count graph.now }
     requires to { to.0 < node_count graph.now }
@@ -60,7 +105,7 @@ fn is_next_hop(graph: &Graph, rows: &[Seq<u64>], link: LinkNo, to: NodeNo, whole
     ensures { IsTrue result ↔ IsNextHop graph.now [] (tail graph.now link.0) to.0 link.0 }
 {
     let edge = graph.edge(link);
-    let rest = rows[edge.to.0 as usize].as_slice()[to.0 as usize];
+    let rest = rows.get(edge.to.0 as usize).as_slice()[to.0 as usize];
     if edge.metric as u64 + rest != whole {
         return false;
     }
@@ -70,7 +115,7 @@ fn is_next_hop(graph: &Graph, rows: &[Seq<u64>], link: LinkNo, to: NodeNo, whole
 /// Adds the next hops from one node to another, ascending.
 fn push_hops(
     graph: &Graph,
-    rows: &[Seq<u64>],
+    rows: &Shared<Seq<u64>>,
     from: NodeNo,
     to: NodeNo,
     links: &mut Vec<LinkNo>,
@@ -82,7 +127,7 @@ fn push_hops(
     ensures few { OnOk result (length links.new.items ≤ length links.old.items + link_count graph.now) }
 {
     let LinkRange { first, end } = graph.links_from(from);
-    let whole = rows[from.0 as usize].as_slice()[to.0 as usize];
+    let whole = rows.get(from.0 as usize).as_slice()[to.0 as usize];
     if whole >= FAR {
         return Ok(());
     }
@@ -98,7 +143,7 @@ fn push_hops(
 pub(crate) fn hops_of(
     alloc: Global,
     graph: &Graph,
-    rows: &[Seq<u64>],
+    rows: &Shared<Seq<u64>>,
     node: NodeNo,
 ) -> Result<HopTable, AllocError>
     requires rows { AreRows graph.now rows.now (node_count graph.now) }

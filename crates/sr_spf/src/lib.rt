@@ -5,7 +5,9 @@
 mod begun;
 mod dijkstra;
 mod hops;
+mod renewed;
 mod rows;
+mod shared;
 mod steps;
 #[cfg(test)]
 mod tests;

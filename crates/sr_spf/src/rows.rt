@@ -6,6 +6,7 @@ ghost use Rattle.sr_spf.specs.Trees.{AreRows};
 ghost use Rattle.sr_spf.specs.Rows.{rows_in};
 
 use crate::dijkstra::row;
+use crate::shared::Shared;
 use crate::steps::{Searched, Steps};
 use crate::trees::NODES;
 use sr_graph::{Graph, LinkSet};
@@ -46,7 +47,7 @@ fn measured_from<L: Ledger>(
 }
 
 /// The distances from the node in the whole graph, by a counter of their own.
-fn measured(
+pub(crate) fn measured(
     alloc: Global,
     graph: &Graph,
     nothing: &LinkSet,
@@ -103,12 +104,13 @@ pub(crate) fn rows_of<L: Ledger>(
     alloc: Global,
     graph: &Graph,
     steps: &mut Steps<L>,
-) -> Result<Vec<Seq<u64>>, AllocError>
-    ensures rows { IfOk result (λ rows. AreRows graph.now rows.items (node_count graph.now)) }
+) -> Result<Shared<Seq<u64>>, AllocError>
+    ensures rows { IfOk result (λ rows. AreRows graph.now rows (node_count graph.now)) }
     ensures steps { OnOk result (steps.new ≡ steps.old + node_count graph.now) }
     ensures most { steps.new ≤ steps.old + node_count graph.now }
     ensures least { steps.old ≤ steps.new }
 {
     let all = all_counted(rt, alloc, graph)?;
-    all_taken_in(alloc, all, steps)
+    let rows = all_taken_in(alloc, all, steps)?;
+    Shared::of(alloc, rows)
 }

@@ -2,11 +2,15 @@
 ghost use Rattle.std.specs.Prelude.{◌≡◌, ◌+◌, ◌<◌, ◌≤◌, [], length, IfOk, OnOk};
 ghost use Rattle.sr_model.specs.Graph.{Graph as Topology, node_count};
 ghost use Rattle.sr_model.specs.Walk.{Distance};
+ghost use Rattle.sr_model.specs.declared.link.TheConstants.{MOST_NODES as MostNodes};
 ghost use Rattle.sr_spf.specs.Hops.{AreNextHops, AreHopsFrom};
 ghost use Rattle.sr_spf.specs.Trees.{AreTrees, AreRows, AreHopTables, row_at, cell_at, hops_at, lists_at, tree_count, distance_of};
+ghost use Rattle.sr_spf.specs.Renewed.{AreRenewable, fallen};
 
 use crate::hops::{HopTable, hops_of};
+use crate::renewed::{are_in_place, kept_tables, moved_tables, renewed_rows};
 use crate::rows::rows_of;
+use crate::shared::Shared;
 use crate::steps::Steps;
 use sr_graph::Graph;
 use sr_model::{FAR, LinkNo, NodeNo};
@@ -27,8 +31,8 @@ pub(crate) const NODES: Share = Share {
 #[derive(Debug, Drop)]
 pub struct Trees {
     /// For each node the distance to each node, by number; `FAR` where there is no walk.
-    rows: Vec<Seq<u64>>,
-    hops: Vec<HopTable>,
+    rows: Shared<Seq<u64>>,
+    hops: Shared<HopTable>,
 }
 
 impl Model for Trees {
@@ -36,9 +40,9 @@ impl Model for Trees {
 
     ghost Value = { Forest };
 
-    ghost view = { λ a. record { rows = a.rows.items; hops = a.hops.items } };
+    ghost view = { λ a. record { rows = a.rows; hops = a.hops } };
 
-    ghost invariant = { λ a. IsWholeForest (record { rows = a.rows.items; hops = a.hops.items }) };
+    ghost invariant = { λ a. IsWholeForest (record { rows = a.rows; hops = a.hops }) };
 }
 
 /// The next hops from each node, in threads where there are any.
@@ -46,17 +50,18 @@ fn hops_of_all(
     rt: &(impl Threads + Sync),
     alloc: Global,
     graph: &Graph,
-    rows: &[Seq<u64>],
-) -> Result<Vec<HopTable>, AllocError>
+    rows: &Shared<Seq<u64>>,
+) -> Result<Shared<HopTable>, AllocError>
     requires { AreRows graph.now rows.now (node_count graph.now) }
-    ensures { IfOk result (λ hops. AreHopTables graph.now hops.items (node_count graph.now)) }
+    ensures { IfOk result (λ hops. AreHopTables graph.now hops (node_count graph.now)) }
 {
     let hops = |node: u32| -> Result<HopTable, AllocError>
         requires rows { AreRows graph.now rows.now (node_count graph.now) }
         requires node { node < node_count graph.now }
         ensures { IfOk result (AreHopsFrom graph.entry.now node) }
     { hops_of(alloc, graph, rows, NodeNo(node as u16)) };
-    made_of_each(rt, alloc, graph.node_count(), NODES, &hops)
+    let tables = made_of_each(rt, alloc, graph.node_count(), NODES, &hops)?;
+    Shared::of(alloc, tables)
 }
 
 impl Trees {
@@ -78,6 +83,41 @@ impl Trees {
         Ok(Trees { rows, hops })
     }
 
+    /// The distances and next hops from each node of a new graph. The marked trees stay, and share what stays; `links` has
+    /// the new number of each link that has one. One search is counted for each other tree. The nodes are split among
+    /// threads where there are any.
+    pub fn renew<L: Ledger>(
+        &self,
+        rt: &(impl Threads + Sync),
+        alloc: Global,
+        graph: &Graph,
+        stays: &[bool],
+        links: &[Option<LinkNo>],
+        steps: &mut Steps<L>,
+    ) -> Result<Trees, AllocError>
+        requires { AreRenewable graph.now self.now stays.now links.now }
+        ensures trees { IfOk result (λ t. AreTrees graph.now t) }
+        ensures steps { OnOk result (steps.new ≡ steps.old + fallen stays.now) }
+        ensures most { steps.new ≤ steps.old + fallen stays.now }
+        ensures least { steps.old ≤ steps.new }
+    {
+        let rows = renewed_rows(rt, alloc, graph, stays, &self.rows, steps)?;
+        let hops = if are_in_place(links) {
+            kept_tables(rt, alloc, graph, &rows, &self.hops, stays)?
+        } else {
+            moved_tables(rt, alloc, graph, &rows, &self.hops, stays, links)?
+        };
+        Ok(Trees { rows, hops })
+    }
+
+    /// How many nodes there are.
+    pub fn node_count(&self) -> u32
+        ensures count { result ≡ tree_count self.now }
+        ensures few { tree_count self.now ≤ MostNodes }
+    {
+        self.rows.len() as u32
+    }
+
     /// The distance from one node to another. None exactly where there is no walk.
     pub fn dist(&self, from: NodeNo, to: NodeNo) -> Option<u64>
         requires from { from.0 < tree_count self.now }
@@ -85,7 +125,7 @@ impl Trees {
         ensures cell { result ≡ distance_of (cell_at self.now from.0 to.0) }
         ensures distance { (g : Topology) → AreTrees g self.now → Distance g [] from.0 to.0 result }
     {
-        let cell = self.rows[from.0 as usize].as_slice()[to.0 as usize];
+        let cell = self.rows.get(from.0 as usize).as_slice()[to.0 as usize];
         if cell < FAR { Some(cell) } else { None }
     }
 
@@ -95,7 +135,7 @@ impl Trees {
         ensures cells { result.now ≡ row_at self.now.rows from.0 }
         ensures long { length result.now ≡ tree_count self.now }
     {
-        self.rows[from.0 as usize].as_slice()
+        self.rows.get(from.0 as usize).as_slice()
     }
 
     /// The next hops from a node.
@@ -104,7 +144,7 @@ impl Trees {
         ensures table { result.now ≡ lists_at self.now.hops from.0 }
         ensures long { length result.now.starts ≡ tree_count self.now + 1 }
     {
-        &self.hops[from.0 as usize]
+        self.hops.get(from.0 as usize)
     }
 
     /// The next hops from one node to another, ascending: the links that begin a shortest walk. None where there is no

@@ -10,7 +10,7 @@ use Rattle.sr_spf.proofs.hops.push_hops.Goals.{then-is_next_hop+in_ok-push, else
 
 pub returns-then-whole-ge-FAR-clause-hops : goal.returns-then-whole-ge-FAR-clause-hops
 returns-then-whole-ge-FAR-clause-hops c =
-    let whole : slice_index c.as_slice.result.now c.args.to.0 ≡ cell_in c.args.rows.now c.args.from.0 c.args.to.0 = cell_read _ _ c.args.from.0 _ _ _ c.requires.rows c.requires.from c.index-rows-from.is c.as_slice.ensures in
+    let whole : slice_index c.as_slice.result.now c.args.to.0 ≡ cell_in c.args.rows.now c.args.from.0 c.args.to.0 = cell_read _ c.args.from.0 _ _ _ (c.get.ensures []) c.as_slice.ensures in
     let far : FAR ≤ cell_in c.args.rows.now c.args.from.0 c.args.to.0 = omega (arith, whole, c.if-whole-ge-FAR.true) in
     hops-whole _ _ _ 0 _ _ (hops-none _ _ _ 0 _ (λ l lt hop. omega arith))
     (λ l hop. absurd (no_hop _ _ _ _ l c.requires.rows c.requires.from c.requires.to far hop))
@@ -22,7 +22,7 @@ is_next_hop-requires c =
       rows = c.requires.rows;
       link = omega (arith, c.links_from-first.ensures.links.inside, c.loop-link-test.true);
       to = c.requires.to;
-      whole = (cell_read _ _ c.args.from.0 _ _ _ c.requires.rows c.requires.from c.index-rows-from.is c.as_slice.ensures ∙ ap (λ k. cell_in c.args.rows.now k c.args.to.0) (sym begins), c.if-whole-ge-FAR.false);
+      whole = (cell_read _ c.args.from.0 _ _ _ (c.get.ensures []) c.as_slice.ensures ∙ ap (λ k. cell_in c.args.rows.now k c.args.to.0) (sym begins), c.if-whole-ge-FAR.false);
     }
 
 pub loop-link-init : goal.loop-link-init
