@@ -15,5 +15,6 @@ mod trees;
 
 pub use begun::row_after;
 pub use dijkstra::row;
+pub use renewed::are_in_place;
 pub use steps::{Searched, Steps};
 pub use trees::Trees;

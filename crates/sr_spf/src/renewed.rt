@@ -113,7 +113,7 @@ pub(crate) fn renewed_rows<L: Ledger>(
 }
 
 /// Whether each link has the number that it had, where it has one.
-pub(crate) fn are_in_place(links: &[Option<LinkNo>]) -> bool
+pub fn are_in_place(links: &[Option<LinkNo>]) -> bool
     ensures { IsTrue result → AreInPlace links.now }
 {
     for place in 0..links.len() {
