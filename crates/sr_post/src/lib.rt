@@ -15,6 +15,6 @@ mod spaces;
 pub use destinations::{affected, affected_nodes};
 pub use failure::post;
 pub use left::Post;
-pub use marks::walks;
+pub use marks::{walks, walks_along};
 pub use on_walks::Walks;
 pub use spaces::spaces_of;

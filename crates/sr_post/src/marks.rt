@@ -3,7 +3,7 @@ ghost use Rattle.std.specs.Prelude.{◌≡◌, ◌<◌, ◌↔◌, length, slice
 ghost use Rattle.sr_model.specs.declared.link.TheConstants.{FAR as Far};
 ghost use Rattle.sr_model.specs.Graph.{node_count};
 ghost use Rattle.sr_model.specs.Walk.{IsRow};
-ghost use Rattle.sr_model.specs.Case.{IsCase, source_of};
+ghost use Rattle.sr_model.specs.Case.{IsCase, IsFailedSet, source_of};
 ghost use Rattle.sr_spf.specs.Trees.{AreTrees};
 ghost use Rattle.sr_post.specs.Marks.{AreWayMarks, AreWalks, LeadsOn, IsWayMarked};
 ghost use Rattle.sr_post.specs.Post.{IsPost};
@@ -88,6 +88,26 @@ fn marks_of(
     Ok(marks)
 }
 
+/// The nodes on the shortest walks of the case, from the links that fail in it and the distances from its source without
+/// them.
+pub fn walks_along(
+    alloc: Global,
+    net: &Net,
+    trees: &Trees,
+    case: Case,
+    failed: &LinkSet,
+    cells: &[u64],
+) -> Result<Walks, AllocError>
+    requires trees { AreTrees net.now.graph trees.now }
+    requires case { IsCase net.now.graph case }
+    requires failed { IsFailedSet net.now.graph case failed.now }
+    requires row { IsRow net.now.graph failed.now (source_of net.now.graph case) cells.now }
+    ensures { IfOk result (AreWalks net.now case) }
+{
+    let marks = marks_of(alloc, net, trees, case, failed, cells)?;
+    Ok(Walks::new(marks))
+}
+
 /// The nodes on the shortest walks of the case, from what it leaves.
 pub fn walks(
     alloc: Global,
@@ -101,6 +121,5 @@ pub fn walks(
     requires post { IsPost net.now case post.now }
     ensures { IfOk result (AreWalks net.now case) }
 {
-    let marks = marks_of(alloc, net, trees, case, post.failed(), post.cells())?;
-    Ok(Walks::new(marks))
+    walks_along(alloc, net, trees, case, post.failed(), post.cells())
 }
