@@ -1,9 +1,10 @@
 -- How sets of nodes are told one node at a time.
-use Rattle.std.proofs.Common.{◌≡◌, ◌≢◌, ℕ, ◌+◌, ⊎_elim, Bool, true, false, ◌↔◌, arith, ap, sym, ◌∙◌, subst, eq-eqb}
-use Rattle.std.specs.Prelude.{◌==◌, ◌||◌, if◌then◌else◌}
-use Rattle.std.proofs.lemmas.Bool.{cases_eq, ne_eqb}
+use Rattle.std.proofs.Common.{◌≡◌, ◌≢◌, ℕ, ◌+◌, ◌<◌, ⊎_elim, Bool, true, false, ◌↔◌, arith, ap, sym, ◌∙◌, subst, eq-eqb}
+use Rattle.std.specs.Prelude.{◌==◌, ◌||◌, ◌&&◌, not, nat_lt, if◌then◌else◌}
+use Rattle.std.proofs.lemmas.Bool.{cases_eq, ne_eqb, lt-ltb}
 use Rattle.sr_lanes.specs.declared.words.NodeBits.{NodeBits}
 use Rattle.sr_lanes.specs.Bits.{is_in}
+use Rattle.sr_laws.proofs.Parts.{true_or}
 use Rattle.sr_delta.specs.Alike.{AreThose}
 
 -- no node lies below 0
@@ -26,3 +27,13 @@ those-put p v set after b r put is =
           (cases_eq u v);
       above = λ u le. other u (λ e. omega arith) ∙ r.above u (omega arith);
     }
+
+-- where no number below is missing from the set, it has each
+pub none-missing : (all set rest : NodeBits) (count : ℕ) → ((v : ℕ) → is_in all v ≡ nat_lt v count) → ((v : ℕ) → is_in rest v ≡ (is_in all v && not (is_in set v))) → ((v : ℕ) → is_in rest v ≡ false) → (v : ℕ) → v < count → is_in set v ≡ true
+none-missing all set rest count below minus none v lt =
+    ⊎_elim
+    (λ yes'. yes')
+    (λ no'.
+    let left : is_in rest v ≡ true = minus v ∙ ap (λ a. a && not (is_in set v)) (below v ∙ lt-ltb v count lt) ∙ ap (λ b. true && not b) no' in
+    absurd (let bad : false ≡ true = sym (none v) ∙ left in cc))
+    (true_or (is_in set v))

@@ -5,6 +5,7 @@ use Rattle.sr_model.specs.Label.{Net, labels_at, adj_at}
 use Rattle.sr_model.specs.Stay.{HaveSameName, HasSameDepth}
 use Rattle.sr_lanes.specs.declared.words.NodeBits.{NodeBits}
 use Rattle.sr_lanes.specs.Bits.{is_in}
+use Rattle.sr_delta.specs.Pairs.{HaveSamePairsAt}
 
 -- node v has the same adjacency label on each of its links that is in both nets
 abbrev pub HasSameAdj : Net → Net → ℕ → Type 0
@@ -27,14 +28,17 @@ pub record AreThose (test : ℕ → Type 0) (count : ℕ) (set : NodeBits) : Typ
   pub each : (v : ℕ) → v < count → (is_in set v ≡ true) ↔ test v
   pub above : (v : ℕ) → count ≤ v → is_in set v ≡ false
 
--- the nodes with the same labels, with an index in both nets or in neither, and with the same depth
+-- the nodes with the same labels, with an index in both nets or in neither, with the same depth, and with links of the
+-- same pairs
 pub record Likeness : Type 0 where
   pub labels : NodeBits
   pub indexed : NodeBits
   pub depths : NodeBits
+  pub pairs : NodeBits
 
 -- these are told of the nodes below this number
 pub record AreAlike (n m : Net) (count : ℕ) (a : Likeness) : Type 0 where
   pub labels : AreThose (HasSameLabels n m) count a.labels
   pub indexed : AreThose (IsIndexedAlike n m) count a.indexed
   pub depths : AreThose (HasSameDepth n m) count a.depths
+  pub pairs : AreThose (HaveSamePairsAt n.graph m.graph) count a.pairs

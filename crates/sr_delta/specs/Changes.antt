@@ -11,12 +11,13 @@ use Rattle.sr_delta.specs.Changed.{change_at, AreChangedLinks}
 use Rattle.sr_delta.specs.Alike.{Likeness, AreAlike}
 
 -- how many nodes the old net has, whether the nodes are the same in the new one, the changed links, the partner of each
--- old link, and which nodes announce the same
+-- old link in the new net, that of each new link in the old net, and which nodes are alike
 pub record Differences : Type 0 where
   pub nodes : ℕ
   pub same : Bool
   pub links : List Change
   pub partners : List (Option LinkNo)
+  pub origins : List (Option LinkNo)
   pub alike : Likeness
 
 -- the ends of the changed links are nodes below this number
@@ -32,5 +33,6 @@ pub record AreChanges (n m : Net) (c : Differences) : Type 0 where
   pub nodes : (c.same ≡ true) ↔ HaveSameNodes n.graph m.graph
   pub links : c.same ≡ true → AreChangedLinks n.graph m.graph c.links
   pub partners : c.same ≡ true → ArePartners n.graph m.graph c.partners
+  pub origins : c.same ≡ true → ArePartners m.graph n.graph c.origins
   pub alike : c.same ≡ true → AreAlike n m (node_count n.graph) c.alike
-  pub none : c.same ≡ false → (c.links ≡ []) × (c.partners ≡ [])
+  pub none : c.same ≡ false → (c.links ≡ []) × (c.partners ≡ []) × (c.origins ≡ [])

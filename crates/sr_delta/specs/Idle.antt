@@ -1,10 +1,11 @@
 -- Changed links that are idle for a row of distances.
-use Rattle.std.specs.Prelude.{ℕ, ◌+◌, ◌<◌, ◌≤◌, ◌⊎◌, Bool, List, length, Option, Some, None, slice_index}
+use Rattle.std.specs.Prelude.{ℕ, ◌+◌, ◌<◌, ◌≤◌, ◌⊎◌, List, length, Option, Some, None, slice_index}
 use Rattle.sr_model.specs.declared.link.TheConstants.{FAR}
+use Rattle.sr_model.specs.declared.case.Case.{Case}
 use Rattle.sr_model.specs.Graph.{Graph}
-use Rattle.sr_model.specs.Stay.{IsOfFailedPair}
 use Rattle.sr_delta.specs.declared.change.Change.{Change}
 use Rattle.sr_delta.specs.Changed.{change_at}
+use Rattle.sr_delta.specs.Pairs.{IsOfFailingPair}
 
 -- a link of this metric, if it has one, from a node at the first distance, leads to no distance up to the second
 abbrev pub IsDearerBy : ℕ → ℕ → Option ℕ → Type 0
@@ -24,10 +25,10 @@ IsIdleChange cells c =
 abbrev pub AreAllIdle : List ℕ → List Change → Type 0
 AreAllIdle cells links = (n : ℕ) → n < length links → IsIdleChange cells (change_at links n)
 
--- the changed link is idle for the row, unless it is of a failed pair
-abbrev pub IsIdleOrFailed : Graph → List Bool → List ℕ → Change → Type 0
-IsIdleOrFailed g x cells c = (IsOfFailedPair g x c.key → ⊥) → IsIdleChange cells c
+-- the changed link is idle for the row, unless it is of the pair of a link that fails in the case
+abbrev pub IsIdleOrFailed : Graph → Case → List ℕ → Change → Type 0
+IsIdleOrFailed g case cells c = (IsOfFailingPair g case c.key → ⊥) → IsIdleChange cells c
 
--- each changed link that isn't of a failed pair is idle for the row
-abbrev pub AreIdleOrFailed : Graph → List Bool → List ℕ → List Change → Type 0
-AreIdleOrFailed g x cells links = (n : ℕ) → n < length links → IsIdleOrFailed g x cells (change_at links n)
+-- each changed link that isn't of the pair of a link that fails in the case is idle for the row
+abbrev pub AreIdleOrFailed : Graph → Case → List ℕ → List Change → Type 0
+AreIdleOrFailed g case cells links = (n : ℕ) → n < length links → IsIdleOrFailed g case cells (change_at links n)

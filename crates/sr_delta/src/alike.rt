@@ -6,8 +6,11 @@ ghost use Rattle.sr_model.specs.Label.{labels_at, adj_at};
 ghost use Rattle.sr_model.specs.Stay.{HaveSameName, HaveSameNodes, HasSameDepth};
 ghost use Rattle.sr_lanes.specs.declared.limits.TheConstants.{NODES_AT_MOST as Most};
 ghost use Rattle.sr_delta.specs.Partners.{IsPartner, ArePartners};
+ghost use Rattle.sr_delta.specs.Changed.{AreChangedLinks};
 ghost use Rattle.sr_delta.specs.Alike.{HasSameAdj, HasSameLabels, IsIndexedAlike, AreAlike};
 
+use crate::change::Change;
+use crate::near::same_pairs;
 use sr_graph::LinkRange;
 use sr_labels::{Net, NodeLabels};
 use sr_lanes::NodeBits;
@@ -15,12 +18,13 @@ use sr_model::{LinkNo, NodeNo};
 use std::marker::Model;
 
 /// The nodes that have the same index, flags and adjacency labels in two nets, those that have an index in both nets or
-/// in neither, and those with the same maximum SID depth (MSD).
+/// in neither, those with the same maximum SID depth (MSD), and those whose links are of the same pairs.
 #[derive(Debug, Drop)]
 pub(crate) struct Alike {
     labels: NodeBits,
     indexed: NodeBits,
     depths: NodeBits,
+    pairs: NodeBits,
 }
 
 impl Model for Alike {
@@ -28,7 +32,7 @@ impl Model for Alike {
 
     ghost Value = { Likeness };
 
-    ghost view = { λ a. record { labels = a.labels; indexed = a.indexed; depths = a.depths } };
+    ghost view = { λ a. record { labels = a.labels; indexed = a.indexed; depths = a.depths; pairs = a.pairs } };
 }
 
 impl Alike {
@@ -38,6 +42,7 @@ impl Alike {
             labels: NodeBits::none(),
             indexed: NodeBits::none(),
             depths: NodeBits::none(),
+            pairs: NodeBits::none(),
         }
     }
 
@@ -60,6 +65,13 @@ impl Alike {
         ensures { result ≡ self.now.depths }
     {
         self.depths
+    }
+
+    /// The nodes whose links are of the same pairs.
+    pub(crate) fn pairs(&self) -> NodeBits
+        ensures { result ≡ self.now.pairs }
+    {
+        self.pairs
     }
 }
 
@@ -151,24 +163,33 @@ fn put(set: NodeBits, v: NodeNo, test: bool) -> NodeBits
     if test { set.with(v.0 as usize) } else { set }
 }
 
-/// Which nodes announce the same in both nets. `partners` are those of the old links.
-pub(crate) fn all_alike(old: &Net, new: &Net, partners: &[Option<LinkNo>]) -> Alike
+/// Which nodes are alike in both nets. `partners` are those of the old links, `links` the changed ones.
+pub(crate) fn all_alike(
+    old: &Net,
+    new: &Net,
+    partners: &[Option<LinkNo>],
+    links: &[Change],
+) -> Alike
     requires same { HaveSameNodes old.now.graph new.now.graph }
     requires partners { ArePartners old.now.graph new.now.graph partners.now }
+    requires links { AreChangedLinks old.now.graph new.now.graph links.now }
     ensures { AreAlike old.now new.now (node_count old.now.graph) result }
 {
     let mut labels = NodeBits::none();
     let mut indexed = NodeBits::none();
     let mut depths = NodeBits::none();
+    let mut pairs = NodeBits::none();
     for v in 0..old.graph().node_count() as u16 {
         let node = NodeNo(v);
         labels = put(labels, node, same_labels(old, new, partners, node));
         indexed = put(indexed, node, same_indexed(old, new, node));
         depths = put(depths, node, same_depth(old, new, node));
+        pairs = put(pairs, node, same_pairs(old, new, links, node));
     }
     Alike {
         labels,
         indexed,
         depths,
+        pairs,
     }
 }

@@ -2,68 +2,82 @@
 ghost use Rattle.std.specs.Prelude.{◌≡◌, ◌↔◌, ◌<◌, true, length, IsTrue, IfOk};
 ghost use Rattle.sr_model.specs.Graph.{node_count, link_count};
 ghost use Rattle.sr_model.specs.Label.{Net as Labelled};
-ghost use Rattle.sr_model.specs.Stay.{HaveSameName, IsKeptCase};
+ghost use Rattle.sr_model.specs.Stay.{HaveSameName, IsKeptCase, case_with};
 ghost use Rattle.sr_delta.specs.Changes.{AreChanges};
-ghost use Rattle.sr_delta.specs.Cases.{IsKeptHere, HaveSameFailures};
+ghost use Rattle.sr_delta.specs.KeptTrees.{AreKeptTrees};
+ghost use Rattle.sr_delta.specs.Pairs.{HaveSameFailures};
+ghost use Rattle.sr_delta.specs.Cases.{IsKeptHere};
 
 use crate::after::are_idle_or_failed;
 use crate::differences::Changes;
 use crate::ends::are_ends_alike;
 use crate::old_case::OldCase;
-use crate::pairs::have_same_pairs;
-use crate::stays::tree_stays;
+use crate::risks::have_same_risks;
 use crate::ways::are_walks_kept;
-use sr_graph::Graph;
 use sr_labels::Net;
-use sr_model::{Case, LinkNo};
+use sr_model::{Case, Kind, LinkNo};
 use std::alloc::{AllocError, Global};
 
 /// Whether the links that fail in the same case of the new net are of the same pairs. `link` is the number of the
-/// protected link there.
-fn have_same_failures(
-    alloc: Global,
-    old: &OldCase<'_>,
-    new: &Net,
-    link: LinkNo,
-) -> Result<bool, AllocError>
-    requires { link.0 < link_count new.now.graph }
-    ensures { IfOk result (λ same. IsTrue same ↔ HaveSameFailures old.now new.now link) }
+/// protected link there. In a link case they are the links of its pair; in a node case, those at its end.
+fn have_same_failures(changes: &Changes, old: &OldCase<'_>, new: &Net, link: LinkNo) -> bool
+    requires changes { AreChanges old.now.net new.now changes.now }
+    requires same { changes.now.same ≡ true }
+    requires name { HaveSameName old.now.net.graph new.now.graph old.now.case.link.0 link.0 }
+    ensures { IsTrue result
+        ↔ HaveSameFailures old.now.net.graph old.now.case new.now.graph (case_with old.now.case link) }
 {
-    let graph = new.graph();
-    let kind = old.case().kind;
-    let failed = graph.failed(alloc, Case { kind, link })?;
-    Ok(have_same_pairs(old.graph(), old.post().failed(), graph, &failed))
+    let case = old.case();
+    match case.kind {
+        Kind::Link => true,
+        Kind::Node => {
+            let end = old.graph().edge(case.link).to;
+            changes.pairs_alike().has(end.0 as usize)
+        }
+        Kind::Risk => {
+            let there = Case {
+                kind: case.kind,
+                link,
+            };
+            have_same_risks(old.graph(), case, new.graph(), there)
+        }
+    }
 }
 
-/// Whether the old case has all that is asked of it but of the links that fail in the new net.
-fn is_kept_here(changes: &Changes, old: &OldCase<'_>) -> bool
-    requires { changes.now.nodes ≡ node_count old.now.net.graph }
+/// Whether the old case has all that is asked of it but of the links that fail in the new net and of the nodes on the
+/// walks.
+fn is_kept_here(changes: &Changes, kept: &[bool], old: &OldCase<'_>) -> bool
+    requires nodes { changes.now.nodes ≡ node_count old.now.net.graph }
+    requires kept { length kept.now ≡ node_count old.now.net.graph }
     ensures { (m : Labelled) → AreChanges old.now.net m changes.now → changes.now.same ≡ true
-        → IsTrue result ↔ IsKeptHere old.now m changes.now.links }
+        → AreKeptTrees old.now.net m kept.now → IsTrue result ↔ IsKeptHere old.now m changes.now.links }
 {
-    let source = old.graph().edge(old.case().link).from;
-    if !changes.depths_alike().has(source.0 as usize) {
+    let case = old.case();
+    let source = old.graph().edge(case.link).from.0 as usize;
+    if !changes.depths_alike().has(source) {
         return false;
     }
-    if !tree_stays(changes, old.trees(), source) {
+    if !kept[source] {
         return false;
     }
-    let post = old.post();
-    if !are_idle_or_failed(old.graph(), post.failed(), post.cells(), changes.links()) {
+    if !are_idle_or_failed(old.graph(), case, old.cells(), changes.links()) {
         return false;
     }
-    are_ends_alike(changes, old) && are_walks_kept(changes, old)
+    are_ends_alike(changes, old)
 }
 
 /// Whether the case of the old net stays: what was computed for it is what would be computed in the new net, links matched
-/// by key. `changes` are the differences of the two nets.
+/// by key. `changes` are the differences of the two nets, `kept` the tests of the old net's trees that stay. The tests
+/// that cost least come first; memory is asked for only where all but the last hold.
 pub fn case_stays(
     alloc: Global,
     changes: &Changes,
+    kept: &[bool],
     old: &OldCase<'_>,
     new: &Net,
 ) -> Result<bool, AllocError>
-    requires { AreChanges old.now.net new.now changes.now }
+    requires changes { AreChanges old.now.net new.now changes.now }
+    requires kept { AreKeptTrees old.now.net new.now kept.now }
     ensures { IfOk result (λ stays. IsTrue stays ↔ IsKeptCase old.now.net new.now old.now.case) }
 {
     if !changes.same_nodes() {
@@ -72,10 +86,13 @@ pub fn case_stays(
     match changes.partner(old.case().link) {
         None => Ok(false),
         Some(link) => {
-            if !is_kept_here(changes, old) {
+            if !is_kept_here(changes, kept, old) {
                 return Ok(false);
             }
-            have_same_failures(alloc, old, new, link)
+            if !have_same_failures(changes, old, new, link) {
+                return Ok(false);
+            }
+            are_walks_kept(alloc, changes, kept, old)
         }
     }
 }

@@ -23,12 +23,13 @@ pub fn changes(alloc: Global, old: &Net, new: &Net) -> Result<Changes, AllocErro
             false,
             Vec::new(alloc),
             Vec::new(alloc),
+            Vec::new(alloc),
             Alike::none(),
         ));
     }
-    let partners_of_old = partners(alloc, before, after)?;
-    let origins = partners(alloc, after, before)?;
-    let links = changed_links(alloc, before, after, &partners_of_old, &origins)?;
-    let alike = all_alike(old, new, &partners_of_old);
-    Ok(Changes::new(nodes, true, links, partners_of_old, alike))
+    let there = partners(alloc, before, after)?;
+    let back = partners(alloc, after, before)?;
+    let links = changed_links(alloc, before, after, &there, &back)?;
+    let alike = all_alike(old, new, &there, &links);
+    Ok(Changes::new(nodes, true, links, there, back, alike))
 }

@@ -10,13 +10,15 @@ use sr_model::LinkNo;
 use std::marker::Model;
 
 /// What differs between an old net and a new one: whether their nodes are the same, and if so each changed link, by
-/// number the link of the new net that has an old link's key, and which nodes announce the same.
+/// number the link of the new net that has an old link's key and that of the old net that has a new link's, and which nodes
+/// are alike.
 #[derive(Debug, Drop)]
 pub struct Changes {
     nodes: u32,
     same: bool,
     links: Vec<Change>,
     partners: Vec<Option<LinkNo>>,
+    origins: Vec<Option<LinkNo>>,
     alike: Alike,
 }
 
@@ -31,6 +33,7 @@ impl Model for Changes {
           same = a.same;
           links = a.links.items;
           partners = a.partners.items;
+          origins = a.origins.items;
           alike = a.alike;
         } };
 
@@ -44,17 +47,19 @@ impl Changes {
         same: bool,
         links: Vec<Change>,
         partners: Vec<Option<LinkNo>>,
+        origins: Vec<Option<LinkNo>>,
         alike: Alike,
     ) -> Changes
         requires { AreWithin nodes links.items }
         ensures { result
-            ≡ record { nodes = nodes; same = same; links = links.items; partners = partners.items; alike = alike } }
+            ≡ record { nodes = nodes; same = same; links = links.items; partners = partners.items; origins = origins.items; alike = alike } }
     {
         Changes {
             nodes,
             same,
             links,
             partners,
+            origins,
             alike,
         }
     }
@@ -82,6 +87,30 @@ impl Changes {
         self.partners[link.0 as usize]
     }
 
+    /// For each old link, by number, the link of the new net that has its key, or none where the new net has none. Where
+    /// the nodes aren't the same, none is told.
+    pub fn partners(&self) -> &[Option<LinkNo>]
+        ensures { result.now ≡ self.now.partners }
+    {
+        &self.partners
+    }
+
+    /// The link of the old net that has the key of this new link. None exactly where the old net has none.
+    pub fn origin(&self, link: LinkNo) -> Option<LinkNo>
+        requires { link.0 < length self.now.origins }
+        ensures { result ≡ partner_at self.now.origins link.0 }
+    {
+        self.origins[link.0 as usize]
+    }
+
+    /// For each new link, by number, the link of the old net that has its key, or none where the old net has none. Where
+    /// the nodes aren't the same, none is told.
+    pub fn origins(&self) -> &[Option<LinkNo>]
+        ensures { result.now ≡ self.now.origins }
+    {
+        &self.origins
+    }
+
     /// The nodes that have the same index and flags in both nets, and the same adjacency label on each link in both.
     pub fn labels_alike(&self) -> NodeBits
         ensures { result ≡ self.now.alike.labels }
@@ -101,5 +130,12 @@ impl Changes {
         ensures { result ≡ self.now.alike.depths }
     {
         self.alike.depths()
+    }
+
+    /// The nodes whose links, those that begin and those that end there, are of the same pairs in both nets.
+    pub fn pairs_alike(&self) -> NodeBits
+        ensures { result ≡ self.now.alike.pairs }
+    {
+        self.alike.pairs()
     }
 }

@@ -12,6 +12,7 @@ ghost use Rattle.sr_delta.specs.Cases.{IsLedTo, IsEndAlike, AreEndsAlike};
 use crate::differences::Changes;
 use crate::old_case::OldCase;
 use sr_graph::Graph;
+use sr_lanes::NodeBits;
 use sr_model::{Case, Kind, LinkNo, NodeNo};
 use sr_spf::Trees;
 
@@ -66,8 +67,8 @@ fn is_end_alike(changes: &Changes, old: &OldCase<'_>, d: NodeNo) -> bool
     changes.indexed_alike().has(d.0 as usize) || !is_led_to(old, d)
 }
 
-/// Whether each node towards which the protected link leads has an index in both nets or in neither.
-pub(crate) fn are_ends_alike(changes: &Changes, old: &OldCase<'_>) -> bool
+/// Whether each node towards which the protected link leads has an index in both nets or in neither, told one by one.
+fn is_each_end_alike(changes: &Changes, old: &OldCase<'_>) -> bool
     requires { changes.now.nodes ≡ node_count old.now.net.graph }
     ensures { (m : Labelled) → AreChanges old.now.net m changes.now → changes.now.same ≡ true
         → IsTrue result ↔ AreEndsAlike old.now.net m old.now.case }
@@ -78,4 +79,15 @@ pub(crate) fn are_ends_alike(changes: &Changes, old: &OldCase<'_>) -> bool
         }
     }
     true
+}
+
+/// Whether each node towards which the protected link leads has an index in both nets or in neither. Where all nodes
+/// have, as after most commits, none is looked at.
+pub(crate) fn are_ends_alike(changes: &Changes, old: &OldCase<'_>) -> bool
+    requires { changes.now.nodes ≡ node_count old.now.net.graph }
+    ensures { (m : Labelled) → AreChanges old.now.net m changes.now → changes.now.same ≡ true
+        → IsTrue result ↔ AreEndsAlike old.now.net m old.now.case }
+{
+    let nodes = NodeBits::below(old.graph().node_count() as usize);
+    nodes.and_not(changes.indexed_alike()).is_empty() || is_each_end_alike(changes, old)
 }

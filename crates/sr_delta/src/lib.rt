@@ -10,10 +10,12 @@ mod changed;
 mod compared;
 mod differences;
 mod ends;
+mod near;
 mod nodes;
 mod old_case;
 mod pairs;
 mod partners;
+mod risks;
 mod stays;
 #[cfg(test)]
 mod tests;

@@ -1,27 +1,24 @@
 //! A case of the old net, with what was computed for it.
-ghost use Rattle.std.specs.Prelude.{◌≡◌};
-ghost use Rattle.sr_model.specs.Case.{IsCase};
+ghost use Rattle.std.specs.Prelude.{◌≡◌, List, Bool};
+ghost use Rattle.sr_model.specs.Walk.{IsRow};
+ghost use Rattle.sr_model.specs.Case.{IsCase, IsFailedSet, source_of};
 ghost use Rattle.sr_spf.specs.Trees.{AreTrees};
-ghost use Rattle.sr_post.specs.Post.{IsPost};
-ghost use Rattle.sr_post.specs.Marks.{AreWalks};
 ghost use Rattle.sr_delta.specs.Cases.{IsComputed};
 
 use sr_graph::Graph;
 use sr_labels::Net;
 use sr_model::Case;
-use sr_post::{Post, Walks};
 use sr_spf::Trees;
 use std::marker::Model;
 
-/// A case of a net, with what was computed for it: the trees of the net, what the failure leaves, and the nodes on the
-/// shortest walks without the failed links to affected destinations.
+/// A case of a net, with what was computed for it: the trees of the net, and the distances from the source without the
+/// links that fail.
 #[derive(Drop)]
 pub struct OldCase<'a> {
     net: &'a Net,
     trees: &'a Trees,
     case: Case,
-    post: &'a Post,
-    walks: &'a Walks,
+    cells: &'a [u64],
 }
 
 impl<'a> Model for OldCase<'a> {
@@ -29,42 +26,36 @@ impl<'a> Model for OldCase<'a> {
 
     ghost Value = { Computed };
 
-    ghost view = { λ a.
-        record { net = a.net.now; trees = a.trees.now; case = a.case; post = a.post.now; walks = a.walks.now } };
+    ghost view = { λ a. record { net = a.net.now; trees = a.trees.now; case = a.case; cells = a.cells.now } };
 
     ghost invariant = { λ a.
-        IsComputed (record {
-          net = a.net.now;
-          trees = a.trees.now;
-          case = a.case;
-          post = a.post.now;
-          walks = a.walks.now;
-        }) };
+        IsComputed (record { net = a.net.now; trees = a.trees.now; case = a.case; cells = a.cells.now }) };
 }
 
 impl<'a> OldCase<'a> {
-    /// The case with these parts.
-    pub fn new(
-        net: &'a Net,
-        trees: &'a Trees,
-        case: Case,
-        post: &'a Post,
-        walks: &'a Walks,
-    ) -> OldCase<'a>
+    /// The case with these parts. `cells` are the distances from its source without the links that fail, by number of
+    /// node; `FAR` where there is no walk.
+    pub fn new(net: &'a Net, trees: &'a Trees, case: Case, cells: &'a [u64]) -> OldCase<'a>
         requires trees { AreTrees net.now.graph trees.now }
         requires case { IsCase net.now.graph case }
-        requires post { IsPost net.now case post.now }
-        requires walks { AreWalks net.now case walks.now }
-        ensures { result
-            ≡ record { net = net.now; trees = trees.now; case = case; post = post.now; walks = walks.now } }
+        requires row { (x : List Bool) → IsFailedSet net.now.graph case x
+            → IsRow net.now.graph x (source_of net.now.graph case) cells.now }
+        ensures { result ≡ record { net = net.now; trees = trees.now; case = case; cells = cells.now } }
     {
         OldCase {
             net,
             trees,
             case,
-            post,
-            walks,
+            cells,
         }
+    }
+
+    /// The net.
+    pub(crate) fn net(&self) -> &Net
+        ensures net { result.now ≡ self.now.net }
+        ensures computed { IsComputed self.now }
+    {
+        self.net
     }
 
     /// The graph of the net.
@@ -91,19 +82,11 @@ impl<'a> OldCase<'a> {
         self.case
     }
 
-    /// What the failure leaves.
-    pub(crate) fn post(&self) -> &Post
-        ensures post { result.now ≡ self.now.post }
+    /// The distances from the source without the links that fail.
+    pub(crate) fn cells(&self) -> &[u64]
+        ensures cells { result.now ≡ self.now.cells }
         ensures computed { IsComputed self.now }
     {
-        self.post
-    }
-
-    /// The nodes on the shortest walks.
-    pub(crate) fn walks(&self) -> &Walks
-        ensures walks { result.now ≡ self.now.walks }
-        ensures computed { IsComputed self.now }
-    {
-        self.walks
+        self.cells
     }
 }

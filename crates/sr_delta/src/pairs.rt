@@ -1,12 +1,13 @@
-//! Failed links of two graphs, matched by pairs.
-ghost use Rattle.std.specs.Prelude.{◌≡◌, ◌↔◌, IsTrue, length};
+//! Keys of pairs whose links fail in a case.
+ghost use Rattle.std.specs.Prelude.{◌≡◌, ◌↔◌, ◌<◌, ℕ, Contains, IsTrue};
 ghost use Rattle.sr_model.specs.Key.{IsSamePair};
 ghost use Rattle.sr_model.specs.Graph.{link_count};
-ghost use Rattle.sr_model.specs.Stay.{IsOfFailedPair, HaveSamePairs};
-ghost use Rattle.sr_delta.specs.Pairs.{HavePairsIn};
+ghost use Rattle.sr_model.specs.Case.{IsCase, FailsWith, Touches, ShareGroup, key_at};
+ghost use Rattle.sr_graph.specs.Failed.{HaveCommon};
+ghost use Rattle.sr_delta.specs.Pairs.{IsFailingKey, IsOfFailingPair};
 
-use sr_graph::{Graph, LinkSet};
-use sr_model::LinkKey;
+use sr_graph::Graph;
+use sr_model::{Case, Kind, LinkKey, LinkNo, NodeNo};
 
 /// Whether the names are those of one link or of two opposite links.
 fn is_pair(one: &LinkKey, other: &LinkKey) -> bool
@@ -15,45 +16,81 @@ fn is_pair(one: &LinkKey, other: &LinkKey) -> bool
     *one == *other || *one == other.mirrored()
 }
 
-/// Whether the key is of the pair of a failed link.
-pub(crate) fn is_of_failed_pair(graph: &Graph, failed: &LinkSet, key: &LinkKey) -> bool
-    requires { length failed.now ≡ link_count graph.now }
-    ensures { IsTrue result ↔ IsOfFailedPair graph.now failed.now key.now }
+/// Whether the link begins or ends at the node.
+fn touches(graph: &Graph, link: LinkNo, node: NodeNo) -> bool
+    requires { link.0 < link_count graph.now }
+    ensures { IsTrue result ↔ Touches graph.now link.0 node.0 }
 {
-    let links = failed.links();
-    for i in 0..links.len() {
-        if is_pair(&graph.link(links[i]).key, key) {
+    let edge = graph.edge(link);
+    edge.from.0 == node.0 || edge.to.0 == node.0
+}
+
+/// Whether the number stands in the list.
+fn is_in_list(list: &[u32], number: u32) -> bool
+    ensures { IsTrue result ↔ Contains list.now number }
+{
+    for k in 0..list.len() {
+        if list[k] == number {
             return true;
         }
     }
     false
 }
 
-/// Whether each failed link of the graph is of the pair of a failed link of the other.
-fn have_pairs_in(graph: &Graph, failed: &LinkSet, other: &Graph, others: &LinkSet) -> bool
-    requires failed { length failed.now ≡ link_count graph.now }
-    requires others { length others.now ≡ link_count other.now }
-    ensures { IsTrue result ↔ HavePairsIn graph.now failed.now other.now others.now }
+/// Whether some number stands in both lists.
+fn have_common(one: &[u32], other: &[u32]) -> bool
+    ensures { IsTrue result ↔ HaveCommon one.now other.now }
 {
-    let links = failed.links();
-    for i in 0..links.len() {
-        if !is_of_failed_pair(other, others, &graph.link(links[i]).key) {
-            return false;
+    for i in 0..one.len() {
+        if is_in_list(other, one[i]) {
+            return true;
         }
     }
-    true
+    false
 }
 
-/// Whether the failed links of the two graphs are of the same pairs.
-pub(crate) fn have_same_pairs(
-    graph: &Graph,
-    failed: &LinkSet,
-    other: &Graph,
-    others: &LinkSet,
-) -> bool
-    requires failed { length failed.now ≡ link_count graph.now }
-    requires others { length others.now ≡ link_count other.now }
-    ensures { IsTrue result ↔ HaveSamePairs graph.now failed.now other.now others.now }
+/// Whether the links share a group.
+fn share_group(graph: &Graph, link: LinkNo, other: LinkNo) -> bool
+    requires link { link.0 < link_count graph.now }
+    requires other { other.0 < link_count graph.now }
+    ensures { IsTrue result ↔ ShareGroup graph.now link.0 other.0 }
 {
-    have_pairs_in(graph, failed, other, others) && have_pairs_in(other, others, graph, failed)
+    have_common(graph.groups(link), graph.groups(other))
+}
+
+/// Whether the link fails in the case.
+pub(crate) fn fails(graph: &Graph, case: Case, link: LinkNo) -> bool
+    requires case { IsCase graph.now case }
+    requires link { link.0 < link_count graph.now }
+    ensures { IsTrue result ↔ FailsWith graph.now case.kind case.link.0 link.0 }
+{
+    let protected = case.link;
+    match case.kind {
+        Kind::Link => is_pair(&graph.link(link).key, &graph.link(protected).key),
+        Kind::Node => touches(graph, link, graph.edge(protected).to),
+        Kind::Risk => {
+            is_pair(&graph.link(link).key, &graph.link(protected).key)
+                || touches(graph, link, graph.edge(protected).from)
+                    && share_group(graph, link, protected)
+        }
+    }
+}
+
+/// Whether a link of this key fails in the case.
+fn is_failing_key(graph: &Graph, case: Case, key: &LinkKey) -> bool
+    requires { IsCase graph.now case }
+    ensures { IsTrue result ↔ IsFailingKey graph.now case key.now }
+{
+    match graph.find(key) {
+        Some(link) => fails(graph, case, link),
+        None => false,
+    }
+}
+
+/// Whether the key is of the pair of a link that fails in the case.
+pub(crate) fn is_of_failing_pair(graph: &Graph, case: Case, key: &LinkKey) -> bool
+    requires { IsCase graph.now case }
+    ensures { IsTrue result ↔ IsOfFailingPair graph.now case key.now }
+{
+    is_failing_key(graph, case, key) || is_failing_key(graph, case, &key.mirrored())
 }

@@ -6,7 +6,9 @@ ghost use Rattle.sr_graph.specs.Draft.{IsDraft};
 ghost use Rattle.sr_model.specs.Rule.{AreAnnounced};
 ghost use Rattle.sr_model.specs.Case.{IsCase};
 ghost use Rattle.sr_spf.specs.Trees.{tree_count, AreTrees};
+ghost use Rattle.sr_post.specs.Post.{IsPost};
 ghost use Rattle.sr_delta.specs.Changes.{AreChanges};
+ghost use Rattle.sr_delta.specs.KeptTrees.{AreKeptTrees};
 
 use crate::alike::Alike;
 use crate::changed::changed_links;
@@ -16,7 +18,7 @@ use crate::{Change, Changes, OldCase, case_stays, changes, tree_stays};
 use sr_graph::{Draft, DraftLink, Graph};
 use sr_labels::{Net, NodeLabels, Srgb, first_clash};
 use sr_model::{Case, Ident, Kind, LinkKey, LinkNo, NodeNo, Range, SystemId};
-use sr_post::{post, walks};
+use sr_post::{Post, post};
 use sr_seq::Seq;
 use sr_spf::{Steps, Trees};
 use std::alloc::{AllocError, Global};
@@ -108,7 +110,7 @@ fn changes_of(alloc: Global, old: &Graph, new: &Graph) -> Result<Option<Changes>
     let there = partners(alloc, old, new)?;
     let back = partners(alloc, new, old)?;
     let links = changed_links(alloc, old, new, &there, &back)?;
-    Ok(Some(Changes::new(old.node_count(), true, links, there, Alike::none())))
+    Ok(Some(Changes::new(old.node_count(), true, links, there, back, Alike::none())))
 }
 
 /// The metric from 1 to 3 goes from 3 to 2. Only the distances from node 1 are touched: that to 3 is 2 too, by way of 2
@@ -188,47 +190,70 @@ fn net_of(alloc: Global, graph: Graph) -> Result<Option<Net>, Fail> {
     }
 }
 
-/// Whether the case stays. What its failure leaves is counted from nothing.
-fn stays_from<L: Ledger>(
+/// What the failure of the case leaves, counted from nothing.
+fn left_from<L: Ledger>(
+    alloc: Global,
+    net: &Net,
+    trees: &Trees,
+    case: Case,
+    blank: Blank,
+) -> Result<Post, AllocError>
+    requires name { blank.name ≡ L.name }
+    requires parts { (blank.parts ≡ L.parts) × (0 < L.parts) }
+    requires trees { AreTrees net.now.graph trees.now }
+    requires case { IsCase net.now.graph case }
+    ensures { IfOk result (IsPost net.now case) }
+{
+    let mut steps = Steps::<L>::new(blank);
+    post(alloc, net, trees, case, &mut steps)
+}
+
+/// What the failure of the case leaves.
+fn left_of(alloc: Global, net: &Net, trees: &Trees, case: Case) -> Result<Post, AllocError>
+    requires trees { AreTrees net.now.graph trees.now }
+    requires case { IsCase net.now.graph case }
+    ensures { IfOk result (IsPost net.now case) }
+{
+    left_from::<Brand>(alloc, net, trees, case, Blank::new(1))
+}
+
+/// For each node of the old net, whether its tree stays.
+fn kept_of(
     alloc: Global,
     changes: &Changes,
     old: &Net,
     trees: &Trees,
     new: &Net,
-    case: Case,
-    blank: Blank,
-) -> Result<bool, AllocError>
-    requires name { blank.name ≡ L.name }
-    requires parts { (blank.parts ≡ L.parts) × (0 < L.parts) }
+) -> Result<Vec<bool>, AllocError>
     requires changes { AreChanges old.now new.now changes.now }
     requires trees { AreTrees old.now.graph trees.now }
-    requires case { IsCase old.now.graph case }
+    ensures { IfOk result (λ list. AreKeptTrees old.now new.now list.items) }
 {
-    let mut steps = Steps::<L>::new(blank);
-    let left = post(alloc, old, trees, case, &mut steps)?;
-    let marks = walks(alloc, old, trees, &left, case)?;
-    case_stays(
-        alloc,
-        changes,
-        &OldCase::new(old, trees, case, &left, &marks),
-        new,
-    )
+    let mut list = Vec::new(alloc);
+    for u in 0..old.graph().node_count() as u16 {
+        list.push(tree_stays(changes, trees, NodeNo(u)))?;
+    }
+    Ok(list)
 }
 
 /// Whether the case stays.
 fn stays(
     alloc: Global,
     changes: &Changes,
+    kept: &[bool],
     old: &Net,
     trees: &Trees,
     new: &Net,
     case: Case,
 ) -> Result<bool, AllocError>
     requires changes { AreChanges old.now new.now changes.now }
+    requires kept { AreKeptTrees old.now new.now kept.now }
     requires trees { AreTrees old.now.graph trees.now }
     requires case { IsCase old.now.graph case }
 {
-    stays_from::<Brand>(alloc, changes, old, trees, new, case, Blank::new(1))
+    let left = left_of(alloc, old, trees, case)?;
+    let old_case = OldCase::new(old, trees, case, left.cells());
+    case_stays(alloc, changes, kept, &old_case, new)
 }
 
 /// Each case that protects the link from 3 to 1 stays, and so does each node case in which node 1 fails. No other does.
@@ -239,11 +264,20 @@ fn cases_stay_that_the_metric_does_not_touch(rt: HostRuntime) -> Result<(), Fail
     let new = net_of(alloc, Graph::build(alloc, ring_with_chord(alloc, 2)?)?)?.ok_or("a clash")?;
     let trees = trees_of(&rt, alloc, old.graph())?;
     let found = changes(alloc, &old, &new)?;
+    let kept_trees = kept_of(alloc, &found, &old, &trees, &new)?;
     for l in 0..old.graph().link_count() as u16 {
         for kind in [Kind::Link, Kind::Node, Kind::Risk] {
             let link = LinkNo(l);
             let wanted = l == 5 || (kind == Kind::Node && (l == 3 || l == 8));
-            let kept = stays(alloc, &found, &old, &trees, &new, Case { kind, link })?;
+            let kept = stays(
+                alloc,
+                &found,
+                &kept_trees,
+                &old,
+                &trees,
+                &new,
+                Case { kind, link },
+            )?;
             assert!(rt; kept == wanted, "link {l}");
         }
     }

@@ -1,15 +1,29 @@
-use Rattle.std.proofs.Common.{◌↔◌, IsTrue}
-use Rattle.sr_model.specs.Stay.{HaveSamePairs, case_with}
-use Rattle.sr_model.specs.Case.{IsFailedSet}
-use Rattle.sr_delta.specs.Cases.{HaveSameFailures}
-use Rattle.sr_delta.proofs.CaseLemmas.{failures-both}
+use Rattle.std.proofs.Common.{◌≡◌, ◌↔◌, true, refl, ap, sym, ◌∙◌}
+use Rattle.sr_model.specs.declared.case.Case.{Case}
+use Rattle.sr_model.specs.declared.case.Kind.TheVariants.{Link as LinkKind, Node as NodeKind}
+use Rattle.sr_model.specs.Graph.{Graph, head, link_at, IsLink}
+use Rattle.sr_model.specs.Stay.{case_with}
+use Rattle.sr_lanes.specs.Bits.{is_in}
+use Rattle.sr_delta.specs.Pairs.{HaveSamePairsAt, HaveSameFailures}
+use Rattle.sr_delta.proofs.FailureLemmas.{link-same, node-same}
 use Rattle.sr_delta.proofs.cases.have_same_failures.Goals as goal
 
-pub returns : goal.returns
-returns c =
-    let failed : IsFailedSet c.args.new.now.graph (case_with c.args.old.now.case c.args.link) c.in_ok-failed.failed = rw (c.graph-graph.ensures.value, c.case-kind.ensures.case) at c.in_ok-failed.ensures in
-    let both : HaveSamePairs c.args.old.now.net.graph c.args.old.now.post.failed c.args.new.now.graph c.in_ok-failed.failed ↔ HaveSameFailures c.args.old.now c.args.new.now c.args.link =
-    failures-both c.args.old.now c.args.new.now c.args.link c.in_ok-failed.failed failed in
-    let is : IsTrue c.have_same_pairs.result ↔ HaveSamePairs c.args.old.now.net.graph c.args.old.now.post.failed c.args.new.now.graph c.in_ok-failed.failed =
-    rw (c.graph.ensures.graph, c.failed-2.ensures, c.post.ensures.post, c.graph-graph.ensures.value) at c.have_same_pairs.ensures in
-    (λ yes'. both.0 (is.0 yes'), λ same. is.1 (both.1 same))
+pub returns-in-Link : goal.returns-in-Link
+returns-in-Link c =
+    let case : Case = c.args.old.now.case in
+    let kind : case.kind ≡ LinkKind = sym (ap (λ (k : Case). k.kind) c.case-case.ensures.case) ∙ c.in-Link.is in
+    (λ is. link-same c.args.old.now.net.graph case c.args.new.now.graph (case_with case c.args.link) kind kind c.requires.name, λ same. refl)
+
+pub returns-in-Node : goal.returns-in-Node
+returns-in-Node c =
+    let case : Case = c.args.old.now.case in
+    let g : Graph = c.args.old.now.net.graph in
+    let h : Graph = c.args.new.now.graph in
+    let kind : case.kind ≡ NodeKind = sym (ap (λ (k : Case). k.kind) c.case-case.ensures.case) ∙ c.in-Node.is in
+    let at : c.edge.result.to.0 ≡ head g case.link.0 = rw (c.graph.ensures.graph, c.case-case.ensures.case) at c.edge.ensures.to in
+    let set : c.has.result ≡ is_in c.args.changes.now.alike.pairs (head g case.link.0) = rw (at, c.pairs_alike.ensures) at c.has.ensures in
+    let ends : IsLink g (link_at g case.link.0) = c.requires.changes.old.graph.each case.link.0 c.requires.name.0 in
+    let pairs : (is_in c.args.changes.now.alike.pairs (head g case.link.0) ≡ true) ↔ HaveSamePairsAt g h (head g case.link.0) = (c.requires.changes.alike c.requires.same).pairs.each (head g case.link.0) ends.1 in
+    let both : HaveSamePairsAt g h (head g case.link.0) ↔ HaveSameFailures g case h (case_with case c.args.link) =
+    node-same g h c.requires.changes.old.graph c.requires.changes.new.graph c.requires.changes.old.named c.requires.changes.new.named (c.requires.changes.nodes.0 c.requires.same) case (case_with case c.args.link) kind kind c.requires.name in
+    (λ is. both.0 (pairs.0 (sym set ∙ is)), λ same. set ∙ pairs.1 (both.1 same))

@@ -1,23 +1,16 @@
-use Rattle.std.proofs.Common.{◌<◌, arith}
 use Rattle.sr_model.specs.Graph.{node_count}
-use Rattle.sr_delta.specs.Cases.{IsEndAlike}
-use Rattle.sr_delta.proofs.PairLemmas.{each-up}
+use Rattle.sr_delta.proofs.AlikeLemmas.{none-missing}
 use Rattle.sr_delta.proofs.ends.are_ends_alike.Goals as goal
 
-pub is_end_alike-requires-clause-few : goal.is_end_alike-requires-clause-few
-is_end_alike-requires-clause-few c = omega (arith, c.loop-d-test.true, c.node_count-d-end.ensures.count, c.node_count-d-end.ensures.graph.few_nodes)
+pub returns-then-is_empty : goal.returns-then-is_empty
+returns-then-is_empty c = λ m changes same. (
+  λ is d lt led. ((changes.alike same).indexed.each d lt).0
+      (none-missing c.below-nodes.result c.args.changes.now.alike.indexed c.and_not.result (node_count c.args.old.now.net.graph)
+      (rw (c.node_count.ensures.count, c.graph.ensures.graph) at c.below-nodes.ensures)
+      (rw c.indexed_alike.ensures at c.and_not.ensures)
+      (c.is_empty.ensures.0 (let one = c.if-is_empty.true in cc)) d lt),
+  λ all. cc,
+)
 
-pub returns-then-not-is_end_alike : goal.returns-then-not-is_end_alike
-returns-then-not-is_end_alike c = λ m changes same.
-    let within : c.loop-d.d < node_count c.args.old.now.net.graph = omega (arith, c.loop-d-test.true, rw c.graph.ensures.graph at c.node_count-d-end.ensures.count) in (
-      λ is. absurd (cc),
-      λ all. let this = (c.is_end_alike.ensures m changes same).1 (all c.loop-d.d within) in let not = c.if-not-is_end_alike.true in cc,
-    )
-
-pub loop-d-preserved : goal.loop-d-preserved
-loop-d-preserved c = λ m changes same.
-    each-up
-    (λ k. IsEndAlike c.args.old.now.net m c.args.old.now.case k)
-    c.loop-d.d
-    (c.loop-d.invariant m changes same)
-    ((c.is_end_alike.ensures m changes same).0 (let not = c.if-not-is_end_alike.false in cc))
+pub returns-else-is_empty : goal.returns-else-is_empty
+returns-else-is_empty c = λ m changes same. c.is_each_end_alike.ensures m changes same
