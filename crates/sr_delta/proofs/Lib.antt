@@ -6,3 +6,4 @@ pub mod PairLemmas
 pub mod FailureLemmas
 pub mod CaseLemmas
 pub mod TestLemmas
+pub mod KeptLemmas

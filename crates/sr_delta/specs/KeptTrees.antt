@@ -1,10 +1,14 @@
--- Which trees of an old net stay.
+-- The trees that stay.
 use Rattle.std.specs.Prelude.{◌≡◌, ◌↔◌, ℕ, ◌<◌, Bool, true, List, length}
 use Rattle.sr_model.specs.Graph.{node_count, has}
 use Rattle.sr_model.specs.Label.{Net}
 use Rattle.sr_model.specs.Stay.{IsKeptTree}
 
--- the tests tell, for each node of the old net, whether its tree stays
-pub record AreKeptTrees (n m : Net) (list : List Bool) : Type 0 where
-  pub long : length list ≡ node_count n.graph
-  pub each : (u : ℕ) → u < node_count n.graph → has list u ≡ true ↔ IsKeptTree n.graph m.graph u
+-- of the nodes below this number those are marked whose trees stay
+pub record AreKeptBelow (n m : Net) (count : ℕ) (marks : List Bool) : Type 0 where
+  pub long : length marks ≡ count
+  pub each : (u : ℕ) → u < count → (has marks u ≡ true) ↔ IsKeptTree n.graph m.graph u
+
+-- just the nodes are marked whose trees stay
+abbrev pub AreKeptTrees : Net → Net → List Bool → Type 0
+AreKeptTrees n m marks = AreKeptBelow n m (node_count n.graph) marks

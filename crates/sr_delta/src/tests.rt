@@ -14,7 +14,7 @@ use crate::alike::Alike;
 use crate::changed::changed_links;
 use crate::nodes::same_nodes;
 use crate::partners::partners;
-use crate::{Change, Changes, OldCase, case_stays, changes, tree_stays};
+use crate::{Change, Changes, OldCase, case_stays, changes, kept_trees, tree_stays};
 use sr_graph::{Draft, DraftLink, Graph};
 use sr_labels::{Net, NodeLabels, Srgb, first_clash};
 use sr_model::{Case, Ident, Kind, LinkKey, LinkNo, NodeNo, Range, SystemId};
@@ -229,11 +229,7 @@ fn kept_of(
     requires trees { AreTrees old.now.graph trees.now }
     ensures { IfOk result (λ list. AreKeptTrees old.now new.now list.items) }
 {
-    let mut list = Vec::new(alloc);
-    for u in 0..old.graph().node_count() as u16 {
-        list.push(tree_stays(changes, trees, NodeNo(u)))?;
-    }
-    Ok(list)
+    kept_trees(alloc, changes, trees)
 }
 
 /// Whether the case stays.
@@ -264,7 +260,7 @@ fn cases_stay_that_the_metric_does_not_touch(rt: HostRuntime) -> Result<(), Fail
     let new = net_of(alloc, Graph::build(alloc, ring_with_chord(alloc, 2)?)?)?.ok_or("a clash")?;
     let trees = trees_of(&rt, alloc, old.graph())?;
     let found = changes(alloc, &old, &new)?;
-    let kept_trees = kept_of(alloc, &found, &old, &trees, &new)?;
+    let marks = kept_of(alloc, &found, &old, &trees, &new)?;
     for l in 0..old.graph().link_count() as u16 {
         for kind in [Kind::Link, Kind::Node, Kind::Risk] {
             let link = LinkNo(l);
@@ -272,7 +268,7 @@ fn cases_stay_that_the_metric_does_not_touch(rt: HostRuntime) -> Result<(), Fail
             let kept = stays(
                 alloc,
                 &found,
-                &kept_trees,
+                &marks,
                 &old,
                 &trees,
                 &new,
