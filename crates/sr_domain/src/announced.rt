@@ -32,7 +32,7 @@ pub(crate) fn first_id(node: SystemId) -> LspId
 }
 
 /// Whether the node's LSP with pseudonode 0 and fragment 0 is live.
-pub(crate) fn is_present(facts: &Facts, node: SystemId) -> bool
+pub fn is_present(facts: &Facts, node: SystemId) -> bool
     ensures { result ≡ is_present_in facts.now node }
 {
     match facts.database.get(&first_id(node)) {
@@ -101,7 +101,7 @@ fn lesser(found: Option<u32>, label: u32) -> Option<u32>
 }
 
 /// The least label whose flag B is as asked.
-fn least_label(backup: bool, sids: &[AdjSid]) -> Option<u32>
+pub fn least_label(backup: bool, sids: &[AdjSid]) -> Option<u32>
     ensures { result ≡ least (adj_sid_labels backup sids.now) }
 {
     let mut found = None;
@@ -125,7 +125,7 @@ fn adj_label(sids: &[AdjSid]) -> Option<u32>
 }
 
 /// The announcement that the part is, if it counts.
-fn announced_by(node: SystemId, part: &Part) -> Option<Announcement>
+pub fn announced_by(node: SystemId, part: &Part) -> Option<Announcement>
     ensures { result ≡ announced_by node part.now }
 {
     match part {

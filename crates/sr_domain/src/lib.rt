@@ -20,8 +20,11 @@ mod tests;
 mod topology;
 mod two_way;
 
+pub use announced::{Announcement, announced_by, is_present, least_label};
 pub use fault::DomainFault;
 pub use laws::{
     adjacency_labels_are_the_least, nets_are_determined, node_sids_are_the_first_least,
 };
+pub use links::{FoundLink, link_by};
 pub use net::net_of;
+pub use two_way::{holds, keys_of};

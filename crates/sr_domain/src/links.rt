@@ -11,7 +11,7 @@ use std::alloc::{AllocError, Global};
 
 /// A link as it is found: its key, its effective metric, and its adjacency label.
 #[derive(Clone, Copy, Debug, PartialEq, Eq)]
-pub(crate) struct FoundLink {
+pub struct FoundLink {
     pub key: LinkKey,
     pub metric: u32,
     pub label: Option<u32>,
@@ -28,7 +28,7 @@ fn effective_metric(facts: &Facts, announcement: &Announcement) -> u32
 }
 
 /// The link of a two-way announcement, if it is in use.
-fn link_by(facts: &Facts, announcement: &Announcement) -> Option<FoundLink>
+pub fn link_by(facts: &Facts, announcement: &Announcement) -> Option<FoundLink>
     ensures { result ≡ link_by facts.now announcement.now }
 {
     let metric = effective_metric(facts, announcement);

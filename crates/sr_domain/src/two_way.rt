@@ -21,10 +21,7 @@ fn key_list(alloc: Global, announcements: &[Announcement]) -> Result<Vec<LinkKey
 }
 
 /// The distinct keys of these announcements, ascending.
-pub(crate) fn keys_of(
-    alloc: Global,
-    announcements: &[Announcement],
-) -> Result<Vec<LinkKey>, AllocError>
+pub fn keys_of(alloc: Global, announcements: &[Announcement]) -> Result<Vec<LinkKey>, AllocError>
     ensures { IfOk result (λ v. AreKeysOf announcements.now v.items) }
 {
     let mut keys = key_list(alloc, announcements)?;
@@ -34,7 +31,7 @@ pub(crate) fn keys_of(
 }
 
 /// Whether the key is among these.
-fn holds(keys: &[LinkKey], key: &LinkKey) -> bool
+pub fn holds(keys: &[LinkKey], key: &LinkKey) -> bool
     requires { IsStrictlySortedBy key_cmp keys.now }
     ensures { result ≡ list_any (same_key key.now) keys.now }
 {
