@@ -1,0 +1,102 @@
+-- A link has one answer, and each answer delivers.
+use Rattle.std.proofs.Common.{◌≡◌, ◌≢◌, ℕ, ◌+◌, ◌<◌, ◌≤◌, Bool, true, false, List, [], reverse, refl, arith, ap, sym, ◌∙◌, subst, Option, None}
+use Rattle.std.specs.Prelude.{is_some}
+use Rattle.std.proofs.lemmas.Bool.{false≢true}
+use Rattle.std.proofs.lemmas.List.{reverse-reverse}
+use Rattle.sr_model.specs.declared.link.LinkNo.{LinkNo}
+use Rattle.sr_model.specs.declared.repair.Answer.{Answer}
+use Rattle.sr_model.specs.declared.repair.Answer.TheVariants.{Least}
+use Rattle.sr_model.specs.declared.repair.RepairList.{RepairList}
+use Rattle.sr_model.specs.Audit.{is_least}
+use Rattle.sr_model.specs.Graph.{link_count, tail, head, metric, link_at, IsLink}
+use Rattle.sr_model.specs.Walk.{cost}
+use Rattle.sr_model.specs.Case.{IsAffected}
+use Rattle.sr_model.specs.Label.{Net, labels_at}
+use Rattle.sr_model.specs.Rule.{IsNet}
+use Rattle.sr_model.specs.Forward.{IsStack}
+use Rattle.sr_walks.proofs.Distances.{distance-unique}
+use Rattle.sr_laws.proofs.Answers.{case-answer-one}
+use Rattle.sr_laws.proofs.Packets.{packet-delivers}
+use Rattle.sr_laws.proofs.Stacks.{label-same, stack-one}
+use Rattle.sr_laws.proofs.Steering.{steered-avoids}
+use Rattle.sr_repair.proofs.DeliveryLemmas.{stack-delivers}
+use Rattle.sr_adjprot.specs.declared.answer.AdjAnswer.{AdjAnswer}
+use Rattle.sr_adjprot.specs.declared.answer.AdjAnswer.TheVariants.{Unprotected, NoIndex, Steer, Repair, Uncovered}
+use Rattle.sr_adjprot.specs.Active.{adj_case, IsOwnHop, IsRedirected, IsAdjAnswer}
+use Rattle.sr_adjprot.specs.Delivery.{AdjDelivers}
+
+-- an index that is there isn't missing
+some_not_none : (index : Option ℕ) → index ≡ None → is_some index ≡ true → ⊥
+some_not_none index none some = false≢true (sym (ap is_some none) ∙ some)
+
+-- the lists and stacks of one answer are the same
+repair_same : (n : Net) (l : LinkNo) (a b : RepairList) (labels more : List ℕ) → IsRedirected n l (Least a) → IsRedirected n l (Least b) → IsStack n (head n.graph l.0) a.first.0 a.segments (reverse labels) → IsStack n (head n.graph l.0) b.first.0 b.segments (reverse more) → Repair a labels ≡ Repair b more
+repair_same n l a b labels more p q s t =
+    let lists : a ≡ b = same a b (case-answer-one n (adj_case l) (head n.graph l.0) (Least a) (Least b) p.answer_is q.answer_is) in
+    let moved : IsStack n (head n.graph l.0) b.first.0 b.segments (reverse labels) = subst (λ (list : RepairList). IsStack n (head n.graph l.0) list.first.0 list.segments (reverse labels)) lists s in
+    let stacks : labels ≡ more = sym (reverse-reverse labels) ∙ ap reverse (stack-one n (head n.graph l.0) b.first.0 b.segments (reverse labels) (reverse more) moved t) ∙ reverse-reverse more in
+    cc
+  where
+    same : (x y : RepairList) → Least x ≡ Least y → x ≡ y
+    same x y e = cc
+
+-- an answer that isn't a list isn't the list
+not_list : (n : Net) (l : LinkNo) (a : RepairList) (b : Answer) → IsRedirected n l (Least a) → IsRedirected n l b → is_least b ≡ false → ⊥
+not_list n l a b p q e = false≢true (sym e ∙ ap is_least (case-answer-one n (adj_case l) (head n.graph l.0) b (Least a) q.answer_is p.answer_is))
+
+pub adj-answer-one : (n : Net) (eligible : List Bool) (l : LinkNo) (one two : AdjAnswer) → IsAdjAnswer n eligible l one → IsAdjAnswer n eligible l two → one ≡ two
+adj-answer-one n e l Unprotected Unprotected p q = refl
+adj-answer-one n e l Unprotected NoIndex p q = absurd (false≢true (sym p ∙ q.0))
+adj-answer-one n e l Unprotected (Steer t c) p q = absurd (false≢true (sym p ∙ q.0.marked))
+adj-answer-one n e l Unprotected (Repair list ts) p q = absurd (false≢true (sym p ∙ q.0.marked))
+adj-answer-one n e l Unprotected (Uncovered a) p q = absurd (false≢true (sym p ∙ q.0.marked))
+adj-answer-one n e l NoIndex Unprotected p q = absurd (false≢true (sym q ∙ p.0))
+adj-answer-one n e l NoIndex NoIndex p q = refl
+adj-answer-one n e l NoIndex (Steer t c) p q = absurd (some_not_none (labels_at n (head n.graph l.0)).index p.1 q.0.index)
+adj-answer-one n e l NoIndex (Repair list ts) p q = absurd (some_not_none (labels_at n (head n.graph l.0)).index p.1 q.0.index)
+adj-answer-one n e l NoIndex (Uncovered a) p q = absurd (some_not_none (labels_at n (head n.graph l.0)).index p.1 q.0.index)
+adj-answer-one n e l (Steer t c) Unprotected p q = absurd (false≢true (sym q ∙ p.0.marked))
+adj-answer-one n e l (Steer t c) NoIndex p q = absurd (some_not_none (labels_at n (head n.graph l.0)).index q.1 p.0.index)
+adj-answer-one n e l (Steer t c) (Steer s d) p q =
+    let labels : t ≡ s = label-same n (tail n.graph l.0) (head n.graph l.0) t s p.1.label_is q.1.label_is in
+    let costs : c ≡ d = distance-unique n.graph [] (tail n.graph l.0) (head n.graph l.0) c d p.1.distance q.1.distance in
+    cc
+adj-answer-one n e l (Steer t c) (Repair list ts) p q = absurd (p.1.aside q.1.hop)
+adj-answer-one n e l (Steer t c) (Uncovered a) p q = absurd (p.1.aside q.1.hop)
+adj-answer-one n e l (Repair list ts) Unprotected p q = absurd (false≢true (sym q ∙ p.0.marked))
+adj-answer-one n e l (Repair list ts) NoIndex p q = absurd (some_not_none (labels_at n (head n.graph l.0)).index q.1 p.0.index)
+adj-answer-one n e l (Repair list ts) (Steer t c) p q = absurd (q.1.aside p.1.hop)
+adj-answer-one n e l (Repair list ts) (Repair other us) p q = repair_same n l list other ts us p.1 q.1 p.2 q.2
+adj-answer-one n e l (Repair list ts) (Uncovered a) p q = absurd (not_list n l list a p.1 q.1 q.2)
+adj-answer-one n e l (Uncovered a) Unprotected p q = absurd (false≢true (sym q ∙ p.0.marked))
+adj-answer-one n e l (Uncovered a) NoIndex p q = absurd (some_not_none (labels_at n (head n.graph l.0)).index q.1 p.0.index)
+adj-answer-one n e l (Uncovered a) (Steer t c) p q = absurd (q.1.aside p.1.hop)
+adj-answer-one n e l (Uncovered a) (Repair list ts) p q = absurd (not_list n l list a q.1 p.1 p.2)
+adj-answer-one n e l (Uncovered a) (Uncovered b) p q = ap Uncovered (case-answer-one n (adj_case l) (head n.graph l.0) a b p.1.answer_is q.1.answer_is)
+
+-- a link that is a next hop towards its own end doesn't lead back to its beginning
+ends_apart : (n : Net) → IsNet n → (l : LinkNo) → l.0 < link_count n.graph → IsOwnHop n l → head n.graph l.0 ≢ tail n.graph l.0
+ends_apart n r l within hop same =
+    let link : IsLink n.graph (link_at n.graph l.0) = r.graph.each l.0 within in
+    let costs : 0 < metric n.graph l.0 = link.2 in
+    let none : metric n.graph l.0 + cost n.graph hop.more ≤ 0 = hop.shortest.1 [] (sym same) in
+    omega arith
+
+-- its end is affected in the link case
+pub end-affected : (n : Net) → IsNet n → (l : LinkNo) → l.0 < link_count n.graph → is_some (labels_at n (head n.graph l.0)).index ≡ true → IsOwnHop n l → IsAffected n (adj_case l) (head n.graph l.0)
+end-affected n r l within index hop = record {
+  index = index;
+  outside = record { source = ends_apart n r l within hop; failed = λ e. absurd (cc) };
+  hop = hop;
+}
+
+pub adj-delivers : (n : Net) → IsNet n → (eligible : List Bool) (l : LinkNo) (answer : AdjAnswer) → l.0 < link_count n.graph → IsAdjAnswer n eligible l answer → AdjDelivers n l answer
+adj-delivers n r e l Unprotected within a = tt
+adj-delivers n r e l NoIndex within a = tt
+adj-delivers n r e l (Steer label c) within a = λ x set rest ms v after run.
+    packet-delivers n r x (tail n.graph l.0) (head n.graph l.0) label c (r.graph.each l.0 within).0
+    (steered-avoids n.graph r.graph r.named (adj_case l) within refl x set c a.1.distance a.1.aside)
+    a.1.distance a.1.label_is rest ms v after run
+adj-delivers n r e l (Repair list labels) within a =
+    stack-delivers n r (adj_case l) (head n.graph l.0) list (reverse labels) within (end-affected n r l within a.0.index a.1.hop) a.1.answer_is a.2
+adj-delivers n r e l (Uncovered answer) within a = tt

@@ -1,0 +1,284 @@
+-- The labels that may be protected: from announcements in lists to the links of the net.
+use Rattle.std.proofs.Common.{◌≡◌, ℕ, zero, suc, ◌<◌, ⊎_elim, Bool, true, false, cond, not, List, [], ◌∷◌, length, get_or, filter, refl, arith, ap, sym, ◌∙◌, subst, Option, Some, None}
+use Rattle.std.specs.Prelude.{Contains, MatchOption, slice_get, is_some, ◌&&◌, ◌==◌}
+use Rattle.std.specs.Cmp.{Equal-is}
+use Rattle.std.specs.List.{filter_map}
+use Rattle.std.specs.Option.{IsSomeAnd}
+use Rattle.std.specs.Ordering.{is_eq}
+use Rattle.std.proofs.lemmas.Bool.{false≢true}
+use Rattle.std.proofs.lemmas.Cmp.{tied_itself}
+use Rattle.std.proofs.lemmas.List.Elements.{Contains-append_left, Contains-append_right, Contains-append_cases}
+use Rattle.std.proofs.lemmas.List.Sorted.{IsPermutation-sym, Contains-permutation}
+use Rattle.std.proofs.lemmas.Option.{same_Some}
+use Rattle.sr_model.specs.declared.link.Link.{Link}
+use Rattle.sr_model.specs.declared.name.LinkKey.{LinkKey}
+use Rattle.sr_model.specs.Key.{mirror}
+use Rattle.sr_model.specs.KeyOrder.{key_cmp, same_key}
+use Rattle.sr_model.proofs.KeyOrderLemmas.{key_total, key-from_cmp}
+use Rattle.sr_model.specs.Graph.{no_link, link_count, link_at}
+use Rattle.sr_model.specs.Case.{key_at}
+use Rattle.sr_model.specs.Label.{Net, adj_at}
+use Rattle.sr_laws.proofs.Keys.{key-one}
+use Rattle.sr_subtlv.specs.declared.adj_sid.AdjSid.{AdjSid}
+use Rattle.sr_lsp.specs.declared.lsp.LspId.{LspId}
+use Rattle.sr_lsp.specs.declared.reach.Reach.{Reach as ReachPart}
+use Rattle.sr_lsp.specs.declared.table.Part.{Part}
+use Rattle.sr_lsp.specs.declared.table.Part.TheVariants.{Reach}
+use Rattle.sr_lsdb.specs.declared.facts.Stored.{Stored}
+use Rattle.sr_lsdb.specs.declared.facts.Facts.{Facts}
+use Rattle.sr_domain.specs.declared.announced.Announcement.{Announcement}
+use Rattle.sr_domain.specs.declared.links.FoundLink.{FoundLink}
+use Rattle.sr_domain.specs.Announced.{counts, parts_of, announced_by, announcement_of, announced_in, announcements_of, is_announced, two_way_of, adj_label, adj_sid_labels, least, lesser}
+use Rattle.sr_domain.specs.Least.{IsLeastNumber, IsAdjLabel}
+use Rattle.sr_domain.specs.Links.{is_in_use, link_by, link_of, links_of, labelled}
+use Rattle.sr_domain.specs.Net.{IsNetOf}
+use Rattle.sr_domain.proofs.FlatLemmas.{adj_label-least}
+use Rattle.sr_domain.proofs.KeyLemmas.{any-to, any-from}
+use Rattle.sr_domain.proofs.MemberLemmas.{here, later, cases, nowhere, picked-from, picked-to}
+use Rattle.sr_domain.proofs.NetLemmas.{found_as}
+use Rattle.sr_adjprot.specs.Eligible.{IsEligible}
+use Rattle.sr_adjprot.specs.Protected.{gives_backup, if_used, protected_by, protected_in, protected_of}
+
+-- ---- what a filter keeps
+
+filtered-from : {X : Type 0} (p : X → Bool) (xs : List X) (x : X) → Contains (filter p xs) x → Contains xs x × (p x ≡ true)
+filtered-from p [] x c = absurd (nowhere x c)
+filtered-from {X} p (y ∷ ys) x c = by (λ h. filtered-from p ys x h) (p y) refl c
+  where
+    by : (Contains (filter p ys) x → Contains ys x × (p x ≡ true)) → (b : Bool) → p y ≡ b → Contains (cond b (y ∷ filter p ys) (filter p ys)) x → Contains (y ∷ ys) x × (p x ≡ true)
+    by rest true e h = ⊎_elim
+        (λ (same : y ≡ x). (subst (λ (z : X). Contains (y ∷ ys) z) same (here y ys), ap p (sym same) ∙ e))
+        (λ (more : Contains (filter p ys) x). let r = rest more in (later y ys x r.0, r.1))
+        (cases y (filter p ys) x h)
+    by rest false e h = let r = rest h in (later y ys x r.0, r.1)
+
+filtered-to : {X : Type 0} (p : X → Bool) (xs : List X) (x : X) → Contains xs x → p x ≡ true → Contains (filter p xs) x
+filtered-to p [] x c e = absurd (nowhere x c)
+filtered-to {X} p (y ∷ ys) x c e = ⊎_elim
+    (λ (same : y ≡ x). subst (λ (b : Bool). Contains (cond b (y ∷ filter p ys) (filter p ys)) x) (sym (ap p same ∙ e)) (subst (λ (z : X). Contains (y ∷ filter p ys) z) same (here y (filter p ys))))
+    (λ (rest : Contains ys x). by (p y) (filtered-to p ys x rest e))
+    (cases y ys x c)
+  where
+    by : (b : Bool) → Contains (filter p ys) x → Contains (cond b (y ∷ filter p ys) (filter p ys)) x
+    by true h = later y (filter p ys) x h
+    by false h = h
+
+-- ---- keys
+
+same-from : (a b : LinkKey) → same_key a b ≡ true → a ≡ b
+same-from a b e = key-from_cmp a b ((Equal-is (key_cmp a b)).0 e)
+
+same-itself : (a : LinkKey) → same_key a a ≡ true
+same-itself a = ap is_eq (tied_itself key_total a)
+
+-- ---- announcements and their places in the database
+
+-- a live LSP that counts has this part
+pub record HasPart (facts : Facts) (entry : LspId × Stored) (part : Part) : Type 0 where
+  pub counted : counts facts entry.0 ≡ true
+  pub part_is : Contains (parts_of entry.1.live) part
+
+protected-from : (facts : Facts) (es : List (LspId × Stored)) (a : Announcement) → Contains (protected_in facts es) a → (entry : LspId × Stored) × (part : Part) × Contains es entry × HasPart facts entry part × (protected_by facts entry.0.system part ≡ Some a)
+protected-from facts [] a c = absurd (nowhere a c)
+protected-from facts (entry ∷ es) a c = ⊎_elim
+    (λ (first : Contains (cond (counts facts entry.0) (filter_map (protected_by facts entry.0.system) (parts_of entry.1.live)) []) a). by (counts facts entry.0) refl first)
+    (λ (more : Contains (protected_in facts es) a). let r = protected-from facts es a more in (r.0, r.1, later entry es r.0 r.2, r.3, r.4))
+    (Contains-append_cases (cond (counts facts entry.0) (filter_map (protected_by facts entry.0.system) (parts_of entry.1.live)) []) (protected_in facts es) a c)
+  where
+    by : (b : Bool) → counts facts entry.0 ≡ b → Contains (cond b (filter_map (protected_by facts entry.0.system) (parts_of entry.1.live)) []) a → (entry' : LspId × Stored) × (part : Part) × Contains (entry ∷ es) entry' × HasPart facts entry' part × (protected_by facts entry'.0.system part ≡ Some a)
+    by true e h = let p = picked-from (protected_by facts entry.0.system) (parts_of entry.1.live) a h in (entry, p.0, here entry es, record { counted = e; part_is = p.1 }, p.2)
+    by false e h = absurd (nowhere a h)
+
+protected-to : (facts : Facts) (es : List (LspId × Stored)) (entry : LspId × Stored) (part : Part) (a : Announcement) → Contains es entry → HasPart facts entry part → protected_by facts entry.0.system part ≡ Some a → Contains (protected_in facts es) a
+protected-to facts [] entry part a c has e = absurd (nowhere entry c)
+protected-to facts (x ∷ es) entry part a c has e = ⊎_elim
+    (λ (same : x ≡ entry). Contains-append_left (own x) (protected_in facts es) a (subst (λ (y : LspId × Stored). Contains (own y) a) (sym same) mine))
+    (λ (more : Contains es entry). Contains-append_right (own x) (protected_in facts es) a (protected-to facts es entry part a more has e))
+    (cases x es entry c)
+  where
+    own : LspId × Stored → List Announcement
+    own y = cond (counts facts y.0) (filter_map (protected_by facts y.0.system) (parts_of y.1.live)) []
+
+    mine : Contains (own entry) a
+    mine = subst (λ (b : Bool). Contains (cond b (filter_map (protected_by facts entry.0.system) (parts_of entry.1.live)) []) a) (sym has.counted) (picked-to (protected_by facts entry.0.system) (parts_of entry.1.live) part a has.part_is e)
+
+announced-to : (facts : Facts) (es : List (LspId × Stored)) (entry : LspId × Stored) (part : Part) (a : Announcement) → Contains es entry → HasPart facts entry part → announced_by entry.0.system part ≡ Some a → Contains (announced_in facts es) a
+announced-to facts [] entry part a c has e = absurd (nowhere entry c)
+announced-to facts (x ∷ es) entry part a c has e = ⊎_elim
+    (λ (same : x ≡ entry). Contains-append_left (own x) (announced_in facts es) a (subst (λ (y : LspId × Stored). Contains (own y) a) (sym same) mine))
+    (λ (more : Contains es entry). Contains-append_right (own x) (announced_in facts es) a (announced-to facts es entry part a more has e))
+    (cases x es entry c)
+  where
+    own : LspId × Stored → List Announcement
+    own y = cond (counts facts y.0) (filter_map (announced_by y.0.system) (parts_of y.1.live)) []
+
+    mine : Contains (own entry) a
+    mine = subst (λ (b : Bool). Contains (cond b (filter_map (announced_by entry.0.system) (parts_of entry.1.live)) []) a) (sym has.counted) (picked-to (announced_by entry.0.system) (parts_of entry.1.live) part a has.part_is e)
+
+-- ---- the links of the net
+
+labelled-from : (ls : List Link) (ts : List (Option ℕ)) (x : FoundLink) → Contains (labelled ls ts) x → (i : ℕ) × (i < length ls) × (x ≡ found_as (get_or ls i no_link) (get_or ts i None))
+labelled-from [] ts x c = absurd (nowhere x c)
+labelled-from (l ∷ ls) [] x c = absurd (nowhere x c)
+labelled-from (l ∷ ls) (t ∷ ts) x c = ⊎_elim
+    (λ (same : found_as l t ≡ x). (zero, omega arith, sym same))
+    (λ (rest : Contains (labelled ls ts) x). let r = labelled-from ls ts x rest in (suc r.0, (let lt : r.0 < length ls = r.1 in omega arith), r.2))
+    (cases (found_as l t) (labelled ls ts) x c)
+
+labelled-to : (ls : List Link) (ts : List (Option ℕ)) (i : ℕ) → length ts ≡ length ls → i < length ls → Contains (labelled ls ts) (found_as (get_or ls i no_link) (get_or ts i None))
+labelled-to [] ts i long lt = absurd (omega arith)
+labelled-to (l ∷ ls) [] i long lt = absurd (omega arith)
+labelled-to (l ∷ ls) (t ∷ ts) zero long lt = here (found_as l t) (labelled ls ts)
+labelled-to (l ∷ ls) (t ∷ ts) (suc i) long lt = later (found_as l t) (labelled ls ts) (found_as (get_or ls i no_link) (get_or ts i None)) (labelled-to ls ts i (omega arith) (omega arith))
+
+link-key : (facts : Facts) (a : Announcement) (x : FoundLink) → link_by facts a ≡ Some x → a.key ≡ x.key
+link-key facts a x e = by (is_in_use facts a) e
+  where
+    by : (b : Bool) → cond b (Some (link_of facts a)) None ≡ Some x → a.key ≡ x.key
+    by true h = ap (λ (l : FoundLink). l.key) (same_Some (link_of facts a) x h)
+    by false h = absurd (cc)
+
+-- the net takes the label of a link from its announcement in use
+taken : (facts : Facts) (net : Net) → IsNetOf facts net → (a : Announcement) (l : ℕ) → Contains (announcements_of facts) a → is_in_use facts a ≡ true → l < link_count net.graph → a.key ≡ key_at net.graph l → adj_at net l ≡ a.label
+taken facts net is a l there used within named =
+    let found : FoundLink = found_as (link_at net.graph l) (adj_at net l) in
+    let moved : Contains (links_of facts) found = Contains-permutation (labelled net.graph.links net.adj) (links_of facts) found (IsPermutation-sym (links_of facts) (labelled net.graph.links net.adj) is.links) (labelled-to net.graph.links net.adj l is.accepted.links within) in
+    let b = picked-from (link_by facts) (two_way_of facts) found moved in
+    let key : b.0.key ≡ key_at net.graph l = link-key facts b.0 found b.2 in
+    let test : Announcement → Bool = λ c. is_announced (announcements_of facts) (mirror c.key) in
+    let both : is_announced (announcements_of facts) (mirror b.0.key) ≡ true = (filtered-from test (announcements_of facts) b.0 b.1).1 in
+    let ours : is_announced (announcements_of facts) (mirror a.key) ≡ true = ap (λ (k : LinkKey). is_announced (announcements_of facts) (mirror k)) (named ∙ sym key) ∙ both in
+    let kept : Contains (two_way_of facts) a = filtered-to test (announcements_of facts) a there ours in
+    let link : link_by facts a ≡ Some (link_of facts a) = ap (λ (t : Bool). cond t (Some (link_of facts a)) None) used in
+    let stands : Contains (labelled net.graph.links net.adj) (link_of facts a) = Contains-permutation (links_of facts) (labelled net.graph.links net.adj) (link_of facts a) is.links (picked-to (link_by facts) (two_way_of facts) a (link_of facts a) kept link) in
+    let at = labelled-from net.graph.links net.adj (link_of facts a) stands in
+    let same : at.0 ≡ l = key-one net.graph is.accepted.named at.0 l at.1 within (ap (λ (x : FoundLink). x.key) (sym at.2) ∙ named) in
+    ap (adj_at net) (sym same) ∙ ap (λ (x : FoundLink). x.label) (sym at.2)
+
+-- ---- labels with the flag B
+
+none-there : (xs : List ℕ) → is_some (least xs) ≡ false → xs ≡ []
+none-there [] e = refl
+none-there (x ∷ xs) e = absurd (by (least xs) e)
+  where
+    by : (o : Option ℕ) → is_some (lesser o x) ≡ false → ⊥
+    by None h = false≢true (sym h)
+    by (Some y) h = false≢true (sym h)
+
+some-there : (xs : List ℕ) (k t : ℕ) → slice_get xs k ≡ Some t → is_some (least xs) ≡ true
+some-there [] k t e = absurd (cc)
+some-there (x ∷ xs) k t e = by (least xs)
+  where
+    by : (o : Option ℕ) → is_some (lesser o x) ≡ true
+    by None = refl
+    by (Some y) = refl
+
+both-parts : (p q : Bool) → (not p && q) ≡ true → (p ≡ false) × (q ≡ true)
+both-parts true q e = absurd (false≢true e)
+both-parts false q e = (refl, e)
+
+backup-label : (sids : List AdjSid) → gives_backup sids ≡ true → (adj_sid_labels false sids ≡ []) × IsSomeAnd (adj_label sids) (IsLeastNumber (adj_sid_labels true sids))
+backup-label sids e =
+    let parts : (is_some (least (adj_sid_labels false sids)) ≡ false) × (is_some (least (adj_sid_labels true sids)) ≡ true) = both-parts (is_some (least (adj_sid_labels false sids))) (is_some (least (adj_sid_labels true sids))) e in
+    let clear : adj_sid_labels false sids ≡ [] = none-there (adj_sid_labels false sids) parts.0 in
+    let is : IsAdjLabel sids (adj_label sids) = adj_label-least sids in
+    (clear, by (adj_label sids) (is.set clear) parts.1)
+  where
+    by : (o : Option ℕ) → MatchOption o (adj_sid_labels true sids ≡ []) (IsLeastNumber (adj_sid_labels true sids)) → is_some (least (adj_sid_labels true sids)) ≡ true → IsSomeAnd o (IsLeastNumber (adj_sid_labels true sids))
+    by None none some = absurd (false≢true (sym (ap (λ (xs : List ℕ). is_some (least xs)) none) ∙ some))
+    by (Some t) least some = least
+
+backup-gives : (sids : List AdjSid) (label : Option ℕ) → adj_sid_labels false sids ≡ [] → IsSomeAnd label (IsLeastNumber (adj_sid_labels true sids)) → gives_backup sids ≡ true
+backup-gives sids None clear is = absurd is
+backup-gives sids (Some t) clear is =
+    ap (λ (xs : List ℕ). not (is_some (least xs)) && is_some (least (adj_sid_labels true sids))) clear ∙ some-there (adj_sid_labels true sids) is.place t is.stands
+
+-- ---- parts
+
+-- what a part says that gives its link's label the flag B
+pub record IsBackupPart (facts : Facts) (node : ℕ) (part : Part) (a : Announcement) : Type 0 where
+  pub reach : ReachPart
+  pub part_is : part ≡ Reach reach
+  pub gives : gives_backup reach.adj ≡ true
+  pub announces : announced_by node (Reach reach) ≡ Some a
+  pub announced : announcement_of node reach ≡ a
+  pub used : is_in_use facts a ≡ true
+
+announced-is : (node : ℕ) (reach : ReachPart) (a : Announcement) → announced_by node (Reach reach) ≡ Some a → announcement_of node reach ≡ a
+announced-is node reach a e = by ((reach.pseudonode == 0) && not (reach.neighbour == node)) e
+  where
+    by : (t : Bool) → cond t (Some (announcement_of node reach)) None ≡ Some a → announcement_of node reach ≡ a
+    by true h = same_Some (announcement_of node reach) a h
+    by false h = absurd (cc)
+
+used-is : (facts : Facts) (o : Option Announcement) (a : Announcement) → if_used facts o ≡ Some a → (o ≡ Some a) × (is_in_use facts a ≡ true)
+used-is facts None a e = absurd (cc)
+used-is facts (Some b) a e = by (is_in_use facts b) refl e
+  where
+    by : (t : Bool) → is_in_use facts b ≡ t → cond t (Some b) None ≡ Some a → (Some b ≡ Some a) × (is_in_use facts a ≡ true)
+    by true u h = (h, ap (is_in_use facts) (sym (same_Some b a h)) ∙ u)
+    by false u h = absurd (cc)
+
+part-from : (facts : Facts) (node : ℕ) (part : Part) (a : Announcement) → protected_by facts node part ≡ Some a → IsBackupPart facts node part a
+part-from facts node (Reach reach) a e = by (gives_backup reach.adj) refl e
+  where
+    by : (t : Bool) → gives_backup reach.adj ≡ t → cond t (if_used facts (announced_by node (Reach reach))) None ≡ Some a → IsBackupPart facts node (Reach reach) a
+    by true g h = let u = used-is facts (announced_by node (Reach reach)) a h in record {
+      reach = reach;
+      part_is = refl;
+      gives = g;
+      announces = u.0;
+      announced = announced-is node reach a u.0;
+      used = u.1;
+    }
+    by false g h = absurd (cc)
+part-from facts node _ a e = absurd (cc)
+
+part-to : (facts : Facts) (node : ℕ) (reach : ReachPart) (a : Announcement) → gives_backup reach.adj ≡ true → announced_by node (Reach reach) ≡ Some a → is_in_use facts a ≡ true → protected_by facts node (Reach reach) ≡ Some a
+part-to facts node reach a gives announces used =
+    ap (λ (t : Bool). cond t (if_used facts (announced_by node (Reach reach))) None) gives
+    ∙ ap (if_used facts) announces
+    ∙ ap (λ (t : Bool). cond t (Some a) None) used
+
+-- ---- the two ways
+
+pub eligible-from : (facts : Facts) (net : Net) → IsNetOf facts net → (l : ℕ) → l < link_count net.graph → is_announced (protected_of facts) (key_at net.graph l) ≡ true → IsEligible facts net l
+eligible-from facts net is l within e =
+    let a = any-to (λ (b : Announcement). same_key (key_at net.graph l) b.key) (protected_of facts) e in
+    let named : a.0.key ≡ key_at net.graph l = sym (same-from (key_at net.graph l) a.0.key a.2) in
+    let at = protected-from facts facts.database a.0 a.1 in
+    made a.0 named at.0 at.1 at.2 at.3 (part-from facts at.0.0.system at.1 a.0 at.4)
+  where
+    made : (a : Announcement) → a.key ≡ key_at net.graph l → (entry : LspId × Stored) (part : Part) → Contains facts.database entry → HasPart facts entry part → IsBackupPart facts entry.0.system part a → IsEligible facts net l
+    made a named entry part stands has p =
+        let there : Contains (parts_of entry.1.live) (Reach p.reach) = subst (λ (x : Part). Contains (parts_of entry.1.live) x) p.part_is has.part_is in
+        let has' : HasPart facts entry (Reach p.reach) = record { counted = has.counted; part_is = there } in
+        let found : Contains (announcements_of facts) a = announced-to facts facts.database entry (Reach p.reach) a stands has' p.announces in
+        let backup = backup-label p.reach.adj p.gives in
+        let label : adj_at net l ≡ adj_label p.reach.adj = taken facts net is a l found p.used within named ∙ ap (λ (x : Announcement). x.label) (sym p.announced) in
+        record {
+          node = entry.0.system;
+          reach = p.reach;
+          announced = record {
+            id = entry.0;
+            stored = entry.1;
+            stands = stands;
+            counted = has.counted;
+            own = refl;
+            part = there;
+            announces = p.announces ∙ ap Some (sym p.announced);
+          };
+          used = ap (is_in_use facts) p.announced ∙ p.used;
+          named = ap (λ (x : Announcement). x.key) p.announced ∙ named;
+          clear = backup.0;
+          label = subst (λ (o : Option ℕ). IsSomeAnd o (IsLeastNumber (adj_sid_labels true p.reach.adj))) (sym label) backup.1;
+        }
+
+pub eligible-to : (facts : Facts) (net : Net) (l : ℕ) → IsEligible facts net l → is_announced (protected_of facts) (key_at net.graph l) ≡ true
+eligible-to facts net l is =
+    let a : Announcement = announcement_of is.node is.reach in
+    let gives : gives_backup is.reach.adj ≡ true = backup-gives is.reach.adj (adj_at net l) is.clear is.label in
+    let by_node : protected_by facts is.node (Reach is.reach) ≡ Some a = part-to facts is.node is.reach a gives is.announced.announces is.used in
+    let by : protected_by facts is.announced.id.system (Reach is.reach) ≡ Some a = subst (λ (node : ℕ). protected_by facts node (Reach is.reach) ≡ Some a) (sym is.announced.own) by_node in
+    let there : Contains (protected_of facts) a = protected-to facts facts.database (is.announced.id, is.announced.stored) (Reach is.reach) a is.announced.stands (record { counted = is.announced.counted; part_is = is.announced.part }) by in
+    any-from (λ (b : Announcement). same_key (key_at net.graph l) b.key) (protected_of facts) a there (ap (same_key (key_at net.graph l)) is.named ∙ same-itself (key_at net.graph l))

@@ -1,0 +1,3 @@
+pub mod EligibleLemmas
+pub mod MarkLemmas
+pub mod AnswerLemmas

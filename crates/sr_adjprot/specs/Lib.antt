@@ -1,0 +1,5 @@
+pub mod Eligible
+pub mod Protected
+pub mod Active
+pub mod Delivery
+pub mod Laws
