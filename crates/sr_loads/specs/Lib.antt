@@ -1,0 +1,4 @@
+pub mod Packets
+pub mod Loads
+pub mod Tally
+pub mod Laws
