@@ -25,7 +25,7 @@ fn same_load(old: &Graph, new: &Graph) -> bool
     ensures { IsTrue result ↔ ((v : ℕ) → v < node_count old.now → is_overloaded old.now v ≡ is_overloaded new.now v) }
 {
     for v in 0..old.node_count() as u16 {
-        if old.is_overloaded(NodeNo(v)) != new.is_overloaded(NodeNo(v)) {
+        if old.overloaded(NodeNo(v)) != new.overloaded(NodeNo(v)) {
             return false;
         }
     }

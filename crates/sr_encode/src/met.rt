@@ -149,7 +149,7 @@ impl Met {
         ensures longer { OnOk result (Extends self.old.queue.items self.new.queue.items) }
     {
         let w = self.queue[i].node;
-        if scene.graph().is_overloaded(w) {
+        if scene.graph().overloaded(w) {
             return Ok(());
         }
         if self.unmet.is_empty() {

@@ -214,7 +214,7 @@ impl Graph {
     }
 
     /// Whether the node is overloaded, so that no walk passes through it (ISO 10589, 7.2.8.1).
-    pub fn is_overloaded(&self, node: NodeNo) -> bool
+    pub fn overloaded(&self, node: NodeNo) -> bool
         ensures { result ≡ is_overloaded self.now node.0 }
     {
         let place = node.0 as usize;
@@ -225,7 +225,7 @@ impl Graph {
     pub fn carries(&self, end: NodeNo, node: NodeNo) -> bool
         ensures { result ≡ carries self.now end.0 node.0 }
     {
-        node.0 == end.0 || !self.is_overloaded(node)
+        node.0 == end.0 || !self.overloaded(node)
     }
 
     /// The empty set of links.

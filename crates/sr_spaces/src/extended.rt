@@ -21,7 +21,7 @@ fn adds(spaces: &Spaces, link: LinkNo, v: NodeNo) -> bool
 {
     let graph = spaces.graph();
     let to = graph.edge(link).to;
-    if graph.is_overloaded(to) {
+    if graph.overloaded(to) {
         v.0 == to.0
     } else {
         spaces.in_p(to, v)

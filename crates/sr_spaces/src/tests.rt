@@ -107,7 +107,7 @@ fn trees_of(rt: &(impl Threads + Sync), alloc: Global, graph: &Graph) -> Result<
     trees_from::<Brand>(rt, alloc, graph, Blank::new(1))
 }
 
-/// The spaces where the pair of nodes 1 and 2 fails: P and extended P of node 1, and Q of node 2.
+/// The spaces where the pair of a link fails: P and extended P of its beginning, and Q of its end.
 #[derive(Drop)]
 struct PairSpaces {
     p: NodeSet,
@@ -115,24 +115,28 @@ struct PairSpaces {
     q: NodeSet,
 }
 
-/// The spaces of the ring that is drafted. In order of key the link from node 1 to node 2 is the first.
-fn found_in(rt: &(impl Threads + Sync), alloc: Global, draft: Draft) -> Result<PairSpaces, Fail>
-    requires { IsDraft draft }
-{
-    let graph = Graph::build(alloc, draft)?;
-    if graph.node_count() < 2 || graph.link_count() < 1 {
-        return Err(Fail::new("no ring"));
+/// The spaces where the pair of the link fails. In order of key the link from node 1 to node 2 is the first of a ring, and
+/// that from node 1 to its other neighbour the second.
+fn spaces_of(
+    rt: &(impl Threads + Sync),
+    alloc: Global,
+    graph: &Graph,
+    link: LinkNo,
+) -> Result<PairSpaces, Fail> {
+    if link.0 as u32 >= graph.link_count() {
+        return Err(Fail::new("no such link"));
     }
     let case = Case {
         kind: Kind::Link,
-        link: LinkNo(0),
+        link,
     };
+    let edge = graph.edge(link);
     let failed = graph.failed(alloc, case)?;
-    let trees = trees_of(rt, alloc, &graph)?;
+    let trees = trees_of(rt, alloc, graph)?;
     Ok(PairSpaces {
-        p: p_row(alloc, &graph, &trees, NodeNo(0), &failed)?,
-        extended: extended_p(alloc, &graph, &trees, NodeNo(0), &failed)?,
-        q: q_set(alloc, &graph, &trees, NodeNo(1), &failed)?,
+        p: p_row(alloc, graph, &trees, edge.from, &failed)?,
+        extended: extended_p(alloc, graph, &trees, edge.from, &failed)?,
+        q: q_set(alloc, graph, &trees, edge.to, &failed)?,
     })
 }
 
@@ -151,7 +155,8 @@ fn tells(set: &NodeSet, tests: &[bool]) -> bool
 #[test]
 fn in_a_ring_of_four(rt: HostRuntime) -> Result<(), Fail> {
     let alloc = rt.alloc();
-    let spaces = found_in(&rt, alloc, ring_of_four(alloc)?)?;
+    let graph = Graph::build(alloc, ring_of_four(alloc)?)?;
+    let spaces = spaces_of(&rt, alloc, &graph, LinkNo(0))?;
     // Of two equal ways from 1 to 3, and from 4 to 2, one has the pair.
     assert!(rt; tells(&spaces.p, [true, false, false, true].as_slice()));
     assert!(rt; tells(&spaces.extended, [true, false, true, true].as_slice()));
@@ -160,9 +165,28 @@ fn in_a_ring_of_four(rt: HostRuntime) -> Result<(), Fail> {
 }
 
 #[test]
+fn where_one_of_four_is_overloaded(rt: HostRuntime) -> Result<(), Fail> {
+    let alloc = rt.alloc();
+    let mut graph = Graph::build(alloc, ring_of_four(alloc)?)?;
+    graph.mark(alloc, [id(4)].as_slice())?;
+    // Node 4 adds itself alone to what node 1 reaches. From it two equal ways still lead to node 2.
+    let spaces = spaces_of(&rt, alloc, &graph, LinkNo(0))?;
+    assert!(rt; tells(&spaces.p, [true, false, false, true].as_slice()));
+    assert!(rt; tells(&spaces.extended, [true, false, false, true].as_slice()));
+    assert!(rt; tells(&spaces.q, [false, true, true, false].as_slice()));
+    // No way from 1 to 3 leads over node 4. Of two equal ways from 2 to 4 one has the pair.
+    let spaces = spaces_of(&rt, alloc, &graph, LinkNo(1))?;
+    assert!(rt; tells(&spaces.p, [true, true, true, false].as_slice()));
+    assert!(rt; tells(&spaces.extended, [true, true, true, false].as_slice()));
+    assert!(rt; tells(&spaces.q, [false, false, true, true].as_slice()));
+    Ok(())
+}
+
+#[test]
 fn in_a_ring_of_five(rt: HostRuntime) -> Result<(), Fail> {
     let alloc = rt.alloc();
-    let spaces = found_in(&rt, alloc, ring_of_five(alloc)?)?;
+    let graph = Graph::build(alloc, ring_of_five(alloc)?)?;
+    let spaces = spaces_of(&rt, alloc, &graph, LinkNo(0))?;
     assert!(rt; tells(&spaces.p, [true, false, false, true, true].as_slice()));
     assert!(rt; tells(&spaces.extended, [true, false, true, true, true].as_slice()));
     assert!(rt; tells(&spaces.q, [false, true, true, true, false].as_slice()));

@@ -6,12 +6,12 @@ use Rattle.sr_encode.specs.Waypoints.{no_waypoint, waypoint_node}
 use Rattle.sr_encode.proofs.QueueLemmas.{extends-trans, searching-pass, searching-all_met}
 use Rattle.sr_encode.proofs.met.Met.expand.Goals as goal
 
-pub returns-then-is_overloaded-clause-search : goal.returns-then-is_overloaded-clause-search
-returns-then-is_overloaded-clause-search c =
+pub returns-then-overloaded-clause-search : goal.returns-then-overloaded-clause-search
+returns-then-overloaded-clause-search c =
     let same : c.index.result.now.node.0 ≡ waypoint_node c.args.self.now.queue.items c.args.i =
     ap (λ (t : Waypoint). t.node.0) (c.index.ensures ∙ get_or_default c.args.self.now.queue.items c.args.i c.index.result.now no_waypoint c.requires.i) in
     let over : is_overloaded c.args.scene.now.net.graph c.index.result.now.node.0 ≡ true =
-    ap (λ g. is_overloaded g c.index.result.now.node.0) (sym c.graph.ensures.value) ∙ sym c.is_overloaded.ensures ∙ c.if-is_overloaded.true in
+    ap (λ g. is_overloaded g c.index.result.now.node.0) (sym c.graph.ensures.value) ∙ sym c.overloaded.ensures ∙ c.if-overloaded.true in
     searching-pass c.args.scene.now c.args.self.now.queue.items c.args.self.now.unmet c.args.i c.requires.search c.requires.i (subst (λ k. is_overloaded c.args.scene.now.net.graph k ≡ true) same over)
 
 pub look_at_nodes-requires-clause-looks : goal.look_at_nodes-requires-clause-looks
@@ -21,7 +21,7 @@ look_at_nodes-requires-clause-looks c =
     record {
       search = c.requires.search;
       place = c.requires.i;
-      clear = ap (λ k. is_overloaded c.args.scene.now.net.graph k) same ∙ ap (λ g. is_overloaded g c.index.result.now.node.0) (sym c.graph.ensures.value) ∙ sym c.is_overloaded.ensures ∙ c.if-is_overloaded.false;
+      clear = ap (λ k. is_overloaded c.args.scene.now.net.graph k) same ∙ ap (λ g. is_overloaded g c.index.result.now.node.0) (sym c.graph.ensures.value) ∙ sym c.overloaded.ensures ∙ c.if-overloaded.false;
     }
 
 pub returns-then-is_empty-clause-search : goal.returns-then-is_empty-clause-search
