@@ -11,3 +11,4 @@ pub mod KeptHops
 pub mod CollectLemmas
 pub mod CodeLemmas
 pub mod TakeLemmas
+pub mod MovedLemmas

@@ -7,3 +7,4 @@ pub mod Kept
 pub mod Collected
 pub mod Repairs
 pub mod Codes
+pub mod Renumbered

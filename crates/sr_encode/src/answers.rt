@@ -1,15 +1,17 @@
 //! The answers of a case, and how they are found by destination.
-ghost use Rattle.std.specs.Prelude.{◌≡◌, ◌<◌, ◌≤◌, [], List, length, All, MatchOption};
+ghost use Rattle.std.specs.Prelude.{◌≡◌, ◌<◌, ◌≤◌, [], List, length, map, All, IfOk, MatchOption};
 ghost use Rattle.sr_model.specs.declared.repair.Segment.{Segment};
 ghost use Rattle.sr_encode.specs.declared.kept.Kept.{Kept};
 ghost use Rattle.sr_encode.specs.Answered.{AscendByNode, HasAnswer, NoAnswer, counts_in, node_answer_at};
 ghost use Rattle.sr_encode.specs.Codes.{AreCodes};
 ghost use Rattle.sr_encode.specs.Kept.{AreKeptWithin, entries};
+ghost use Rattle.sr_encode.specs.Renumbered.{moved_entry};
 
 use crate::codes::Codes;
 use crate::kept::{Kept, Outcome, answer_from};
-use sr_model::{Answer, Counts, NodeNo, Segment};
-use std::alloc::Global;
+use crate::renumbered::{copied, moved_outcomes, moved_segments};
+use sr_model::{Answer, Counts, LinkNo, NodeNo, Segment};
+use std::alloc::{AllocError, Global};
 use std::marker::Model;
 
 /// The answer for a destination.
@@ -95,6 +97,22 @@ impl CaseAnswers {
         ensures { result ≡ [] }
     {
         CaseAnswers::new(Vec::new(alloc), Vec::new(alloc), Vec::new(alloc))
+    }
+
+    /// The same answers where links have these numbers: each link that the list has a number for gets it.
+    pub fn renumbered(
+        &self,
+        alloc: Global,
+        links: &[Option<LinkNo>],
+    ) -> Result<CaseAnswers, AllocError>
+        ensures { IfOk result (λ moved. moved ≡ map (moved_entry links.now) self.now) }
+    {
+        Ok(CaseAnswers {
+            kept: copied(alloc, &self.kept)?,
+            outcomes: moved_outcomes(alloc, &self.outcomes, links)?,
+            segments: moved_segments(alloc, &self.segments, links)?,
+            counts: self.counts,
+        })
     }
 
     /// How many answers there are.

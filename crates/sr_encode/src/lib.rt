@@ -7,6 +7,7 @@ mod codes;
 mod collected;
 mod kept;
 mod met;
+mod renumbered;
 mod repairs;
 mod scene;
 mod search;
