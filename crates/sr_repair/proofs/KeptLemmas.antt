@@ -1,5 +1,7 @@
 -- The kept answers after the passes over all cases.
-use Rattle.std.proofs.Common.{◌≡◌, ℕ, ◌<◌, ◌≤◌, List, [], ◌∷◌, ◌++◌, map, length, arith, sym, ◌∙◌, subst}
+use Rattle.std.proofs.Common.{◌≡◌, ℕ, ◌<◌, List, [], ◌∷◌, ◌++◌, map, arith, sym, ◌∙◌, subst}
+use Rattle.std.specs.Prelude.{Option}
+use Rattle.std.specs.Arc.{arc_value}
 use Rattle.std.proofs.lemmas.List.{append_assoc, get_or-map, length-map}
 use Rattle.sr_model.specs.declared.case.Case.{Case}
 use Rattle.sr_model.specs.declared.case.Kind.{Kind}
@@ -10,46 +12,42 @@ use Rattle.sr_model.specs.Label.{Net}
 use Rattle.sr_encode.specs.declared.answers.NodeAnswer.{NodeAnswer}
 use Rattle.sr_encode.specs.Answered.{AreAnswers}
 use Rattle.sr_repair.specs.declared.passes.Passed.{Passed}
-use Rattle.sr_repair.specs.declared.passes.Passed.TheVariants.{Nothing, AsLink, Listed}
+use Rattle.sr_repair.specs.declared.passes.Passed.TheVariants.{Nothing, AsLink, Stays, Listed}
 use Rattle.sr_repair.specs.declared.answers.Found.{Found}
-use Rattle.sr_repair.specs.declared.answers.Found.TheVariants.{Own, AsLink as AsLinkFound}
-use Rattle.sr_repair.specs.Answers.{case_count, slot_of, link_case, AreAllPassed, AreAllFound, IsPassed, IsFound, searches_of, searches, kept_of, IsAnswered}
+use Rattle.sr_repair.specs.declared.answers.Found.TheVariants.{Nothing as NothingFound, AsLink as AsLinkFound, Own}
+use Rattle.sr_repair.specs.Answers.{case_count, slot_of, link_case, AffectsSome, AreAllPassed, AreAllFound, IsPassed, IsFound, kept_of, IsAnswered}
+use Rattle.sr_repair.specs.Spared.{Passage}
 use Rattle.sr_repair.proofs.KindLemmas.{answers-from}
 
--- the kept answers after the pass are those found for the case
-kept-found : (n : Net) (case : Case) (one : Passed) → IsPassed n case one → IsFound n case (kept_of one)
-kept-found n case Nothing none = record {
+-- a case that affects no destination has no answers
+pub none-answers : (n : Net) (case : Case) → (AffectsSome n case → ⊥) → AreAnswers n case []
+none-answers n case none = record {
   ascending = λ i j lt end. absurd (omega arith);
   affected = λ i lt. absurd (omega arith);
   answers = λ i lt. absurd (omega arith);
   all = λ d is. absurd (none (d, is));
 }
-kept-found n case AsLink like = like
-kept-found n case (Listed list search) answers = answers
 
--- the kept answers after the passes are those found for the cases
-pub all-kept : (n : Net) (m : ℕ) (passed : List Passed) → AreAllPassed n m passed → AreAllFound n m (map kept_of passed)
-all-kept n m passed r = record {
+-- what is kept after the pass is what is found for the case
+kept-found : (former : Option Passage) (n : Net) (case : Case) (one : Passed) → IsPassed former n case one → IsFound n case (kept_of one)
+kept-found former n case Nothing none = none
+kept-found former n case AsLink like = like
+kept-found former n case (Stays solved) is = is
+kept-found former n case (Listed solved search) is = is.0
+
+-- what is kept after the passes is what is found for the cases
+pub all-kept : (former : Option Passage) (n : Net) (m : ℕ) (passed : List Passed) → AreAllPassed former n m passed → AreAllFound n m (map kept_of passed)
+all-kept former n m passed r = record {
   long = length-map passed kept_of ∙ r.long;
   each = λ case within lt.
-      subst (λ found. IsFound n case found) (sym (get_or-map kept_of passed (slot_of case) Nothing AsLinkFound (omega (arith, r.long)))) (kept-found n case _ (r.each case within lt));
+      subst (λ found. IsFound n case found) (sym (get_or-map kept_of passed (slot_of case) Nothing AsLinkFound (omega (arith, r.long)))) (kept-found former n case _ (r.each case within lt));
 }
 
 -- one pass more is kept
 pub kept-more : (all rest : List Passed) (one : Passed) (found more : List Found) → found ++ map kept_of (one ∷ rest) ≡ map kept_of all → more ≡ found ++ kept_of one ∷ [] → more ++ map kept_of rest ≡ map kept_of all
 kept-more all rest one found more so put = rw put (append_assoc found (kept_of one ∷ []) (map kept_of rest) ∙ so)
 
-searches-one : (one : Passed) → searches_of one ≤ 1
-searches-one Nothing = omega arith
-searches-one AsLink = omega arith
-searches-one (Listed list search) = omega arith
-
--- at most one search is counted in each pass
-pub searches-most : (passed : List Passed) → searches passed ≤ length passed
-searches-most [] = omega arith
-searches-most (one ∷ rest) = let first = searches-one one in let later = searches-most rest in omega arith
-
-rank-small : (k : Kind) → rank_of k < 3
+pub rank-small : (k : Kind) → rank_of k < 3
 rank-small LinkKind = omega arith
 rank-small NodeKind = omega arith
 rank-small RiskKind = omega arith
@@ -60,12 +58,14 @@ found-for n found all case within = (_, all.each case within (let small : rank_o
 
 -- a link case has answers of its own
 own-answers : (n : Net) (case : Case) (one : Found) → IsFound n (link_case case) one → (answers : List NodeAnswer) × AreAnswers n (link_case case) answers
-own-answers n case (Own list) a = (list, a)
+own-answers n case NothingFound none = ([], none-answers n (link_case case) none)
+own-answers n case (Own solved) a = ((arc_value solved).answers, a.answers)
 own-answers n case AsLinkFound like = absurd (let bad : LinkKind ≡ RiskKind = like.risk in cc)
 
 -- and each case has its answers
 their-answers : (n : Net) (case : Case) → IsCase n.graph case → (found : List Found) → AreAllFound n (case_count n.graph) found → (one : Found) → IsFound n case one → (answers : List NodeAnswer) × AreAnswers n case answers
-their-answers n case within found all (Own list) a = (list, a)
+their-answers n case within found all NothingFound none = ([], none-answers n case none)
+their-answers n case within found all (Own solved) a = ((arc_value solved).answers, a.answers)
 their-answers n case within found all AsLinkFound like =
     let link = found-for n found all (link_case case) within in
     let answers = own-answers n case link.0 link.1 in

@@ -22,7 +22,7 @@ rank-one k RiskKind LinkKind i j li lj e = absurd (omega arith)
 rank-one k RiskKind NodeKind i j li lj e = absurd (omega arith)
 rank-one k RiskKind RiskKind i j li lj e = (refl, omega arith)
 
-case_is : (a b : Case) → a.kind ≡ b.kind → a.link.0 ≡ b.link.0 → a ≡ b
+pub case_is : (a b : Case) → a.kind ≡ b.kind → a.link.0 ≡ b.link.0 → a ≡ b
 case_is a b k l = let q : record { kind = a.kind; link = record { 0 = a.link.0 } } ≡ record { kind = b.kind; link = record { 0 = b.link.0 } } = rw (k, l) refl in q
 
 -- two cases have two places

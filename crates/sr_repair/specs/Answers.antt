@@ -1,5 +1,6 @@
 -- The answers of all cases.
-use Rattle.std.specs.Prelude.{◌≡◌, ℕ, ◌+◌, ◌*◌, ◌<◌, List, [], ◌∷◌, length, slice_index_or}
+use Rattle.std.specs.Prelude.{◌≡◌, ℕ, ◌+◌, ◌*◌, ◌<◌, List, [], ◌∷◌, length, Option, slice_index_or}
+use Rattle.std.specs.Arc.{arc_value}
 use Rattle.sr_model.specs.declared.case.Case.{Case}
 use Rattle.sr_model.specs.declared.case.Kind.TheVariants.{Link as LinkKind}
 use Rattle.sr_model.specs.Audit.{rank_of}
@@ -10,9 +11,11 @@ use Rattle.sr_graph.specs.Failed.{FailsAsLink}
 use Rattle.sr_encode.specs.declared.answers.NodeAnswer.{NodeAnswer}
 use Rattle.sr_encode.specs.Answered.{AreAnswers}
 use Rattle.sr_repair.specs.declared.passes.Passed.{Passed}
-use Rattle.sr_repair.specs.declared.passes.Passed.TheVariants.{Nothing, AsLink, Listed}
+use Rattle.sr_repair.specs.declared.passes.Passed.TheVariants.{Nothing, AsLink, Stays, Listed}
 use Rattle.sr_repair.specs.declared.answers.Found.{Found}
-use Rattle.sr_repair.specs.declared.answers.Found.TheVariants.{Own, AsLink as AsLinkFound}
+use Rattle.sr_repair.specs.declared.answers.Found.TheVariants.{Nothing as NothingFound, AsLink as AsLinkFound, Own}
+use Rattle.sr_repair.specs.Solutions.{IsSolution}
+use Rattle.sr_repair.specs.Spared.{Passage, IsSpared}
 
 -- a case of each kind protects each link
 abbrev pub case_count : Graph → ℕ
@@ -45,43 +48,47 @@ abbrev pub link_case : Case → Case
 link_case case = record { kind = LinkKind; link = case.link }
 
 -- what the pass over the case gives: nothing where it affects no destination, that its answers are those of the link
--- case where it fails as that does, or its answers
-abbrev pub IsPassed : Net → Case → Passed → Type 0
-IsPassed n case Nothing = AffectsSome n case → ⊥
-IsPassed n case AsLink = FailsAsLink n.graph case
-IsPassed n case (Listed list search) = AreAnswers n case list
+-- case where it fails as that does, what stays, or what a search found where the case isn't spared
+abbrev pub IsPassed : Option Passage → Net → Case → Passed → Type 0
+IsPassed former n case Nothing = AffectsSome n case → ⊥
+IsPassed former n case AsLink = FailsAsLink n.graph case
+IsPassed former n case (Stays solved) = IsSolution n case (arc_value solved)
+IsPassed former n case (Listed solved search) = IsSolution n case (arc_value solved) × (IsSpared former case → ⊥)
 
 -- what the pass over the case in slot i gives
-abbrev pub IsPassedIn : Net → ℕ → Passed → Type 0
-IsPassedIn n = BelongsIn n.graph (IsPassed n)
+abbrev pub IsPassedIn : Option Passage → Net → ℕ → Passed → Type 0
+IsPassedIn former n = BelongsIn n.graph (IsPassed former n)
 
 -- what the passes over the cases in the first m slots give
-abbrev pub AreAllPassed : Net → ℕ → List Passed → Type 0
-AreAllPassed n = StandInSlots Nothing n.graph (IsPassed n)
+abbrev pub AreAllPassed : Option Passage → Net → ℕ → List Passed → Type 0
+AreAllPassed former n = StandInSlots Nothing n.graph (IsPassed former n)
 
--- how many searches were counted in the pass: one where there are answers
+-- how many searches were counted in the pass: one where there are answers that don't stay
 abbrev pub searches_of : Passed → ℕ
 searches_of Nothing = 0
 searches_of AsLink = 0
-searches_of (Listed list search) = 1
+searches_of (Stays solved) = 0
+searches_of (Listed solved search) = 1
 
 -- how many searches were counted in the passes
 abbrev pub searches : List Passed → ℕ
 searches [] = 0
 searches (one ∷ rest) = searches_of one + searches rest
 
--- the kept answers after the pass: the case's own, or a note that they are those of the link case
+-- what is kept of the case after the pass
 abbrev pub kept_of : Passed → Found
-kept_of Nothing = Own []
+kept_of Nothing = NothingFound
 kept_of AsLink = AsLinkFound
-kept_of (Listed list search) = Own list
+kept_of (Stays solved) = Own solved
+kept_of (Listed solved search) = Own solved
 
--- the answers of the case, or that it fails as the link case does
+-- that no destination is affected, that the case fails as the link case does, or what was computed for it
 abbrev pub IsFound : Net → Case → Found → Type 0
-IsFound n case (Own list) = AreAnswers n case list
+IsFound n case NothingFound = AffectsSome n case → ⊥
 IsFound n case AsLinkFound = FailsAsLink n.graph case
+IsFound n case (Own solved) = IsSolution n case (arc_value solved)
 
--- the answers found for the cases in the first m slots
+-- what is kept of the cases in the first m slots
 abbrev pub AreAllFound : Net → ℕ → List Found → Type 0
 AreAllFound n = StandInSlots AsLinkFound n.graph (IsFound n)
 

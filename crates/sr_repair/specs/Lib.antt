@@ -1,5 +1,9 @@
 pub mod Version
+pub mod Solutions
+pub mod Spared
 pub mod Answers
+pub mod Former
+pub mod Work
 pub mod Delivery
 pub mod Stack
 pub mod Items

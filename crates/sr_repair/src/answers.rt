@@ -1,44 +1,49 @@
-//! The answers of all cases.
-ghost use Rattle.std.specs.Prelude.{◌≡◌, ◌+◌, ◌*◌, ◌≤◌, map, IfOk, OnOk};
+//! What is kept of all cases.
+ghost use Rattle.std.specs.Prelude.{◌≡◌, ◌+◌, ◌*◌, ◌≤◌, [], map, IfOk, OnOk};
 ghost use Rattle.sr_model.specs.declared.case.Kind.TheVariants.{Link as LinkKind};
 ghost use Rattle.sr_model.specs.Case.{IsCase};
 ghost use Rattle.sr_encode.specs.Answered.{AreAnswers};
-ghost use Rattle.sr_repair.specs.Answers.{case_count, kept_of, searches_of, searches, AreAllFound};
+ghost use Rattle.sr_repair.specs.Answers.{case_count, kept_of, searches_of, searches, AreAllFound, IsFound};
 
 use crate::cases::{link_case, slot_of};
 use crate::passes::Passed;
+use crate::solved::Solved;
 use sr_encode::CaseAnswers;
 use sr_labels::Net;
 use sr_model::Case;
 use sr_spf::Steps;
 use std::alloc::{AllocError, Global};
+use std::sync::Arc;
 use std::sync::ledger::Ledger;
 
-/// The kept answers of a case.
+/// What is kept of a case.
 #[derive(Drop)]
 pub(crate) enum Found {
-    /// Its answers.
-    Own(CaseAnswers),
+    /// That it affects no destination.
+    Nothing,
     /// That its answers are those of the link case.
     AsLink,
+    /// What was computed for it. Versions share it.
+    Own(Arc<Solved>),
 }
 
-/// The kept answers of a case after the pass over it. The search that was made for it is taken in.
-fn kept<L: Ledger>(alloc: Global, passed: Passed, steps: &mut Steps<L>) -> Found
+/// What is kept of a case after the pass over it. The search that was made for it is taken in.
+fn kept<L: Ledger>(passed: Passed, steps: &mut Steps<L>) -> Found
     ensures found { result ≡ kept_of passed }
     ensures steps { steps.new ≡ steps.old + searches_of passed }
 {
     match passed {
-        Passed::Nothing => Found::Own(CaseAnswers::none(alloc)),
+        Passed::Nothing => Found::Nothing,
         Passed::AsLink => Found::AsLink,
-        Passed::Listed(answers, searched) => {
+        Passed::Stays(solved) => Found::Own(solved),
+        Passed::Listed(solved, searched) => {
             steps.take_in(searched);
-            Found::Own(answers)
+            Found::Own(solved)
         }
     }
 }
 
-/// The kept answers of all cases after the passes over them. The searches that were made for them are taken in.
+/// What is kept of all cases after the passes over them. The searches that were made for them are taken in.
 pub(crate) fn all_kept<L: Ledger>(
     alloc: Global,
     passed: Vec<Passed>,
@@ -51,32 +56,55 @@ pub(crate) fn all_kept<L: Ledger>(
 {
     let mut found = Vec::with_capacity(alloc, passed.len())?;
     for one in passed {
-        found.push(kept(alloc, one, steps))?;
+        found.push(kept(one, steps))?;
     }
     Ok(found)
 }
 
-/// The answers of a link case, among the kept ones.
-fn answers_of_link<'a>(net: &Net, found: &'a [Found], case: Case) -> &'a CaseAnswers
+/// What is kept of the case.
+pub(crate) fn found_of<'a>(net: &Net, found: &'a [Found], case: Case) -> &'a Found
+    requires case { IsCase net.now.graph case }
+    requires found { AreAllFound net.now (case_count net.now.graph) found.now }
+    ensures { IsFound net.now case result.now }
+{
+    &found[slot_of(net.graph(), case) as usize]
+}
+
+/// The answers of a link case, among what is kept. `none` are those of a case that affects no destination.
+fn answers_of_link<'a>(
+    net: &Net,
+    found: &'a [Found],
+    none: &'a CaseAnswers,
+    case: Case,
+) -> &'a CaseAnswers
     requires case { IsCase net.now.graph case }
     requires kind { case.kind ≡ LinkKind }
     requires found { AreAllFound net.now (case_count net.now.graph) found.now }
+    requires none { none.now ≡ [] }
     ensures { AreAnswers net.now case result.now }
 {
-    match &found[slot_of(net.graph(), case) as usize] {
-        Found::Own(answers) => answers,
+    match found_of(net, found, case) {
+        Found::Nothing => none,
+        Found::Own(solved) => solved.answers(),
         Found::AsLink => unreachable!(),
     }
 }
 
-/// The answers of the case, among the kept ones.
-pub(crate) fn answers_of<'a>(net: &Net, found: &'a [Found], case: Case) -> &'a CaseAnswers
+/// The answers of the case, among what is kept. `none` are those of a case that affects no destination.
+pub(crate) fn answers_of<'a>(
+    net: &Net,
+    found: &'a [Found],
+    none: &'a CaseAnswers,
+    case: Case,
+) -> &'a CaseAnswers
     requires case { IsCase net.now.graph case }
     requires found { AreAllFound net.now (case_count net.now.graph) found.now }
+    requires none { none.now ≡ [] }
     ensures { AreAnswers net.now case result.now }
 {
-    match &found[slot_of(net.graph(), case) as usize] {
-        Found::Own(answers) => answers,
-        Found::AsLink => answers_of_link(net, found, link_case(case)),
+    match found_of(net, found, case) {
+        Found::Nothing => none,
+        Found::Own(solved) => solved.answers(),
+        Found::AsLink => answers_of_link(net, found, none, link_case(case)),
     }
 }

@@ -1,15 +1,20 @@
 //! What is computed of a net: all of a version but its number.
-ghost use Rattle.std.specs.Prelude.{◌≡◌, ◌+◌, ◌*◌, ◌≤◌, IfOk};
+ghost use Rattle.std.specs.Prelude.{◌≡◌, ℕ, ◌+◌, ◌*◌, ◌≤◌, true, IfOk};
 ghost use Rattle.sr_model.specs.Case.{IsCase};
 ghost use Rattle.sr_model.specs.Graph.{node_count, link_count};
 ghost use Rattle.sr_model.specs.Rule.{IsNet};
 ghost use Rattle.sr_spf.specs.Trees.{AreTrees};
 ghost use Rattle.sr_fib.specs.Tables.{IsFib};
 ghost use Rattle.sr_encode.specs.Answered.{AreAnswers};
-ghost use Rattle.sr_repair.specs.Answers.{IsAnswered};
+ghost use Rattle.sr_delta.specs.Changes.{AreChanges};
+ghost use Rattle.sr_repair.specs.Answers.{IsAnswered, IsFound};
+ghost use Rattle.sr_repair.specs.Work.{IsWithinWork};
 
-use crate::answers::{Found, answers_of};
+use crate::answers::{Found, answers_of, found_of};
+use crate::former::Former;
 use crate::made::{Made, made_of};
+use crate::setting::Setting;
+use sr_delta::{Changes, changes, kept_trees};
 use sr_encode::CaseAnswers;
 use sr_fib::Fib;
 use sr_labels::Net;
@@ -28,9 +33,12 @@ pub(crate) struct Computed {
     trees: Trees,
     fib: Fib,
     found: Vec<Found>,
+    /// The answers of a case that affects no destination.
+    none: CaseAnswers,
 }
 
 impl Model for Computed {
+    ghost use Rattle.std.specs.Prelude.{◌≡◌, []};
     ghost use Rattle.sr_model.specs.Label.{Net};
     ghost use Rattle.sr_spf.specs.Trees.{AreTrees};
     ghost use Rattle.sr_fib.specs.Tables.{IsFib};
@@ -42,7 +50,8 @@ impl Model for Computed {
 
     ghost invariant = { λ c. AreTrees c.net.graph c.trees
         × IsFib c.net c.fib
-        × AreAllFound c.net (case_count c.net.graph) c.found.items };
+        × AreAllFound c.net (case_count c.net.graph) c.found.items
+        × (c.none ≡ []) };
 }
 
 impl Computed {
@@ -59,13 +68,63 @@ impl Computed {
         ensures least { steps.old ≤ steps.new }
     {
         let trees = Trees::build(rt, alloc, net.graph(), steps)?;
-        let Made { fib, found } = made_of(rt, alloc, &net, &trees, steps)?;
+        let Made { fib, found } = made_of(rt, alloc, &Setting::first(&net, &trees), steps)?;
         Ok(Computed {
             net,
             trees,
             fib,
             found,
+            none: CaseAnswers::none(alloc),
         })
+    }
+
+    /// All that is computed of this net, which has the nodes of the net before. What stays from there is taken over.
+    fn over<L: Ledger>(
+        &self,
+        rt: &(impl Threads + Sync),
+        alloc: Global,
+        net: Net,
+        changes: &Changes,
+        steps: &mut Steps<L>,
+    ) -> Result<Computed, AllocError>
+        requires changes { AreChanges self.now net changes.now }
+        requires same { changes.now.same ≡ true }
+        ensures net { IfOk result (λ c. c ≡ net) }
+        ensures searches { (w : ℕ) × (steps.new ≡ steps.old + w) × IsWithinWork self.now net w }
+    {
+        let kept = kept_trees(alloc, changes, &self.trees)?;
+        let trees = self
+            .trees
+            .renew(rt, alloc, net.graph(), &kept, changes.partners(), steps)?;
+        let former = Former::new(self, &net, changes, &kept);
+        let setting = Setting::after(&net, &trees, former);
+        let Made { fib, found } = made_of(rt, alloc, &setting, steps)?;
+        Ok(Computed {
+            net,
+            trees,
+            fib,
+            found,
+            none: CaseAnswers::none(alloc),
+        })
+    }
+
+    /// All that is computed of the net after this one. What stays is taken over: at most one search is counted for each
+    /// node whose tree doesn't stay, and one for each case that isn't an old case that stays.
+    pub(crate) fn next<L: Ledger>(
+        &self,
+        rt: &(impl Threads + Sync),
+        alloc: Global,
+        net: Net,
+        steps: &mut Steps<L>,
+    ) -> Result<Computed, AllocError>
+        ensures net { IfOk result (λ c. c ≡ net) }
+        ensures searches { (w : ℕ) × (steps.new ≡ steps.old + w) × IsWithinWork self.now net w }
+    {
+        let changes = changes(alloc, &self.net, &net)?;
+        if changes.same_nodes() {
+            return self.over(rt, alloc, net, &changes, steps);
+        }
+        Computed::of(rt, alloc, net, steps)
     }
 
     /// The net.
@@ -96,7 +155,15 @@ impl Computed {
         requires case { IsCase self.now.graph case }
         ensures { AreAnswers self.now case result.now }
     {
-        answers_of(&self.net, &self.found, case)
+        answers_of(&self.net, &self.found, &self.none, case)
+    }
+
+    /// What is kept of the case.
+    pub(crate) fn found(&self, case: Case) -> &Found
+        requires { IsCase self.now.graph case }
+        ensures { IsFound self.now case result.now }
+    {
+        found_of(&self.net, &self.found, case)
     }
 
     /// A law with nothing to run: each case has its answers.

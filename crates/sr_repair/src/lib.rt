@@ -4,9 +4,12 @@
 mod answers;
 mod cases;
 mod computed;
+mod former;
 mod laws;
 mod made;
 mod passes;
+mod setting;
+mod solved;
 mod stack;
 mod version;
 

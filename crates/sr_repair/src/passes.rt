@@ -1,13 +1,21 @@
-//! The pass over a case: its searches, one for distances and one for lists; and the passes over all cases, in threads.
-ghost use Rattle.std.specs.Prelude.{◌≡◌, ◌*◌, ◌<◌, IfOk};
+//! The pass over a case: what stays from the version before, or else its searches, one for distances and one for lists;
+//! and the passes over all cases, in threads.
+ghost use Rattle.std.specs.Prelude.{◌≡◌, ◌*◌, ◌<◌, IfOk, MatchOption};
+ghost use Rattle.std.specs.Arc.{arc_value};
 ghost use Rattle.sr_model.specs.Graph.{node_count};
 ghost use Rattle.sr_model.specs.Case.{IsCase};
+ghost use Rattle.sr_graph.specs.Failed.{FailsAsLink};
 ghost use Rattle.sr_spf.specs.Trees.{AreTrees};
 ghost use Rattle.sr_post.specs.Nodes.{AreAffected};
 ghost use Rattle.sr_repair.specs.Answers.{case_count, IsPassed, IsPassedIn, AreAllPassed};
+ghost use Rattle.sr_repair.specs.Former.{IsSearched};
+ghost use Rattle.sr_repair.specs.Solutions.{IsSolution};
+ghost use Rattle.sr_repair.specs.Spared.{IsSpared};
 
 use crate::cases::{case_count, case_in};
-use sr_encode::{CaseAnswers, lists};
+use crate::setting::Setting;
+use crate::solved::Solved;
+use sr_encode::lists;
 use sr_labels::Net;
 use sr_model::{Case, NodeNo};
 use sr_post::{affected_nodes, post};
@@ -15,6 +23,7 @@ use sr_spf::{Searched, Steps, Trees};
 use sr_threads::{Share, made_of_each};
 use std::alloc::{AllocError, Global};
 use std::marker::Brand;
+use std::sync::Arc;
 use std::sync::ledger::{Blank, Ledger};
 use std::thread::Threads;
 
@@ -31,89 +40,122 @@ pub(crate) enum Passed {
     Nothing,
     /// That its answers are those of the link case.
     AsLink,
-    /// Its answers, and that one search for distances was counted for them.
-    Listed(CaseAnswers, Searched),
+    /// What was computed for it in the version before, since it stays.
+    Stays(Arc<Solved>),
+    /// What is computed for it, and that one search for distances was counted.
+    Listed(Arc<Solved>, Searched),
 }
 
-/// The answers of the case, whose affected destinations these are, counted from nothing: by one search for distances.
-fn listed_from<L: Ledger>(
+/// What is computed for the case, whose affected destinations these are, counted from nothing: by one search for
+/// distances.
+fn solved_from<L: Ledger>(
     alloc: Global,
     net: &Net,
     trees: &Trees,
     case: Case,
     wanted: &[NodeNo],
     blank: Blank,
-) -> Result<Passed, AllocError>
-    requires name { blank.name ≡ L.name }
-    requires parts { (blank.parts ≡ L.parts) × (0 < L.parts) }
+) -> Result<(Arc<Solved>, Searched), AllocError>
+    requires blank { (blank.name ≡ L.name) × (blank.parts ≡ L.parts) × (0 < L.parts) }
     requires trees { AreTrees net.now.graph trees.now }
     requires case { IsCase net.now.graph case }
     requires wanted { AreAffected net.now case (node_count net.now.graph) wanted.now }
-    ensures { IfOk result (IsPassed net.now case) }
+    ensures { IfOk result (λ made. IsSolution net.now case (arc_value made.0)) }
 {
     let mut steps = Steps::<L>::new(blank);
     let post = post(alloc, net, trees, case, &mut steps)?;
     let answers = lists(alloc, net, trees, &post, case, wanted)?;
-    Ok(Passed::Listed(answers, steps.give_up()))
+    Ok((
+        Solved::new(alloc, post.into_cells(), answers)?,
+        steps.give_up(),
+    ))
 }
 
-/// The answers of the case, whose affected destinations these are, by searches.
-fn listed(
+/// What is computed for the case, whose affected destinations these are, by searches.
+fn searched(
     alloc: Global,
     net: &Net,
     trees: &Trees,
     case: Case,
     wanted: &[NodeNo],
-) -> Result<Passed, AllocError>
+) -> Result<(Arc<Solved>, Searched), AllocError>
     requires trees { AreTrees net.now.graph trees.now }
     requires case { IsCase net.now.graph case }
     requires wanted { AreAffected net.now case (node_count net.now.graph) wanted.now }
-    ensures { IfOk result (IsPassed net.now case) }
+    ensures { IfOk result (λ made. IsSolution net.now case (arc_value made.0)) }
 {
-    listed_from::<Brand>(alloc, net, trees, case, wanted, Blank::new(1))
+    solved_from::<Brand>(alloc, net, trees, case, wanted, Blank::new(1))
 }
 
-/// What the pass over the case gives.
-fn pass(alloc: Global, net: &Net, trees: &Trees, case: Case) -> Result<Passed, AllocError>
-    requires trees { AreTrees net.now.graph trees.now }
-    requires case { IsCase net.now.graph case }
-    ensures { IfOk result (IsPassed net.now case) }
+/// What the pass over the case gives, which doesn't stay where it affects some destination.
+fn listed(alloc: Global, setting: &Setting<'_>, case: Case) -> Result<Passed, AllocError>
+    requires case { IsCase setting.now.net.graph case }
+    requires searched { IsSearched setting.now.former setting.now.net case }
+    ensures { IfOk result (IsPassed setting.now.former setting.now.net case) }
 {
-    // Most SRLG cases do, since few links share a group.
-    if net.graph().fails_as_link(case) {
-        return Ok(Passed::AsLink);
-    }
-    let wanted = affected_nodes(alloc, net, trees, case)?;
+    let _graph = setting.net.graph();
+    let wanted = affected_nodes(alloc, setting.net, setting.trees, case)?;
     // In many domains half of the cases affect no destination.
     if wanted.is_empty() {
         return Ok(Passed::Nothing);
     }
-    listed(alloc, net, trees, case, &wanted)
+    let (solved, searched) = searched(alloc, setting.net, setting.trees, case, &wanted)?;
+    Ok(Passed::Listed(solved, searched))
+}
+
+/// What was computed for the case in the version before, if there is one from which the case stays.
+fn kept_solved(
+    alloc: Global,
+    setting: &Setting<'_>,
+    case: Case,
+) -> Result<Option<Arc<Solved>>, AllocError>
+    requires case { IsCase setting.now.net.graph case }
+    requires own { FailsAsLink setting.now.net.graph case → ⊥ }
+    ensures { IfOk result (λ found. MatchOption found
+        (IsSearched setting.now.former setting.now.net case)
+        (λ solved. IsSolution setting.now.net case (arc_value solved))) }
+{
+    match &setting.former {
+        None => Ok(None),
+        Some(former) => former.solved(alloc, case),
+    }
+}
+
+/// What the pass over the case gives.
+fn pass(alloc: Global, setting: &Setting<'_>, case: Case) -> Result<Passed, AllocError>
+    requires case { IsCase setting.now.net.graph case }
+    ensures { IfOk result (IsPassed setting.now.former setting.now.net case) }
+{
+    // Most SRLG cases do, since few links share a group.
+    if setting.net.graph().fails_as_link(case) {
+        return Ok(Passed::AsLink);
+    }
+    match kept_solved(alloc, setting, case)? {
+        Some(solved) => Ok(Passed::Stays(solved)),
+        None => listed(alloc, setting, case),
+    }
 }
 
 /// What the pass over the case in this slot gives.
-fn pass_in(alloc: Global, net: &Net, trees: &Trees, slot: u32) -> Result<Passed, AllocError>
-    requires trees { AreTrees net.now.graph trees.now }
-    requires slot { slot < case_count net.now.graph }
-    ensures { IfOk result (IsPassedIn net.now slot) }
+fn pass_in(alloc: Global, setting: &Setting<'_>, slot: u32) -> Result<Passed, AllocError>
+    requires { slot < case_count setting.now.net.graph }
+    ensures { IfOk result (IsPassedIn setting.now.former setting.now.net slot) }
 {
-    pass(alloc, net, trees, case_in(net.graph(), slot))
+    pass(alloc, setting, case_in(setting.net.graph(), slot))
 }
 
 /// What the pass over each case gives, in order of slot. The cases are split among threads where there are any.
 pub(crate) fn all_passed(
     rt: &(impl Threads + Sync),
     alloc: Global,
-    net: &Net,
-    trees: &Trees,
+    setting: &Setting<'_>,
 ) -> Result<Vec<Passed>, AllocError>
-    requires { AreTrees net.now.graph trees.now }
-    ensures { IfOk result (λ passed. AreAllPassed net.now (case_count net.now.graph) passed.items) }
+    ensures { IfOk result (λ passed.
+        AreAllPassed setting.now.former setting.now.net (case_count setting.now.net.graph) passed.items) }
 {
     let passed = |slot: u32| -> Result<Passed, AllocError>
-        requires trees { AreTrees net.now.graph trees.now }
-        requires slot { slot < case_count net.now.graph }
-        ensures { IfOk result (IsPassedIn net.entry.now slot) }
-    { pass_in(alloc, net, trees, slot) };
-    made_of_each(rt, alloc, case_count(net.graph()), CASES, &passed)
+        requires { slot < case_count setting.now.net.graph }
+        ensures { IfOk result (IsPassedIn setting.entry.now.former setting.entry.now.net slot) }
+    { pass_in(alloc, setting, slot) };
+    made_of_each(rt, alloc, case_count(setting.net.graph()), CASES, &passed)
 }

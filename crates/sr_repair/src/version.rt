@@ -1,5 +1,5 @@
 //! A version: the net of an accepted commit, with what is computed of it.
-ghost use Rattle.std.specs.Prelude.{◌≡◌, ◌+◌, ◌*◌, ◌<◌, ◌≤◌, IfOk, MatchOption};
+ghost use Rattle.std.specs.Prelude.{◌≡◌, ℕ, ◌+◌, ◌*◌, ◌<◌, ◌≤◌, IfOk, MatchOption};
 ghost use Rattle.sr_model.specs.Case.{IsCase, IsAffected};
 ghost use Rattle.sr_model.specs.Graph.{node_count, link_count};
 ghost use Rattle.sr_model.specs.Repair.{IsCaseAnswer};
@@ -10,6 +10,7 @@ ghost use Rattle.sr_encode.specs.Answered.{AreAnswers};
 ghost use Rattle.sr_repair.specs.Answers.{IsAnswered};
 ghost use Rattle.sr_repair.specs.Version.{version_of};
 ghost use Rattle.sr_repair.specs.Stack.{HasNoList, IsStackOf};
+ghost use Rattle.sr_repair.specs.Work.{IsWithinWork};
 
 use crate::computed::Computed;
 use crate::stack::list_labels;
@@ -63,11 +64,16 @@ impl Version {
         ensures most { steps.new ≤ steps.old + node_count net.graph + 3 * link_count net.graph }
         ensures least { steps.old ≤ steps.new }
     {
-        Version::numbered(rt, alloc, 1, net, steps)
+        let computed = Computed::of(rt, alloc, net, steps)?;
+        Ok(Version {
+            number: 1,
+            computed: Arc::new(alloc, computed)?,
+        })
     }
 
-    /// The version after this one, of this net: the same as `opening` gives, but for the number. At most one search is
-    /// counted for each node, and one for each case.
+    /// The version after this one, of this net: the same as `opening` gives, but for the number. What stays from this
+    /// version's net is taken over: at most one search is counted for each node whose tree doesn't stay, and one for each
+    /// case that isn't an old case that stays (this project's rule).
     pub fn next<L: Ledger>(
         &self,
         rt: &(impl Threads + Sync),
@@ -77,10 +83,13 @@ impl Version {
     ) -> Result<Version, AllocError>
         requires { self.now.number < 65535 }
         ensures version { IfOk result (λ v. v ≡ version_of (self.now.number + 1) net) }
-        ensures most { steps.new ≤ steps.old + node_count net.graph + 3 * link_count net.graph }
-        ensures least { steps.old ≤ steps.new }
+        ensures searches { (w : ℕ) × (steps.new ≡ steps.old + w) × IsWithinWork self.now.net net w }
     {
-        Version::numbered(rt, alloc, self.number + 1, net, steps)
+        let computed = self.computed.next(rt, alloc, net, steps)?;
+        Ok(Version {
+            number: self.number + 1,
+            computed: Arc::new(alloc, computed)?,
+        })
     }
 
     /// The version after this one, of the same net: nothing is computed, and all but the number is shared. Fails only out
@@ -93,25 +102,6 @@ impl Version {
         Ok(Version {
             number: self.number + 1,
             computed,
-        })
-    }
-
-    /// The version of this number and net.
-    fn numbered<L: Ledger>(
-        rt: &(impl Threads + Sync),
-        alloc: Global,
-        number: u32,
-        net: Net,
-        steps: &mut Steps<L>,
-    ) -> Result<Version, AllocError>
-        ensures version { IfOk result (λ v. v ≡ version_of number net) }
-        ensures most { steps.new ≤ steps.old + node_count net.graph + 3 * link_count net.graph }
-        ensures least { steps.old ≤ steps.new }
-    {
-        let computed = Computed::of(rt, alloc, net, steps)?;
-        Ok(Version {
-            number,
-            computed: Arc::new(alloc, computed)?,
         })
     }
 

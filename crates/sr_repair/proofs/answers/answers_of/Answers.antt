@@ -1,22 +1,24 @@
-use Rattle.std.proofs.Common.{◌≡◌, ◌<◌, get_or, arith, ap, subst, sym, ◌∙◌}
-use Rattle.std.proofs.lemmas.List.{get_or_default}
+use Rattle.std.proofs.Common.{sym, subst}
+use Rattle.sr_encode.specs.declared.answers.NodeAnswer.{NodeAnswer}
 use Rattle.sr_encode.specs.Answered.{AreAnswers}
-use Rattle.sr_repair.specs.declared.answers.Found.TheVariants.{AsLink}
-use Rattle.sr_repair.specs.Answers.{case_count, slot_of, link_case, IsFound}
 use Rattle.sr_graph.specs.Failed.{FailsAsLink}
+use Rattle.std.specs.Prelude.{List}
+use Rattle.sr_repair.specs.Answers.{link_case, AffectsSome, IsFound}
 use Rattle.sr_repair.proofs.KindLemmas.{answers-from}
+use Rattle.sr_repair.proofs.KeptLemmas.{none-answers}
 use Rattle.sr_repair.proofs.answers.answers_of.Goals as goal
+
+pub returns-in-Nothing : goal.returns-in-Nothing
+returns-in-Nothing c =
+    let n = c.args.net.now in
+    let case = c.args.case in
+    let none : AffectsSome n case → ⊥ = subst (λ f. IsFound n case f) c.in-Nothing.is c.found_of.ensures in
+    subst (λ (list : List NodeAnswer). AreAnswers n case list) (sym c.requires.none) (none-answers n case none)
 
 pub returns-in-AsLink : goal.returns-in-AsLink
 returns-in-AsLink c =
     let n = c.args.net.now in
-    let g = c.args.net.now.graph in
     let case = c.args.case in
-    let found = c.args.found.now in
-    let one = c.index-found-slot_of.result in
-    let at : c.slot_of.result ≡ slot_of case = c.slot_of.ensures.slot in
-    let inside : c.slot_of.result < case_count g = subst (λ graph. c.slot_of.result < case_count graph) c.graph.ensures.value c.slot_of.ensures.within in
-    let here : one ≡ get_or found (slot_of case) AsLink = c.index-found-slot_of.is ∙ get_or_default found c.slot_of.result one AsLink (omega (arith, inside, c.requires.found.long)) ∙ ap (λ k. get_or found k AsLink) at in
-    let like : FailsAsLink g case = subst (λ f. IsFound n case f) (sym here ∙ c.in-AsLink.is) (c.requires.found.each case c.requires.case (omega (arith, inside, at))) in
+    let like : FailsAsLink n.graph case = subst (λ f. IsFound n case f) c.in-AsLink.is c.found_of.ensures in
     let answers : AreAnswers n (link_case case) c.answers_of_link.result.now = rw c.link_case.ensures at c.answers_of_link.ensures in
     answers-from n case like c.answers_of_link.result.now answers

@@ -5,6 +5,7 @@ use Rattle.sr_repair.proofs.passes.pass_in.Goals as goal
 
 pub returns : goal.returns
 returns c =
+    let s = c.args.setting.now in
     IfOk-weaker c.pass.result _ _
-    (λ passed is. belongs-in c.args.net.now.graph (IsPassed c.args.net.now) c.case_in.result c.args.slot passed c.case_in.ensures.slot is)
+    (λ passed is. belongs-in s.net.graph (IsPassed s.former s.net) c.case_in.result c.args.slot passed c.case_in.ensures.slot is)
     c.pass.ensures

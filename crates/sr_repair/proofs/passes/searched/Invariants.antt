@@ -1,4 +1,4 @@
-use Rattle.sr_repair.proofs.passes.listed.Given as goal
+use Rattle.sr_repair.proofs.passes.searched.Given as goal
 
-abbrev pub ghosts-listed_from : goal.ghosts-listed_from
-ghosts-listed_from a = record { name = a.blank.name; parts = a.blank.parts }
+abbrev pub ghosts-solved_from : goal.ghosts-solved_from
+ghosts-solved_from a = record { name = a.blank.name; parts = a.blank.parts }

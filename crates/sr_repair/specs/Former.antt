@@ -1,0 +1,40 @@
+-- The version before, as the next one is made from it.
+use Rattle.std.specs.Prelude.{◌≡◌, Bool, true, List, Option, Some}
+use Rattle.sr_model.specs.declared.case.Case.{Case}
+use Rattle.sr_model.specs.Label.{Net}
+use Rattle.sr_spf.specs.Trees.{Forest, AreTrees}
+use Rattle.sr_spf.specs.Renewed.{AreInPlace}
+use Rattle.sr_delta.specs.Changes.{Differences, AreChanges}
+use Rattle.sr_delta.specs.KeptTrees.{AreKeptTrees}
+use Rattle.sr_model.specs.Stay.{HaveSameName, IsKeptCase}
+use Rattle.sr_repair.specs.Answers.{AffectsSome}
+use Rattle.sr_repair.specs.Solutions.{Solution, IsSolution}
+use Rattle.sr_repair.specs.Spared.{Passage, IsSpared}
+
+-- the differences of the nets, which have the same nodes; the trees that stay; and whether each link keeps its number
+pub record IsFormer (p : Passage) (changes : Differences) (kept : List Bool) (in_place : Bool) : Type 0 where
+  pub differ : AreChanges p.old p.new changes
+  pub same : changes.same ≡ true
+  pub stay : AreKeptTrees p.old p.new kept
+  pub numbers : in_place ≡ true → AreInPlace changes.partners
+
+-- where some destination is affected, the case isn't spared
+abbrev pub IsSearched : Option Passage → Net → Case → Type 0
+IsSearched former n case = AffectsSome n case → IsSpared former case → ⊥
+
+-- a net with its trees, and the version before it, if there is one
+pub record Setting : Type 0 where
+  pub net : Net
+  pub trees : Forest
+  pub former : Option Passage
+
+-- the trees are those of the net, which is the new one
+pub record IsSetting (s : Setting) : Type 0 where
+  pub trees : AreTrees s.net.graph s.trees
+  pub new : (p : Passage) → s.former ≡ Some p → p.new ≡ s.net
+
+-- where a case stays whose solution is s, t is the solution of the case of the new net whose protected link has its name
+abbrev pub StaySolved : Passage → Solution → Solution → Type 0
+StaySolved p s t =
+    (old new : Case) → old.kind ≡ new.kind → HaveSameName p.old.graph p.new.graph old.link.0 new.link.0
+    → IsKeptCase p.old p.new old → IsSolution p.old old s → IsSolution p.new new t
