@@ -1,5 +1,6 @@
 //! Whole runs of the program, over the sources and sinks in memory.
 
+mod active;
 mod audits;
 mod background;
 mod calls;
@@ -10,6 +11,7 @@ mod edits;
 mod field;
 mod flooded;
 mod limits;
+mod loads;
 mod made;
 mod nodes;
 mod pairs;
@@ -18,10 +20,12 @@ mod rings;
 mod routers;
 mod versions;
 
+use active::ACTIVE;
 use audits::AUDITS;
 use cases::{CASES, Case};
 use edits::EDITS;
 use field::FIELD;
+use loads::LOADS;
 use nodes::NODES;
 use pairs::PAIRS;
 use rings::RINGS;
@@ -109,6 +113,22 @@ fn edited_domains_are_answered(rt: HostRuntime) -> Result<(), AllocError> {
 #[test]
 fn flooded_domains_are_answered(rt: HostRuntime) -> Result<(), AllocError> {
     for case in &FIELD {
+        assert!(rt; agrees(&rt, case)?, "{}", case.name);
+    }
+    Ok(())
+}
+
+#[test]
+fn adjacency_labels_are_answered(rt: HostRuntime) -> Result<(), AllocError> {
+    for case in &ACTIVE {
+        assert!(rt; agrees(&rt, case)?, "{}", case.name);
+    }
+    Ok(())
+}
+
+#[test]
+fn loads_are_answered(rt: HostRuntime) -> Result<(), AllocError> {
+    for case in &LOADS {
         assert!(rt; agrees(&rt, case)?, "{}", case.name);
     }
     Ok(())

@@ -18,6 +18,10 @@ use Rattle.sr_model.specs.Repair.{Leads, IsAnswer, IsCaseAnswer}
 use Rattle.sr_model.specs.Table.{IsEntry, IsLookup}
 use Rattle.sr_model.specs.Walk.{cost, IsNextHop}
 use Rattle.sr_fib.specs.Entries.{numbers}
+use Rattle.sr_adjprot.specs.declared.answer.AdjAnswer.{AdjAnswer}
+use Rattle.sr_adjprot.specs.declared.answer.AdjAnswer.TheVariants.{Unprotected, NoIndex, Steer, Repair, Uncovered}
+use Rattle.sr_adjprot.specs.Active.{IsAdjAnswer, adj_case}
+use Rattle.sr_print.specs.Adjacencies.{IsActiveWithin}
 use Rattle.sr_print.specs.Forwarding.{IsEntryWithin}
 use Rattle.sr_print.specs.Links.{AreLinks}
 use Rattle.sr_print.specs.Repairs.{IsSegment, AreSegments, IsAnswerWithin}
@@ -66,3 +70,11 @@ answers-within n x s d (TooDeep needed) is = tt
 -- the answer of a case names nodes and links of the graph
 pub answer-within : (n : Net) (case : Case) (d : ℕ) (answer : Answer) → IsCaseAnswer n case d answer → IsAnswerWithin n.graph answer
 answer-within n case d answer is = answers-within n is.failed (source_of n.graph case) d answer is.answers
+
+-- and so do those for packets under an adjacency label
+pub active-within : (n : Net) (eligible : List Bool) (l : LinkNo) (answer : AdjAnswer) → IsAdjAnswer n eligible l answer → IsActiveWithin n.graph answer
+active-within n eligible l Unprotected is = tt
+active-within n eligible l NoIndex is = tt
+active-within n eligible l (Steer label cost) is = tt
+active-within n eligible l (Repair list labels) is = answer-within n (adj_case l) (head n.graph l.0) (Least list) is.1.answer_is
+active-within n eligible l (Uncovered answer) is = is.2

@@ -6,5 +6,7 @@ pub mod Forwarding
 pub mod Spaces
 pub mod Repairs
 pub mod Answers
+pub mod Adjacencies
 pub mod Work
+pub mod Loads
 pub mod Told

@@ -11,11 +11,15 @@ use Rattle.sr_model.specs.Audit.{counts_of}
 use Rattle.sr_model.specs.Graph.{Graph, node_count, link_count}
 use Rattle.sr_model.specs.Label.{Net}
 use Rattle.sr_repair.specs.Version.{NumberedNet}
+use Rattle.sr_adjprot.specs.declared.answer.AdjAnswer.{AdjAnswer}
+use Rattle.sr_loads.specs.Loads.{LinkLoads}
 use Rattle.sr_print.specs.declared.refusal.Refusal.{Refusal}
 use Rattle.sr_print.specs.Printed.{staged_line, dropped_line, version_line, dist_line, show_line}
 use Rattle.sr_print.specs.Forwarding.{next_line, label_line, walk_line}
 use Rattle.sr_print.specs.Spaces.{spaces_lines}
 use Rattle.sr_print.specs.Repairs.{repair_line, uncovered_walk_line, item_lines, summary_line}
+use Rattle.sr_print.specs.Adjacencies.{adjrepair_line}
+use Rattle.sr_print.specs.Loads.{loads_text}
 use Rattle.sr_print.specs.Refused.{refused_line}
 use Rattle.sr_print.specs.Work.{hold_line, watch_line, report_lines, joined_line}
 
@@ -30,10 +34,10 @@ pub record Shown : Type 0 where
 
 -- what is told to a line: nothing; how many edits are staged, or were dropped; the version of a commit; a distance;
 -- next hops; what a label does; the links of a packet's walk from a node, where there is one; P, extended P and Q;
--- the answer of a case for a destination, with its labels; why there is no repair whose packet could be walked; how
--- many answers of each sort the audit of a version has; that audit; the version of a hold; the watchers of a watch, the
--- rounds of each, and the version that it began with; the reports of background work; what is shown; or why the line
--- is refused
+-- the answer of a case for a destination, with its labels; what is done with packets under a link's adjacency label;
+-- why there is no repair whose packet could be walked; how often packets cross each link; how many answers of each sort
+-- the audit of a version has; that audit; the version of a hold; the watchers of a watch, the rounds of each, and the
+-- version that it began with; the reports of background work; what is shown; or why the line is refused
 pub data Told : Type 0 where
   Nothing : Told
   Staged : ℕ → Told
@@ -45,7 +49,9 @@ pub data Told : Type 0 where
   Walk : Net → ℕ → Option (List LinkNo) → Told
   Spaces : Graph → List Bool → List Bool → List Bool → Told
   Repair : Net → Case → ℕ → Answer → List ℕ → Told
+  AdjRepair : Net → LinkNo → AdjAnswer → Told
   Uncovered : Answer → Told
+  Loads : Net → LinkLoads → Told
   Summary : ℕ → Counts → Told
   Audit : NumberedNet → List Item → Told
   Hold : ℕ → Told
@@ -67,7 +73,9 @@ spelled number (Lookup net found) = label_line net found
 spelled number (Walk net start links) = walk_line net start links
 spelled number (Spaces graph p extended q) = spaces_lines graph p extended q
 spelled number (Repair net case d answer labels) = repair_line net case d answer labels
+spelled number (AdjRepair net link answer) = adjrepair_line net link answer
 spelled number (Uncovered answer) = uncovered_walk_line answer
+spelled number (Loads net loads) = loads_text net loads
 spelled number (Summary version counts) = summary_line version counts
 spelled number (Audit version items) = item_lines version.net items ++ summary_line version.number (counts_of items)
 spelled number (Hold version) = hold_line version
@@ -88,7 +96,9 @@ is_refusal (Lookup net found) = false
 is_refusal (Walk net start links) = false
 is_refusal (Spaces graph p extended q) = false
 is_refusal (Repair net case d answer labels) = false
+is_refusal (AdjRepair net link answer) = false
 is_refusal (Uncovered answer) = false
+is_refusal (Loads net loads) = false
 is_refusal (Summary version counts) = false
 is_refusal (Audit version items) = false
 is_refusal (Hold version) = false

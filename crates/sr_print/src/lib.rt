@@ -2,11 +2,13 @@
 //! part of its line may stand there, and what stood before stays.
 #![tactic(auto)]
 
+mod adjacency;
 mod answers;
 mod audit;
 mod forwarding;
 mod line;
 mod link;
+mod load;
 mod names;
 mod number;
 mod refusal;
@@ -19,10 +21,12 @@ mod walk;
 mod way;
 mod work;
 
+pub use adjacency::put_adjrepair;
 pub use answers::put_answers;
 pub use audit::put_summary;
 pub use forwarding::{put_label, put_next};
 pub use line::{put_dist, put_dropped, put_show, put_staged, put_version};
+pub use load::put_loads;
 pub use names::Names;
 pub use refusal::Refusal;
 pub use refused::put_refused;

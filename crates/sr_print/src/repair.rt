@@ -145,7 +145,7 @@ fn put_labels(labels: &[u32], out: &mut Vec<u8>) -> Result<(), AllocError>
 
 /// Appends ` via LINK segments SEGMENTS labels LABELS cost C`.
 /// After an error a part of it may stand there; what stood before stays.
-fn put_list(
+pub(crate) fn put_list(
     net: &Net,
     list: &RepairList,
     labels: &[u32],

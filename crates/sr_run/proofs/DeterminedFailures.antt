@@ -23,16 +23,22 @@ use Rattle.sr_laws.proofs.Audits.{audit-one}
 use Rattle.sr_laws.proofs.Failures.{failed-one, test-same}
 use Rattle.sr_laws.proofs.Stacks.{stack-one}
 use Rattle.sr_spaces.specs.Sets.{IsP, IsExtendedP, IsQ}
+use Rattle.sr_lsdb.specs.declared.facts.Facts.{Facts}
+use Rattle.sr_adjprot.specs.declared.answer.AdjAnswer.{AdjAnswer}
+use Rattle.sr_adjprot.specs.Active.{IsAdjAnswer}
+use Rattle.sr_adjprot.proofs.AnswerLemmas.{adj-answer-one}
+use Rattle.sr_adjprot.proofs.MarkLemmas.{eligible-one}
+use Rattle.sr_script.specs.declared.name.LinkName.{LinkName}
 use Rattle.sr_script.specs.declared.name.RepairName.{RepairName}
 use Rattle.sr_print.specs.Printed.{ended}
 use Rattle.sr_print.specs.Spaces.{node_words, set_line, spaces_lines}
 use Rattle.sr_print.specs.Told.{Told, spelled, is_refusal}
-use Rattle.sr_print.specs.Told.Told.{Spaces, Repair, Walk, Uncovered, Summary, Audit}
+use Rattle.sr_print.specs.Told.Told.{Spaces, Repair, AdjRepair, Walk, Uncovered, Summary, Audit}
 use Rattle.sr_repair.specs.Version.{NumberedNet}
-use Rattle.sr_run.specs.Failures.{AreCaseSpaces, IsRepaired, IsRepairWalked, TellsSpaces, TellsRepair, TellsRepairWalk, TellsSummary, TellsAudit}
+use Rattle.sr_run.specs.Failures.{AreCaseSpaces, IsActiveOf, IsRepaired, IsRepairWalked, TellsSpaces, TellsRepair, TellsAdjRepair, TellsAdjRepairOf, TellsRepairWalk, TellsSummary, TellsAudit}
 use Rattle.sr_run.specs.Questions.{IsRefused}
 use Rattle.sr_run.proofs.DeterminedTold.{AreAlike, alike, alike-refused}
-use Rattle.sr_run.proofs.DeterminedNames.{of-failure, of-affected}
+use Rattle.sr_run.proofs.DeterminedNames.{of-named_link, of-failure, of-affected}
 use Rattle.sr_run.proofs.DeterminedQuestions.{emptied-one, numbers-one}
 
 -- ---- spaces
@@ -84,6 +90,12 @@ least-not_other answer list e f = false≢true (sym f ∙ ap is_least e)
 
 list-one : (a b : RepairList) → Least a ≡ Least b → a ≡ b
 list-one a b e = cc
+
+-- a link of one set of facts has one answer for packets under its label
+active-one : (facts : Facts) (n : Net) (link : LinkNo) (answer other : AdjAnswer) → IsActiveOf facts n link answer → IsActiveOf facts n link other → answer ≡ other
+active-one facts n link answer other p q =
+    let tests : q.eligible ≡ p.eligible = eligible-one facts n q.eligible p.eligible q.are_eligible p.are_eligible in
+    adj-answer-one n p.eligible link answer other p.answer_is (subst (λ (t : List Bool). IsAdjAnswer n t link other) tests q.answer_is)
 
 -- the packet of a repair crosses one list of links
 repair-walked-one : (n : Net) → IsNet n → (case : Case) (d choice : ℕ) (links more : List LinkNo) → IsRepairWalked n case d choice links → IsRepairWalked n case d choice more → links ≡ more
@@ -147,6 +159,14 @@ module _ (version : NumberedNet) (net : IsNet version.net) (a b : Told) where
   repair-alike repair =
       of-affected (AreAlike a b) (IsRefused a) (IsRefused b) (alike-refused a b) version.net net.named repair
       (RepairIs version.net a) (RepairIs version.net b) repair-told
+
+  -- what is done with packets under an adjacency label
+  pub adjrepair-alike : (name : LinkName) (facts : Facts) → TellsAdjRepair name facts version a → TellsAdjRepair name facts version b → AreAlike a b
+  adjrepair-alike name facts =
+      of-named_link (AreAlike a b) (IsRefused a) (IsRefused b) (alike-refused a b) version.net net.named name
+      (λ link. TellsAdjRepairOf facts version.net link a) (λ link. TellsAdjRepairOf facts version.net link b)
+      (λ link x y. alike a b (AdjRepair version.net link x.0) (AdjRepair version.net link y.0) x.2 y.2
+      (ap (AdjRepair version.net link) (active-one facts version.net link x.0 y.0 x.1 y.1)))
 
   walk-told : (choice : ℕ) (case : Case) (d : ℕ) → IsUncovered version.net a case d ⊎ WalkIs version.net choice a case d → IsUncovered version.net b case d ⊎ WalkIs version.net choice b case d → AreAlike a b
   walk-told choice case d (inl x) (inl y) = alike a b (Uncovered x.0) (Uncovered y.0) x.3 y.3 (ap Uncovered (case-answer-one version.net case d x.0 y.0 x.1 y.1))

@@ -9,7 +9,7 @@ use Rattle.sr_lsdb.specs.Edit.{Edit}
 use Rattle.sr_lsdb.specs.Edit.Edit.{SetCost, TakeDown, BringUp, SetDepth}
 use Rattle.sr_script.specs.declared.name.LinkName.{LinkName}
 use Rattle.sr_script.specs.declared.command.Command.{Command}
-use Rattle.sr_script.specs.declared.command.Command.TheVariants.{Lsp, Cost, Down, Up, Depth, Commit, DropStaged, Dist, Next, Label, Spaces, Repair, Walk, WalkRepair, Audit, AuditFull, Hold, Watch, Join, Show}
+use Rattle.sr_script.specs.declared.command.Command.TheVariants.{Lsp, Cost, Down, Up, Depth, Commit, DropStaged, Dist, Next, Label, Spaces, Repair, AdjRepair, Walk, WalkRepair, Load, Audit, AuditFull, Hold, Watch, Join, Show}
 use Rattle.sr_script.specs.declared.line.Line.{Line}
 use Rattle.sr_script.specs.declared.line.Line.TheVariants.{Nothing as NoWord, Word}
 use Rattle.sr_script.specs.declared.line.LineFault.{LineFault}
@@ -23,17 +23,17 @@ use Rattle.sr_repair.specs.Version.{NumberedNet, version_of}
 use Rattle.sr_run.specs.Domain.{Domain, Background, last_version, with_hold, with_watch}
 use Rattle.sr_run.specs.Domain.Background.{AtRest, OfHold, OfWatch}
 use Rattle.sr_run.specs.Edits.{Refuses, EditsNamed}
-use Rattle.sr_run.specs.Questions.{TellsDistance, TellsNextHops, TellsLookup, TellsWalk}
-use Rattle.sr_run.specs.Failures.{TellsSpaces, TellsRepair, TellsRepairWalk, TellsSummary, TellsAudit}
+use Rattle.sr_run.specs.Questions.{TellsDistance, TellsNextHops, TellsLookup, TellsWalk, TellsLoads}
+use Rattle.sr_run.specs.Failures.{TellsSpaces, TellsRepair, TellsAdjRepair, TellsRepairWalk, TellsSummary, TellsAudit}
 use Rattle.sr_run.specs.Session.{TellsOf, Asks, Tells, TellsLine, IsRefusedAs}
 use Rattle.sr_run.specs.Background.{BeginsWork, JoinsWork, watch_from}
 use Rattle.sr_run.specs.Laws.{AreNets, JoinsMoved, LinesHaveOneAnswer}
 use Rattle.sr_script.proofs.LineLemmas.{one-thing, faults-agree, said-agrees}
 use Rattle.sr_run.proofs.DeterminedTold.{AreAlike, AreOne, alike, alike-refused, one-refused}
 use Rattle.sr_run.proofs.DeterminedEdits.{staged-one, announces-one, link-edited-one, dropped-one, commit-one}
-use Rattle.sr_run.proofs.DeterminedQuestions.{distance-alike, hops-alike, lookup-alike, walk-alike}
+use Rattle.sr_run.proofs.DeterminedQuestions.{distance-alike, hops-alike, lookup-alike, walk-alike, loads-alike}
 use Rattle.sr_run.proofs.DeterminedReports.{due-one, joins-unmoved}
-use Rattle.sr_run.proofs.DeterminedFailures.{spaces-alike, repair-alike, repair-walk-alike, summary-alike, audit-alike}
+use Rattle.sr_run.proofs.DeterminedFailures.{spaces-alike, repair-alike, adjrepair-alike, repair-walk-alike, summary-alike, audit-alike}
 
 -- no line is refused because memory ran out
 memory-not_told : (fault : LineFault) (reason : Refusal) → IsMemory fault → IsRefusedAs fault reason → ⊥
@@ -117,8 +117,10 @@ module _ (old : Domain) (nets : AreNets old) (a b : Told) (new next : Domain) wh
   said-one line (Label node label) says p q = has-one line (asked-one (TellsLookup node label) (λ version net. lookup-alike version net a b node label) p q)
   said-one line (Spaces repair) says p q = has-one line (asked-one (TellsSpaces repair) (λ version net. spaces-alike version net a b repair) p q)
   said-one line (Repair repair) says p q = has-one line (asked-one (TellsRepair repair) (λ version net. repair-alike version net a b repair) p q)
+  said-one line (AdjRepair link) says p q = has-one line (asked-one (TellsAdjRepair link old.editing.accepted) (λ version net. adjrepair-alike version net a b link old.editing.accepted) p q)
   said-one line (Walk ends choice) says p q = has-one line (asked-one (TellsWalk ends choice) (λ version net. walk-alike version net a b ends choice) p q)
   said-one line (WalkRepair repair choice) says p q = has-one line (asked-one (TellsRepairWalk repair choice) (λ version net. repair-walk-alike version net a b repair choice) p q)
+  said-one line (Load workers each) says p q = has-one line (asked-one (TellsLoads each) (λ version net. loads-alike version net a b each) p q)
   said-one line Audit says p q = has-one line (asked-one TellsSummary (λ version net. summary-alike version net a b) p q)
   said-one line AuditFull says p q = has-one line (asked-one TellsAudit (λ version net. audit-alike version net a b) p q)
   said-one line Hold says p q = has-one line (begun-one (λ version. HoldTold version.number) (with_hold old) (last_version old.nets) old.background p q)

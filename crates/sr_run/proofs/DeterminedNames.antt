@@ -15,7 +15,7 @@ use Rattle.sr_script.specs.declared.name.LinkName.{LinkName}
 use Rattle.sr_script.specs.declared.name.RepairName.{RepairName}
 use Rattle.sr_print.specs.declared.refusal.Refusal.{Refusal}
 use Rattle.sr_print.specs.declared.refusal.Refusal.TheVariants.{NoNode, NoDestination, NotAffected}
-use Rattle.sr_run.specs.Names.{IsLinkOf, OfNode, OfEnds, OfAnnounced, OfLink, OfFailure, OfAffected, ends_of, key_meant, missing_link}
+use Rattle.sr_run.specs.Names.{IsLinkOf, OfNode, OfEnds, OfAnnounced, OfLink, OfNamedLink, OfFailure, OfAffected, ends_of, key_meant, missing_link}
 
 -- a name means one link
 pub link-one : (net : Net) → IsNamed net.graph → (name : LinkName) (a b : LinkNo) → IsLinkOf net name a → IsLinkOf net name b → a ≡ b
@@ -55,6 +55,10 @@ module _ (R : Type 0) (P Q : Refusal → Type 0) (refused : (reason : Refusal) �
   of-link net named name A B held (inr a) (inr b) =
       let same : b.0 ≡ a.0 = link-one net named name b.0 a.0 b.1 a.1 in
       held a.0 a.2 (subst B same b.2)
+
+  -- and of one whose ends are named
+  pub of-named_link : (net : Net) → IsNamed net.graph → (name : LinkName) (A B : LinkNo → Type 0) → ((l : LinkNo) → A l → B l → R) → OfNamedLink P net name A → OfNamedLink Q net name B → R
+  of-named_link net named name A B held = of-ends net.graph named (ends_of name) _ _ (λ u v. of-link net named name A B held)
 
   -- of a case and a destination
   pub of-failure : (net : Net) → IsNamed net.graph → (repair : RepairName) (A B : Case → ℕ → Type 0) → ((c : Case) (d : ℕ) → A c d → B c d → R) → OfFailure P net repair A → OfFailure Q net repair B → R

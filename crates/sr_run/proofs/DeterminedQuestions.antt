@@ -1,4 +1,4 @@
--- Questions about a version are told alike: distances, next hops, labels and walks.
+-- Questions about a version are told alike: distances, next hops, labels, walks and loads.
 use Rattle.std.proofs.Common.{◌≡◌, ℕ, ◌<◌, Bool, List, [], ◌∷◌, refl, sym, ap, subst, ◌∙◌, arith, inl, inr, ⊎_elim, Option, Some, None}
 use Rattle.std.specs.Prelude.{slice_get}
 use Rattle.sr_model.specs.declared.link.LinkNo.{LinkNo}
@@ -16,12 +16,14 @@ use Rattle.sr_laws.proofs.Parts.{link_is}
 use Rattle.sr_laws.proofs.Stacks.{label-same}
 use Rattle.sr_spf.specs.Hops.{AreNextHops}
 use Rattle.sr_fib.specs.Entries.{numbers}
+use Rattle.sr_loads.specs.Loads.{LinkLoads}
+use Rattle.sr_loads.proofs.Uniqueness.{loads-one}
 use Rattle.sr_script.specs.declared.name.EndNames.{EndNames}
 use Rattle.sr_print.specs.declared.refusal.Refusal.TheVariants.{NoDestination}
 use Rattle.sr_print.specs.Told.{Told}
-use Rattle.sr_print.specs.Told.Told.{Distance, NextHops, Lookup, Walk}
+use Rattle.sr_print.specs.Told.Told.{Distance, NextHops, Lookup, Walk, Loads}
 use Rattle.sr_repair.specs.Version.{NumberedNet}
-use Rattle.sr_run.specs.Questions.{IsRefused, IsForwarded, TellsDistance, TellsNextHops, TellsLookup, TellsWalk, TellsWalkOf}
+use Rattle.sr_run.specs.Questions.{IsRefused, IsForwarded, TellsDistance, TellsNextHops, TellsLookup, TellsWalk, TellsWalkOf, TellsLoads}
 use Rattle.sr_run.proofs.DeterminedTold.{AreAlike, alike, alike-refused}
 use Rattle.sr_run.proofs.DeterminedNames.{none-not_some, of-node, of-ends}
 
@@ -121,3 +123,9 @@ module _ (version : NumberedNet) (net : IsNet version.net) (a b : Told) where
       (λ none. ⊎_elim (λ also. alike-refused a b (NoDestination ends.to) none.1 also.1) (λ there. absurd (none-not_some (labels_at version.net to).index none.0 there.0)) y)
       (λ there. ⊎_elim (λ none. absurd (none-not_some (labels_at version.net to).index none.0 there.0)) (λ also. walk-between from to choice there.1 also.1) y)
       x)
+
+  -- the loads of the links
+  pub loads-alike : (each : ℕ) → TellsLoads each version a → TellsLoads each version b → AreAlike a b
+  loads-alike each x y =
+      alike a b (Loads version.net x.0) (Loads version.net y.0) x.2 y.2
+      (ap (Loads version.net) (loads-one version.net net each x.0 y.0 x.1 y.1))

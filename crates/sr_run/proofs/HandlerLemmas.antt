@@ -7,6 +7,7 @@ use Rattle.sr_model.specs.declared.rule.DomainRule.{DomainRule}
 use Rattle.sr_model.specs.Label.{Net}
 use Rattle.sr_lsp.specs.declared.lsp.Lsp.{Lsp}
 use Rattle.sr_lsp.specs.Lsp.{Reads}
+use Rattle.sr_lsdb.specs.declared.facts.Facts.{Facts}
 use Rattle.sr_lsdb.specs.declared.stage_fault.StageFault.{StageFault}
 use Rattle.sr_lsdb.specs.declared.stage_fault.StageFault.TheVariants.{Stale, Full, Memory as WantingMemory}
 use Rattle.sr_lsdb.specs.Edit.{Edit}
@@ -43,6 +44,11 @@ carries-weaker P Q before after (Err (Memory error)) f c = tt
 pub asked : (tells : NumberedNet → Told → Type 0) (state : State) (told : Told) → TellsOf tells state.current told → Moves (Asks tells) state state told
 asked tells state told is domain same =
     (domain, same, (subst (λ (o : Option NumberedNet). TellsOf tells o told) (sym (ap (λ (s : State). s.current) same)) is, refl))
+
+-- so is one about the accepted facts and the last version
+pub asked-facts : (tells : Facts → NumberedNet → Told → Type 0) (state : State) (told : Told) → TellsOf (tells state.editing.accepted) state.current told → Moves (λ domain t next. Asks (tells domain.editing.accepted) domain t next) state state told
+asked-facts tells state told is domain same =
+    (domain, same, (subst (λ (s : State). TellsOf (tells s.editing.accepted) s.current told) (sym same) is, refl))
 
 -- what is told of the last version
 pub told-of : (tells : NumberedNet → Told → Type 0) (current : Option NumberedNet) (version : NumberedNet) (told : Told) → current ≡ Some version → tells version told → TellsOf tells current told

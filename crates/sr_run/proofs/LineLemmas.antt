@@ -7,7 +7,7 @@ use Rattle.std.proofs.lemmas.Bool.Decides.{nat_tests}
 use Rattle.sr_base.specs.declared.SinkFault.{SinkFault}
 use Rattle.std.proofs.lemmas.List.{take_all}
 use Rattle.sr_script.specs.declared.command.Command.{Command}
-use Rattle.sr_script.specs.declared.command.Command.TheVariants.{Cost, Depth, Watch}
+use Rattle.sr_script.specs.declared.command.Command.TheVariants.{Cost, Depth, Load, Watch}
 use Rattle.sr_script.specs.declared.line.Line.{Line}
 use Rattle.sr_script.specs.declared.line.Line.TheVariants.{Nothing as NoWord, Word}
 use Rattle.sr_script.specs.declared.line.LineFault.{LineFault}
@@ -16,7 +16,7 @@ use Rattle.sr_script.specs.LineSays.{LineSays, IsLineFault}
 use Rattle.sr_script.specs.Number.{number_in, number_read, within}
 use Rattle.sr_script.specs.Words.{word_at, words_of}
 use Rattle.sr_model.specs.declared.link.TheConstants.{MOST_METRIC}
-use Rattle.sr_script.specs.declared.command.TheConstants.{MOST_DEPTH, MOST_WATCHERS, MOST_ROUNDS}
+use Rattle.sr_script.specs.declared.command.TheConstants.{MOST_DEPTH, MOST_WATCHERS, MOST_ROUNDS, MOST_WORKERS, MOST_EACH}
 use Rattle.sr_engine.specs.Lines.{head_of}
 use Rattle.sr_engine.specs.Replies.{Gave, Broke, Gives, AtEnd, ToHead, ToLast}
 use Rattle.sr_engine.specs.Written.{Written}
@@ -91,6 +91,10 @@ number-bounds low high word n e = within-bounds low high (number_read word) n e
 pub said-well : (line : List ℕ) (command : Command) → LineSays line (Word command) → IsAsked command
 said-well line (Cost link metric) p = let b = number-bounds 1 MOST_METRIC (word_at (words_of line) 4) metric p.says.others.1.1.1.0 in (omega (arith, b.0), omega (arith, b.1))
 said-well line (Depth depth) p = (number-bounds 0 MOST_DEPTH (word_at (words_of line) 1) depth p.says.others.0).1
+said-well line (Load workers each) p =
+    let w = number-bounds 1 MOST_WORKERS (word_at (words_of line) 1) workers p.says.others.0 in
+    let k = number-bounds 1 MOST_EACH (word_at (words_of line) 2) each p.says.others.1.0 in
+    (omega (arith, w.0), omega (arith, w.1), omega (arith, k.0), omega (arith, k.1))
 said-well line (Watch watchers rounds) p =
     let t = number-bounds 1 MOST_WATCHERS (word_at (words_of line) 1) watchers p.says.others.0 in
     let r = number-bounds 1 MOST_ROUNDS (word_at (words_of line) 2) rounds p.says.others.1.0 in

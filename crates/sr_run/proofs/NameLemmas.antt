@@ -12,8 +12,8 @@ use Rattle.sr_script.specs.declared.name.LinkName.{LinkName}
 use Rattle.sr_script.specs.declared.name.RepairName.{RepairName}
 use Rattle.sr_print.specs.declared.refusal.Refusal.{Refusal}
 use Rattle.sr_print.specs.declared.refusal.Refusal.TheVariants.{NoNode, NoDestination, NotAffected}
-use Rattle.sr_run.specs.Names.{NamesNode, IsNamedNode, NoLinkOf, OfNode, OfEnds, OfAnnounced, OfLink, OfFailure, OfAffected, ends_of, key_meant, missing_link}
-use Rattle.sr_run.specs.Handlers.{AreEnds, IsAnnounced, IsFailureOf, IsAffectedOf, LacksEnd, LacksAnnounced, LacksFailure, LacksAffected}
+use Rattle.sr_run.specs.Names.{NamesNode, IsNamedNode, NoLinkOf, OfNode, OfEnds, OfAnnounced, OfLink, OfNamedLink, OfFailure, OfAffected, ends_of, key_meant, missing_link}
+use Rattle.sr_run.specs.Handlers.{AreEnds, IsAnnounced, IsNamedLink, IsFailureOf, IsAffectedOf, LacksEnd, LacksAnnounced, LacksLink, LacksFailure, LacksAffected}
 
 -- what is said of a refusal and of what is there may be said more weakly
 node-weaker : (P Q : Refusal → Type 0) (g : Graph) (system : ℕ) (A B : ℕ → Type 0) → ((r : Refusal) → P r → Q r) → ((v : ℕ) → A v → B v) → OfNode P g system A → OfNode Q g system B
@@ -37,6 +37,9 @@ announced-weaker P Q net name A B refuses holds = ends-weaker P Q net.graph (end
 link-weaker : (P Q : Refusal → Type 0) (net : Net) (name : LinkName) (A B : LinkNo → Type 0) → ((r : Refusal) → P r → Q r) → ((l : LinkNo) → A l → B l) → OfLink P net name A → OfLink Q net name B
 link-weaker P Q net name A B refuses holds (inl none) = inl (none.0, refuses _ none.1)
 link-weaker P Q net name A B refuses holds (inr there) = inr (there.0, there.1, holds there.0 there.2)
+
+named_link-weaker : (P Q : Refusal → Type 0) (net : Net) (name : LinkName) (A B : LinkNo → Type 0) → ((r : Refusal) → P r → Q r) → ((l : LinkNo) → A l → B l) → OfNamedLink P net name A → OfNamedLink Q net name B
+named_link-weaker P Q net name A B refuses holds = ends-weaker P Q net.graph (ends_of name) _ _ refuses (λ u v. link-weaker P Q net name A B refuses holds)
 
 failure-weaker : (P Q : Refusal → Type 0) (net : Net) (repair : RepairName) (A B : Case → ℕ → Type 0) → ((r : Refusal) → P r → Q r) → ((c : Case) (d : ℕ) → A c d → B c d) → OfFailure P net repair A → OfFailure Q net repair B
 failure-weaker P Q net repair A B refuses holds = ends-weaker P Q net.graph (ends_of repair.link) _ _ refuses (λ u v.
@@ -69,6 +72,9 @@ module _ (refuses : Refusal → Type 0) (reason : Refusal) (is : refuses reason)
   pub lacks-announced : (net : Net) (name : LinkName) (holds : LinkKey → Type 0) → LacksAnnounced net name reason → OfAnnounced refuses net name holds
   lacks-announced net name holds = announced-weaker (λ missing. reason ≡ missing) refuses net name (λ k. ⊥) holds told (λ k no. absurd no)
 
+  pub lacks-named_link : (net : Net) (name : LinkName) (holds : LinkNo → Type 0) → LacksLink net name reason → OfNamedLink refuses net name holds
+  lacks-named_link net name holds = named_link-weaker (λ missing. reason ≡ missing) refuses net name (λ l. ⊥) holds told (λ l no. absurd no)
+
   pub lacks-failure : (net : Net) (repair : RepairName) (holds : Case → ℕ → Type 0) → LacksFailure net repair reason → OfFailure refuses net repair holds
   lacks-failure net repair holds = failure-weaker (λ missing. reason ≡ missing) refuses net repair (λ c d. ⊥) holds told (λ c d no. absurd no)
 
@@ -81,6 +87,9 @@ has-ends refuses net ends from to holds are is = inr (from, are.0, inr (to, are.
 
 pub has-announced : (refuses : Refusal → Type 0) (net : Net) (name : LinkName) (key : LinkKey) (holds : LinkKey → Type 0) → IsAnnounced net name key → holds key → OfAnnounced refuses net name holds
 has-announced refuses net name key holds a is = inr (a.from.0, a.from.1, inr (a.to.0, a.to.1, inr (key, a.key_is, is)))
+
+pub has-named_link : (refuses : Refusal → Type 0) (net : Net) (name : LinkName) (link : LinkNo) (holds : LinkNo → Type 0) → IsNamedLink net name link → holds link → OfNamedLink refuses net name holds
+has-named_link refuses net name link holds a is = inr (a.from.0, a.from.1, inr (a.to.0, a.to.1, inr (link, a.link_is, is)))
 
 pub has-failure : (refuses : Refusal → Type 0) (net : Net) (repair : RepairName) (case : Case) (d : ℕ) (holds : Case → ℕ → Type 0) → IsFailureOf net repair case d → holds case d → OfFailure refuses net repair holds
 has-failure refuses net repair case d holds f is =
@@ -111,7 +120,10 @@ pub announced-then : (R : Type 0) (P : Refusal → Type 0) (net : Net) (name : L
 announced-then R P net name A refused held =
     node-then R P net.graph name.from _ refused (λ u. node-then R P net.graph name.to _ refused (λ v. key-then R P net name A refused held))
 
--- a destination that is no node, and a link that the net lacks, are missing
+-- a link that the net lacks, and a destination that is no node, are missing
+pub lacks-named : (net : Net) (name : LinkName) (from to : ℕ) (reason : Refusal) → AreEnds net (ends_of name) from to → NoLinkOf net name → reason ≡ missing_link name → LacksLink net name reason
+lacks-named net name from to reason are none is = inr (from, are.0, inr (to, are.1, inl (none, is)))
+
 pub lacks-dest : (net : Net) (repair : RepairName) (from to : ℕ) (reason : Refusal) → AreEnds net (ends_of repair.link) from to → (NamesNode net.graph repair.dest → ⊥) → reason ≡ NoNode repair.dest → LacksFailure net repair reason
 lacks-dest net repair from to reason are none is = inr (from, are.0, inr (to, are.1, inl (none, is)))
 

@@ -16,12 +16,18 @@ use Rattle.sr_model.specs.Repair.{IsCaseAnswer}
 use Rattle.sr_model.specs.Audit.{AreLabelsOf, IsAudit, is_least, counts_of}
 use Rattle.sr_spaces.specs.Sets.{IsP, IsExtendedP, IsQ}
 use Rattle.sr_fib.specs.Entries.{numbers}
+use Rattle.sr_lsdb.specs.declared.facts.Facts.{Facts}
+use Rattle.sr_adjprot.specs.declared.answer.AdjAnswer.{AdjAnswer}
+use Rattle.sr_adjprot.specs.Eligible.{AreEligible}
+use Rattle.sr_adjprot.specs.Active.{IsAdjAnswer}
+use Rattle.sr_adjprot.specs.Delivery.{AdjDelivers}
+use Rattle.sr_script.specs.declared.name.LinkName.{LinkName}
 use Rattle.sr_script.specs.declared.name.RepairName.{RepairName}
 use Rattle.sr_print.specs.Told.{Told}
-use Rattle.sr_print.specs.Told.Told.{Spaces, Repair, Walk, Uncovered, Summary, Audit}
+use Rattle.sr_print.specs.Told.Told.{Spaces, Repair, AdjRepair, Walk, Uncovered, Summary, Audit}
 use Rattle.sr_repair.specs.Version.{NumberedNet}
 use Rattle.sr_repair.specs.Delivery.{RepairDelivers}
-use Rattle.sr_run.specs.Names.{OfFailure, OfAffected}
+use Rattle.sr_run.specs.Names.{OfNamedLink, OfFailure, OfAffected}
 use Rattle.sr_run.specs.Questions.{IsRefused}
 
 -- the tests tell P and extended P of the source of the case, and Q of the destination
@@ -67,6 +73,24 @@ TellsRepairOf net case d told =
 abbrev pub TellsRepair : RepairName → NumberedNet → Told → Type 0
 TellsRepair repair version told =
     OfAffected (IsRefused told) version.net repair (λ case d. TellsRepairOf version.net case d told)
+
+-- what the router at the beginning of the link does with a packet under the link's adjacency label, which the facts tell
+-- to be eligible or not; the packet arrives
+pub record IsActiveOf (facts : Facts) (net : Net) (link : LinkNo) (answer : AdjAnswer) : Type 0 where
+  pub eligible : List Bool
+  pub are_eligible : AreEligible facts net eligible
+  pub answer_is : IsAdjAnswer net eligible link answer
+  pub delivers : AdjDelivers net link answer
+
+-- what is done with a packet under the label of the link
+abbrev pub TellsAdjRepairOf : Facts → Net → LinkNo → Told → Type 0
+TellsAdjRepairOf facts net link told =
+    (answer : AdjAnswer) × IsActiveOf facts net link answer × (told ≡ AdjRepair net link answer)
+
+-- `adjrepair`: of the link that is named
+abbrev pub TellsAdjRepair : LinkName → Facts → NumberedNet → Told → Type 0
+TellsAdjRepair name facts version told =
+    OfNamedLink (IsRefused told) version.net name (λ link. TellsAdjRepairOf facts version.net link told)
 
 -- the packet of the repair crosses its first link, and goes on under its stack by the choice number, the failed links
 -- being closed; it reaches the destination with an empty stack, at the cost of the repair

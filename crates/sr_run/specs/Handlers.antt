@@ -4,6 +4,7 @@ use Rattle.std.specs.declared.result.Result.{Result}
 use Rattle.std.specs.declared.result.Result.TheVariants.{Ok, Err}
 use Rattle.sr_model.specs.declared.case.Case.{Case}
 use Rattle.sr_model.specs.Case.{IsAffected}
+use Rattle.sr_model.specs.declared.link.LinkNo.{LinkNo}
 use Rattle.sr_model.specs.declared.name.LinkKey.{LinkKey}
 use Rattle.sr_model.specs.Label.{Net}
 use Rattle.sr_model.specs.Key.{pair_of}
@@ -16,8 +17,8 @@ use Rattle.sr_script.specs.declared.name.LinkName.{LinkName}
 use Rattle.sr_script.specs.declared.name.RepairName.{RepairName}
 use Rattle.sr_script.specs.declared.command.Command.{Command}
 use Rattle.sr_model.specs.declared.link.TheConstants.{MOST_METRIC}
-use Rattle.sr_script.specs.declared.command.TheConstants.{MOST_DEPTH, MOST_WATCHERS, MOST_ROUNDS}
-use Rattle.sr_script.specs.declared.command.Command.TheVariants.{Cost, Depth, Commit, AuditFull, Hold, Watch, Join}
+use Rattle.sr_script.specs.declared.command.TheConstants.{MOST_DEPTH, MOST_WATCHERS, MOST_ROUNDS, MOST_WORKERS, MOST_EACH}
+use Rattle.sr_script.specs.declared.command.Command.TheVariants.{Cost, Depth, Load, Commit, AuditFull, Hold, Watch, Join}
 use Rattle.sr_print.specs.declared.refusal.Refusal.{Refusal}
 use Rattle.sr_print.specs.declared.refusal.Refusal.TheVariants as refusal
 use Rattle.sr_print.specs.Told.{Told, spelled, is_refusal}
@@ -48,7 +49,7 @@ use Rattle.sr_run.specs.declared.commit.TheConstants.{MOST_VERSIONS}
 use Rattle.sr_run.specs.Domain.{Domain, number_of}
 use Rattle.sr_run.specs.Edits.{Commits}
 use Rattle.sr_run.specs.Background.{JoinsReporting}
-use Rattle.sr_run.specs.Names.{IsNamedNode, NamesNode, OfEnds, OfAnnounced, OfFailure, OfAffected, IsLinkOf, key_meant}
+use Rattle.sr_run.specs.Names.{IsNamedNode, NamesNode, OfEnds, OfAnnounced, OfNamedLink, OfFailure, OfAffected, IsLinkOf, key_meant}
 use Rattle.sr_run.specs.Session.{Tells, Answers, EndsScript, IsRefusedAs}
 use Rattle.sr_run.specs.State.{State, Session, IsShown, CanReport, HasAudit, IsNextVersion, session_before, state_of, with_next_version}
 
@@ -99,10 +100,11 @@ SessionEnds old out new = StepsAs (λ domain next. EndsScript domain out next) o
 abbrev pub session_conduct : Conduct Session
 session_conduct = record { answers = SessionAnswers; ends = SessionEnds }
 
--- the arguments of an edit are in range, as those of each command that a line says
+-- the arguments are in range, as those of each command that a line says
 abbrev pub IsAsked : Command → Type 0
 IsAsked (Cost link metric) = (0 < metric) × (metric ≤ MOST_METRIC)
 IsAsked (Depth depth) = depth ≤ MOST_DEPTH
+IsAsked (Load workers each) = (0 < workers) × (workers ≤ MOST_WORKERS) × (0 < each) × (each ≤ MOST_EACH)
 IsAsked (Watch watchers rounds) = (0 < watchers) × (watchers ≤ MOST_WATCHERS) × (rounds ≤ MOST_ROUNDS)
 IsAsked _ = Unit {0}
 
@@ -131,6 +133,16 @@ pub record IsAnnounced (net : Net) (name : LinkName) (key : LinkKey) : Type 0 wh
 -- the refusal names what is missing of it: an end, or the link
 abbrev pub LacksAnnounced : Net → LinkName → Refusal → Type 0
 LacksAnnounced net name reason = OfAnnounced (λ missing. reason ≡ missing) net name (λ key. ⊥)
+
+-- the link of the net of this name, and its ends are nodes
+pub record IsNamedLink (net : Net) (name : LinkName) (link : LinkNo) : Type 0 where
+  pub from : NamesNode net.graph name.from
+  pub to : NamesNode net.graph name.to
+  pub link_is : IsLinkOf net name link
+
+-- the refusal names what is missing of it: an end, or the link
+abbrev pub LacksLink : Net → LinkName → Refusal → Type 0
+LacksLink net name reason = OfNamedLink (λ missing. reason ≡ missing) net name (λ link. ⊥)
 
 -- the case and the destination's node that a line asks of
 pub record IsFailureOf (net : Net) (repair : RepairName) (case : Case) (d : ℕ) : Type 0 where

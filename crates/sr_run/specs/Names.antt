@@ -66,6 +66,12 @@ OfLink refuses net name holds =
     (NoLinkOf net name × refuses (missing_link name))
     ⊎ ((link : LinkNo) × IsLinkOf net name link × holds link)
 
+-- the first of the two ends that isn't a node is refused, or else the link that the net lacks; or it is there, and this
+-- holds of the link
+abbrev pub OfNamedLink : (Refusal → Type 0) → Net → LinkName → (LinkNo → Type 0) → Type 0
+OfNamedLink refuses net name holds =
+    OfEnds refuses net.graph (ends_of name) (λ from to. OfLink refuses net name holds)
+
 -- the first of the three systems that isn't a node is refused, or else the link that the net lacks; or all are there,
 -- and this holds of the case and the destination's node
 abbrev pub OfFailure : (Refusal → Type 0) → Net → RepairName → (Case → ℕ → Type 0) → Type 0

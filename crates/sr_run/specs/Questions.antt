@@ -1,4 +1,4 @@
--- What is told to questions about a version: distances, next hops, labels and walks.
+-- What is told to questions about a version: distances, next hops, labels, walks and loads.
 use Rattle.std.specs.Prelude.{◌≡◌, ℕ, ◌⊎◌, true, List, [], ◌∷◌, Option, Some, None, is_some}
 use Rattle.sr_model.specs.declared.link.LinkNo.{LinkNo}
 use Rattle.sr_model.specs.declared.entry.Entry.{Entry}
@@ -9,11 +9,12 @@ use Rattle.sr_model.specs.Forward.{RunBy, crossed}
 use Rattle.sr_model.specs.Table.{IsLookup}
 use Rattle.sr_spf.specs.Hops.{AreNextHops}
 use Rattle.sr_fib.specs.Entries.{numbers}
+use Rattle.sr_loads.specs.Loads.{LinkLoads, IsLoads}
 use Rattle.sr_script.specs.declared.name.EndNames.{EndNames}
 use Rattle.sr_print.specs.declared.refusal.Refusal.{Refusal}
 use Rattle.sr_print.specs.declared.refusal.Refusal.TheVariants.{NoDestination}
 use Rattle.sr_print.specs.Told.{Told}
-use Rattle.sr_print.specs.Told.Told.{Distance, NextHops, Lookup, Walk, Refused}
+use Rattle.sr_print.specs.Told.Told.{Distance, NextHops, Lookup, Walk, Loads, Refused}
 use Rattle.sr_repair.specs.Version.{NumberedNet}
 use Rattle.sr_run.specs.Names.{OfNode, OfEnds}
 
@@ -62,3 +63,8 @@ TellsWalkTo net system from to choice told =
 abbrev pub TellsWalk : EndNames → ℕ → NumberedNet → Told → Type 0
 TellsWalk ends choice version told = OfEnds (IsRefused told) version.net.graph ends (λ from to.
     TellsWalkTo version.net ends.to from to choice told)
+
+-- `load`: how often each link is crossed by so many packets from each node to each other
+abbrev pub TellsLoads : ℕ → NumberedNet → Told → Type 0
+TellsLoads each version told =
+    (loads : LinkLoads) × IsLoads version.net each loads × (told ≡ Loads version.net loads)

@@ -4,7 +4,7 @@ use Rattle.sr_model.specs.Key.{pair_of}
 use Rattle.sr_model.specs.Graph.{node_count, link_count}
 use Rattle.sr_lsdb.specs.Edit.Edit.{SetCost, TakeDown, BringUp, SetDepth}
 use Rattle.sr_script.specs.declared.command.Command.{Command}
-use Rattle.sr_script.specs.declared.command.Command.TheVariants.{Lsp, Cost, Down, Up, Depth, Commit, DropStaged, Dist, Next, Label, Spaces, Repair, Walk, WalkRepair, Audit, AuditFull, Hold, Watch, Join, Show}
+use Rattle.sr_script.specs.declared.command.Command.TheVariants.{Lsp, Cost, Down, Up, Depth, Commit, DropStaged, Dist, Next, Label, Spaces, Repair, AdjRepair, Walk, WalkRepair, Load, Audit, AuditFull, Hold, Watch, Join, Show}
 use Rattle.sr_script.specs.declared.line.Line.TheVariants.{Nothing as NoWord, Word}
 use Rattle.sr_script.specs.declared.line.LineFault.{LineFault}
 use Rattle.sr_script.specs.declared.line.LineFault.TheVariants as fault
@@ -18,8 +18,8 @@ use Rattle.sr_engine.specs.Replies.{Conduct}
 use Rattle.sr_run.specs.Domain.{Domain, last_version, number_of}
 use Rattle.sr_run.specs.Edits.{Refuses, Announces, EditsLink, StagesEdit, DropsStaged, Commits}
 use Rattle.sr_run.specs.Background.{BeginsHold, BeginsWatch, JoinsWork, EndsWork}
-use Rattle.sr_run.specs.Questions.{TellsDistance, TellsNextHops, TellsLookup, TellsWalk}
-use Rattle.sr_run.specs.Failures.{TellsSpaces, TellsRepair, TellsRepairWalk, TellsSummary, TellsAudit}
+use Rattle.sr_run.specs.Questions.{TellsDistance, TellsNextHops, TellsLookup, TellsWalk, TellsLoads}
+use Rattle.sr_run.specs.Failures.{TellsSpaces, TellsRepair, TellsAdjRepair, TellsRepairWalk, TellsSummary, TellsAudit}
 
 -- this is told of the version, or there is none, which is refused
 abbrev pub TellsOf : (NumberedNet → Told → Type 0) → Option NumberedNet → Told → Type 0
@@ -68,8 +68,10 @@ Tells old (Next ends) told new = Asks (TellsNextHops ends) old told new
 Tells old (Label node label) told new = Asks (TellsLookup node label) old told new
 Tells old (Spaces repair) told new = Asks (TellsSpaces repair) old told new
 Tells old (Repair repair) told new = Asks (TellsRepair repair) old told new
+Tells old (AdjRepair link) told new = Asks (TellsAdjRepair link old.editing.accepted) old told new
 Tells old (Walk ends choice) told new = Asks (TellsWalk ends choice) old told new
 Tells old (WalkRepair repair choice) told new = Asks (TellsRepairWalk repair choice) old told new
+Tells old (Load workers each) told new = Asks (TellsLoads each) old told new
 Tells old Audit told new = Asks TellsSummary old told new
 Tells old AuditFull told new = Asks TellsAudit old told new
 Tells old Hold told new = BeginsHold old told new

@@ -230,7 +230,7 @@ impl<G: Gate> ScriptSession<G> {
                 Err(wanting) => Err(Stop::Memory(wanting)),
             },
             Command::Commit => replied(self.commit(rt, out)),
-            other => self.domain.tell(other, out),
+            other => self.domain.tell(rt, other, out),
         }
     }
 

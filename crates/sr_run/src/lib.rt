@@ -1,6 +1,7 @@
 //! The program's session, and its top call.
 #![tactic(auto)]
 
+mod adjacencies;
 mod audits;
 mod background;
 mod commit;
@@ -11,6 +12,7 @@ mod failures;
 mod forwarding;
 mod laws;
 mod lines;
+mod loaded;
 mod names;
 mod program;
 mod repaired;

@@ -3,7 +3,7 @@ ghost use Rattle.std.specs.Prelude.{◌≡◌, None, Some, MatchOption, MatchRes
 ghost use Rattle.sr_model.specs.Case.{IsAffected, IsCase};
 ghost use Rattle.sr_model.specs.Repair.{IsCaseAnswer};
 ghost use Rattle.sr_run.specs.Names.{NamesNode, IsLinkOf, IsNamedNode, NoLinkOf, ends_of, missing_link};
-ghost use Rattle.sr_run.specs.Handlers.{AreEnds, IsAffectedOf, IsAnnounced, IsFailureOf, LacksAffected, LacksAnnounced, LacksEnd, LacksFailure};
+ghost use Rattle.sr_run.specs.Handlers.{AreEnds, IsAffectedOf, IsAnnounced, IsFailureOf, IsNamedLink, LacksAffected, LacksAnnounced, LacksEnd, LacksFailure, LacksLink};
 
 use sr_model::{Answer, Case, LinkKey, LinkNo, NodeNo, SystemId};
 use sr_print::Refusal;
@@ -91,6 +91,22 @@ fn link_of(version: &Version, link: &LinkName) -> Option<LinkNo>
     match version.net().named(link.from, link.to, u64::from(link.n)) {
         Some(key) => version.net().graph().find(&key),
         None => None,
+    }
+}
+
+/// The link of the net of this name, or the refusal that names what is missing: one of its ends, or the link.
+pub(crate) fn find_link(version: &Version, link: &LinkName) -> Result<LinkNo, Refusal>
+    ensures { MatchResult result
+        (IsNamedLink version.now.net link.now)
+        (LacksLink version.now.net link.now) }
+{
+    match find_ends(version, &ends_of(link)) {
+        Ok(_nodes) => {}
+        Err(reason) => return Err(reason),
+    }
+    match link_of(version, link) {
+        Some(found) => Ok(found),
+        None => Err(missing_link(link)),
     }
 }
 

@@ -11,9 +11,10 @@ use crate::distances::{dist, next};
 use crate::edits::LinkEdit;
 use crate::failures::{repair, spaces};
 use crate::forwarding::{label, walk_packet};
+use crate::loaded::load;
 use crate::repaired::walk_repair;
 use crate::stop::Stop;
-use sr_base::{Sink, SinkFault};
+use sr_base::{Runtime, Sink, SinkFault};
 use sr_engine::Answers;
 use sr_lsdb::Editor;
 use sr_print::{Refusal, put_refused, put_show};
@@ -175,7 +176,12 @@ impl DomainSession {
 
     /// Carries out a command that leaves background work alone, and appends the answer; of `audit full` nothing is
     /// appended.
-    pub(crate) fn tell(&mut self, command: Command, out: &mut Vec<u8>) -> Result<Reply, Stop>
+    pub(crate) fn tell(
+        &mut self,
+        rt: &impl Runtime,
+        command: Command,
+        out: &mut Vec<u8>,
+    ) -> Result<Reply, Stop>
         requires asked { IsAsked command }
         requires domain { IsOfDomain command }
         ensures told { RepliesTo command self.old self.new out.old.items out.new.items result }
@@ -202,6 +208,7 @@ impl DomainSession {
             } => replied(label(current, node, number, out)),
             Command::Spaces { repair: name } => replied(spaces(alloc, current, &name, out)),
             Command::Repair { repair: name } => replied(repair(alloc, current, &name, out)),
+            Command::AdjRepair { link } => replied(self.adjrepair(&link, out)),
             Command::Walk { ends, choice } => replied(walk_packet(
                 alloc, current, &ends, choice, out,
             )),
@@ -209,6 +216,9 @@ impl DomainSession {
                 repair: name,
                 choice,
             } => replied(walk_repair(alloc, current, &name, choice, out)),
+            Command::Load { workers, each } => replied(load(
+                rt, alloc, current, workers, each, out,
+            )),
             Command::Audit => replied(audit_counts(current, out)),
             Command::AuditFull => begin_audit(current),
             Command::Commit | Command::Hold | Command::Watch { .. } | Command::Join => {

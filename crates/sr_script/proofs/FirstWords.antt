@@ -11,7 +11,7 @@ use Rattle.sr_script.specs.declared.name.EndNames.{EndNames}
 use Rattle.sr_script.specs.declared.name.LinkName.{LinkName}
 use Rattle.sr_script.specs.declared.name.RepairName.{RepairName}
 use Rattle.sr_script.specs.declared.command.Command.{Command}
-use Rattle.sr_script.specs.declared.command.Command.TheVariants.{Lsp, Cost, Down, Up, Depth, Commit, DropStaged, Dist, Next, Label, Spaces, Repair, Walk, Audit, Hold, Watch, Join, Show}
+use Rattle.sr_script.specs.declared.command.Command.TheVariants.{Lsp, Cost, Down, Up, Depth, Commit, DropStaged, Dist, Next, Label, Spaces, Repair, AdjRepair, Walk, Load, Audit, Hold, Watch, Join, Show}
 
 -- two nodes of an example
 abbrev pub example_ends : EndNames
@@ -40,7 +40,9 @@ example_commands =
     ∷ Label 0 0
     ∷ Spaces example_repair
     ∷ Repair example_repair
+    ∷ AdjRepair example_link
     ∷ Walk example_ends 0
+    ∷ Load 1 1
     ∷ Audit
     ∷ Hold
     ∷ Watch 1 1

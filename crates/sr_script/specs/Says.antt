@@ -7,13 +7,13 @@ use Rattle.sr_model.specs.SystemText.{system_read}
 use Rattle.sr_script.specs.Number.{number_in}
 use Rattle.sr_script.specs.Words.{word_at}
 use Rattle.sr_model.specs.declared.link.TheConstants.{MOST_METRIC}
-use Rattle.sr_script.specs.declared.command.TheConstants.{MOST_DEPTH, MOST_LABEL, MOST_CHOICE, MOST_WATCHERS, MOST_ROUNDS}
+use Rattle.sr_script.specs.declared.command.TheConstants.{MOST_DEPTH, MOST_LABEL, MOST_CHOICE, MOST_WATCHERS, MOST_ROUNDS, MOST_WORKERS, MOST_EACH}
 use Rattle.sr_script.specs.declared.name.TheConstants.{MOST_LINK_NUMBER}
 use Rattle.sr_script.specs.declared.name.EndNames.{EndNames}
 use Rattle.sr_script.specs.declared.name.LinkName.{LinkName}
 use Rattle.sr_script.specs.declared.name.RepairName.{RepairName}
 use Rattle.sr_script.specs.declared.command.Command.{Command}
-use Rattle.sr_script.specs.declared.command.Command.TheVariants.{Lsp, Cost, Down, Up, Depth, Commit, DropStaged, Dist, Next, Label, Spaces, Repair, Walk, WalkRepair, Audit, AuditFull, Hold, Watch, Join, Show}
+use Rattle.sr_script.specs.declared.command.Command.TheVariants.{Lsp, Cost, Down, Up, Depth, Commit, DropStaged, Dist, Next, Label, Spaces, Repair, AdjRepair, Walk, WalkRepair, Load, Audit, AuditFull, Hold, Watch, Join, Show}
 
 -- the word for a kind of failure
 abbrev pub kind_word : Kind → List ℕ
@@ -68,8 +68,10 @@ form (Next ends) = (codes "next", ends_arguments ends)
 form (Label node label) = (codes "label", System node ∷ Number 0 MOST_LABEL label ∷ [])
 form (Spaces repair) = (codes "spaces", repair_arguments repair)
 form (Repair repair) = (codes "repair", repair_arguments repair)
+form (AdjRepair link) = (codes "adjrepair", link_arguments link)
 form (Walk ends choice) = (codes "walk", ends_arguments ends ++ Number 0 MOST_CHOICE choice ∷ [])
 form (WalkRepair repair choice) = (codes "walk", repair_arguments repair ++ Number 0 MOST_CHOICE choice ∷ [])
+form (Load workers each) = (codes "load", Number 1 MOST_WORKERS workers ∷ Number 1 MOST_EACH each ∷ [])
 form Audit = (codes "audit", [])
 form AuditFull = (codes "audit", Itself (codes "full") ∷ [])
 form Hold = (codes "hold", [])

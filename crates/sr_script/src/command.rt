@@ -19,6 +19,12 @@ pub const MOST_WATCHERS: u32 = 8;
 /// The most rounds of a watcher.
 pub const MOST_ROUNDS: u32 = 16;
 
+/// The most forwarders of a load.
+pub const MOST_WORKERS: u32 = 8;
+
+/// The most packets of a load from one node to another.
+pub const MOST_EACH: u32 = 4;
+
 /// A command of a script, with what its words name. `choice` is the number by which equal-cost links are chosen.
 #[derive(Debug, Drop)]
 pub enum Command {
@@ -46,10 +52,15 @@ pub enum Command {
     Spaces { repair: RepairName },
     /// `repair KIND A B n D`: asks for the repair list of a failure and a destination.
     Repair { repair: RepairName },
+    /// `adjrepair A B n`: asks what a router does with a packet under its own adjacency label when the link fails.
+    AdjRepair { link: LinkName },
     /// `walk A D K`: asks for the walk of a packet from A to D.
     Walk { ends: EndNames, choice: u32 },
     /// `walk KIND A B n D K`: asks for the walk of a repaired packet.
     WalkRepair { repair: RepairName, choice: u32 },
+    /// `load W K`: asks how often each link is crossed by K packets from each node to each other, which W forwarders
+    /// forward.
+    Load { workers: u32, each: u32 },
     /// `audit`: asks for the counts over all cases.
     Audit,
     /// `audit full`: asks for the answer of each case, too.

@@ -18,7 +18,10 @@ mod reading;
 mod tests;
 mod words;
 
-pub use command::{Command, MOST_CHOICE, MOST_DEPTH, MOST_LABEL, MOST_ROUNDS, MOST_WATCHERS};
+pub use command::{
+    Command, MOST_CHOICE, MOST_DEPTH, MOST_EACH, MOST_LABEL, MOST_ROUNDS, MOST_WATCHERS,
+    MOST_WORKERS,
+};
 pub use law::{fault_is_unique, line_says_one_thing, said_is_not_refused};
 pub use line::{Line, LineFault};
 pub use name::{EndNames, LinkName, MOST_LINK_NUMBER, RepairName};

@@ -11,7 +11,10 @@ ghost use Rattle.sr_script.specs.Answers.{IsCommandOf, IsReading, IsOnly};
 use crate::argument::{
     ends_argument, link_argument, number_argument, repair_argument, system_argument,
 };
-use crate::command::{Command, MOST_CHOICE, MOST_DEPTH, MOST_LABEL, MOST_ROUNDS, MOST_WATCHERS};
+use crate::command::{
+    Command, MOST_CHOICE, MOST_DEPTH, MOST_EACH, MOST_LABEL, MOST_ROUNDS, MOST_WATCHERS,
+    MOST_WORKERS,
+};
 use crate::line::LineFault;
 use crate::words::Words;
 use sr_model::MOST_METRIC;
@@ -47,7 +50,9 @@ pub(crate) fn read_command(words: &Words<'_>) -> Result<Command, LineFault>
         b"label" => read_label(words),
         b"spaces" => read_spaces(words),
         b"repair" => read_repair(words),
+        b"adjrepair" => read_adjrepair(words),
         b"walk" => read_walk(words),
+        b"load" => read_load(words),
         b"audit" => read_audit(words),
         b"hold" => read_lone(words, Command::Hold),
         b"watch" => read_watch(words),
@@ -181,6 +186,18 @@ fn read_repair(words: &Words<'_>) -> Option<Command>
     Some(Command::Repair { repair })
 }
 
+/// `adjrepair A B n`
+fn read_adjrepair(words: &Words<'_>) -> Option<Command>
+    requires { word_at words.now 0 ≡ codes "adjrepair" }
+    ensures { IsCommandOf words.now result }
+{
+    if words.len() != 4 {
+        return None;
+    }
+    let link = link_argument(words, 1)?;
+    Some(Command::AdjRepair { link })
+}
+
 /// `walk A D K`, or `walk KIND A B n D K`
 fn read_walk(words: &Words<'_>) -> Option<Command>
     requires { word_at words.now 0 ≡ codes "walk" }
@@ -199,6 +216,19 @@ fn read_walk(words: &Words<'_>) -> Option<Command>
         }
         _ => None,
     }
+}
+
+/// `load W K`
+fn read_load(words: &Words<'_>) -> Option<Command>
+    requires { word_at words.now 0 ≡ codes "load" }
+    ensures { IsCommandOf words.now result }
+{
+    if words.len() != 3 {
+        return None;
+    }
+    let workers = number_argument(words, 1, 1, MOST_WORKERS)?;
+    let each = number_argument(words, 2, 1, MOST_EACH)?;
+    Some(Command::Load { workers, each })
 }
 
 /// `audit`, or `audit full`

@@ -100,6 +100,12 @@ fn questions_are_read(rt: HostRuntime) -> Result<(), Fail> {
             "WalkRepair { repair: RepairName { kind: Risk, link: LinkName { from: SystemId { value: 1 }, to: SystemId { value: 2 }, n: 3 }, \
             dest: SystemId { value: 4 } }, choice: 0 }",
         ),
+        (
+            "adjrepair 0000.0000.0001 0000.0000.0002 65535",
+            "AdjRepair { link: LinkName { from: SystemId { value: 1 }, to: SystemId { value: 2 }, n: 65535 } }",
+        ),
+        ("load 8 4", "Load { workers: 8, each: 4 }"),
+        ("load 01\t1 ", "Load { workers: 1, each: 1 }"),
     ] {
         expect_command(&rt, alloc, line, expected)?;
     }
@@ -176,6 +182,14 @@ fn ranges_and_forms_are_kept(rt: HostRuntime) {
         "watch 1 0",
         "watch 1 17",
         "watch 1",
+        "load 9 1",
+        "load 0 1",
+        "load 1 0",
+        "load 1 5",
+        "load 1",
+        "load 1 1 1",
+        "adjrepair 0000.0000.0001 0000.0000.0002",
+        "adjrepair 0000.0000.0001 0000.0000.0002 0",
         "label 0000.0000.0001 1048576",
         "label 0000.0000.0001",
         "cost 0000.0000.0001 0000.0000.0002 0 1",

@@ -1,0 +1,66 @@
+//! What becomes of packets under an adjacency label in the last version: `adjrepair`.
+ghost use Rattle.std.specs.Prelude.{◌<◌, IfOk, IfSome};
+ghost use Rattle.sr_model.specs.Graph.{link_count};
+ghost use Rattle.sr_domain.specs.Net.{IsNetOf};
+ghost use Rattle.sr_run.specs.Session.{TellsOf};
+ghost use Rattle.sr_run.specs.Failures.{IsActiveOf, TellsAdjRepair};
+ghost use Rattle.sr_run.specs.Handlers.{Carries};
+
+use crate::current::{CurrentVersion, last_version};
+use crate::names::find_link;
+use crate::session::DomainSession;
+use crate::stop::{Stop, found};
+use sr_adjprot::{AdjAnswer, adj_repair, eligible};
+use sr_lsdb::Facts;
+use sr_model::LinkNo;
+use sr_print::put_adjrepair;
+use sr_repair::Version;
+use sr_script::LinkName;
+use std::alloc::{AllocError, Global};
+
+/// What is done with a packet under the label of the link, by the facts of which the version has the net.
+fn active_answer<'a>(
+    alloc: Global,
+    facts: &Facts,
+    version: &'a Version,
+    link: LinkNo,
+) -> Result<AdjAnswer<'a>, AllocError>
+    requires facts { IsNetOf facts.now version.now.net }
+    requires link { link.0 < link_count version.now.net.graph }
+    ensures { IfOk result (IsActiveOf facts.now version.now.net link) }
+{
+    let tests = eligible(alloc, facts, version.net())?;
+    adj_repair(alloc, version, &tests, link)
+}
+
+/// Appends what is done with a packet under the label of the link that is named.
+fn put_active_of(
+    alloc: Global,
+    facts: &Facts,
+    current: &CurrentVersion,
+    name: &LinkName,
+    out: &mut Vec<u8>,
+) -> Result<(), Stop>
+    requires { IfSome current.now (λ version. IsNetOf facts.now version.net) }
+    ensures { Carries (TellsOf (TellsAdjRepair name.now facts.now) current.now) out.old.items out.new.items result }
+{
+    let version = found!(last_version(current));
+    let link = found!(find_link(version, name));
+    let answer = active_answer(alloc, facts, version, link)?;
+    put_adjrepair(version.net(), link, &answer, out)?;
+    Ok(())
+}
+
+impl DomainSession {
+    ghost use Rattle.sr_script.specs.declared.command.Command.TheVariants.{AdjRepair};
+    ghost use Rattle.sr_run.specs.Handlers.{CarriesOut};
+
+    /// `adjrepair A B n`: appends what the router at the beginning of the link does with a packet under the link's
+    /// adjacency label when the link fails. Whether the label is eligible is told by the accepted facts, of which the last
+    /// version has the net.
+    pub(crate) fn adjrepair(&self, name: &LinkName, out: &mut Vec<u8>) -> Result<(), Stop>
+        ensures { CarriesOut (AdjRepair name.now) self.now self.now out.old.items out.new.items result }
+    {
+        put_active_of(self.alloc, self.editor.accepted(), &self.current, name, out)
+    }
+}
