@@ -7,7 +7,9 @@ use Rattle.sr_model.specs.Walk.{IsCell}
 use Rattle.sr_model.specs.Label.{Net}
 use Rattle.sr_model.specs.Rule.{IsNet}
 use Rattle.sr_spf.specs.Trees.{Forest, AreTrees, cell_at}
+use Rattle.sr_loads.specs.declared.counted.TheConstants.{MOST_CHOICES}
 use Rattle.sr_loads.specs.declared.packet.Packet.{Packet}
+use Rattle.sr_loads.specs.declared.packets.TheConstants.{MOST_PACKETS}
 use Rattle.sr_loads.specs.Packets.{ArePeers, ArePackets, IsPacketRun}
 use Rattle.sr_loads.specs.Loads.{IsLoads, crossings, all_crossings}
 use Rattle.sr_loads.specs.Tally.{AreNear, GoBetweenPeers, IsShortRun, IsRunOf, IsTally}
@@ -62,21 +64,21 @@ crossings-few : (l : ℕ) (links : List ℕ) → crossings l links ≤ length li
 crossings-few l [] = omega arith
 crossings-few l (k ∷ links) = let h = mark-few (k == l) in omega (arith, h, crossings-few l links)
 
-runs-few : (net : Net) (l : ℕ) (qs : List Packet) (runs : List (List ℕ)) → AllZip (IsShortRun net) qs runs → all_crossings l runs ≤ length qs * 768
+runs-few : (net : Net) (l : ℕ) (qs : List Packet) (runs : List (List ℕ)) → AllZip (IsShortRun net) qs runs → all_crossings l runs ≤ length qs * MOST_NODES
 runs-few net l [] [] zip = omega arith
 runs-few net l [] (r ∷ runs) zip = absurd zip
 runs-few net l (q ∷ qs) [] zip = absurd zip
 runs-few net l (q ∷ qs) (r ∷ runs) zip =
     let here : crossings l r ≤ length r = crossings-few l r in
-    let few : length r ≤ MOST_NODES * 3 = zip.0.few in
-    let rest : all_crossings l runs ≤ length qs * 768 = runs-few net l qs runs zip.1 in
+    let few : length r ≤ MOST_NODES = zip.0.few in
+    let rest : all_crossings l runs ≤ length qs * MOST_NODES = runs-few net l qs runs zip.1 in
     omega (arith, here, few, rest)
 
 -- the tally of all packets is the loads
-pub tally-loads : (net : Net) → IsNet net → (choices : ℕ) (packets : List Packet) (counts : List ℕ) → choices ≤ 4 → ArePackets net choices packets → IsTally net packets (range_with_len 0 (length packets)) counts → IsLoads net choices (record { packets = length packets; counts = counts })
+pub tally-loads : (net : Net) → IsNet net → (choices : ℕ) (packets : List Packet) (counts : List ℕ) → choices ≤ MOST_CHOICES → ArePackets net choices packets → IsTally net packets (range_with_len 0 (length packets)) counts → IsLoads net choices (record { packets = length packets; counts = counts })
 tally-loads net r choices packets counts few are tally =
     let short : AllZip (IsShortRun net) packets tally.runs = runs-are net packets 0 packets tally.runs (λ j q e. let at : j ≡ 0 + j = omega arith in subst (λ (k : ℕ). slice_get packets k ≡ Some q) at e) tally.each in
-    let many : length packets ≤ 262144 = packets-few net choices packets r.graph few are in
+    let many : length packets ≤ MOST_PACKETS = packets-few net choices packets r.graph few are in
     record {
       packets = packets;
       are = are;
@@ -85,6 +87,6 @@ tally-loads net r choices packets counts few are tally =
       number = refl;
       long = tally.long;
       counts = λ l lt.
-          let below : all_crossings l tally.runs ≤ length packets * 768 = runs-few net l packets tally.runs short in
+          let below : all_crossings l tally.runs ≤ length packets * MOST_NODES = runs-few net l packets tally.runs short in
           tally.counted l lt ∙ mod-eq_of_lt (omega (arith, below, many));
     }

@@ -1,8 +1,12 @@
 -- The order of packets, and lists of them that grow.
-use Rattle.std.proofs.Common.{◌≡◌, ℕ, zero, suc, ◌+◌, ◌*◌, ◌<◌, ◌≤◌, ◌⊎◌, ⊎_elim, inl, inr, List, [], ◌∷◌, ◌++◌, length, Some, slice_get, refl, sym, ◌∙◌, subst, arith}
+use Rattle.std.proofs.Common.{◌≡◌, ℕ, zero, suc, ◌+◌, ◌*◌, ◌<◌, ◌≤◌, ◌⊎◌, ⊎_elim, inl, inr, List, [], ◌∷◌, ◌++◌, length, Some, get_or, slice_get, refl, sym, ◌∙◌, subst, arith}
+use Rattle.std.proofs.lemmas.Option.{slice_get-get_or, slice_get_within}
 use Rattle.sr_model.specs.Graph.{node_count, IsGraph}
 use Rattle.sr_model.specs.Label.{Net}
+use Rattle.sr_model.specs.declared.link.TheConstants.{MOST_NODES}
+use Rattle.sr_loads.specs.declared.counted.TheConstants.{MOST_CHOICES}
 use Rattle.sr_loads.specs.declared.packet.Packet.{Packet}
+use Rattle.sr_loads.specs.declared.packets.TheConstants.{MOST_PACKETS}
 use Rattle.sr_loads.specs.Packets.{ArePeers, IsPacket, IsBefore, ArePackets, ArePacketsBefore, packet}
 
 get_left : {X : Type 0} (xs : List X) (y : X) (i : ℕ) (x : X) → slice_get xs i ≡ Some x → slice_get (xs ++ y ∷ []) i ≡ Some x
@@ -19,16 +23,6 @@ get_push [] y zero x e = inr (refl, cc)
 get_push [] y (suc i) x e = absurd {0} (cc)
 get_push (z ∷ xs) y zero x e = inl e
 get_push (z ∷ xs) y (suc i) x e = ⊎_elim (λ h. inl h) (λ h. inr (omega (arith, h.0), h.1)) (get_push xs y i x e)
-
-get_within : {X : Type 0} (xs : List X) (i : ℕ) (x : X) → slice_get xs i ≡ Some x → i < length xs
-get_within [] i x e = absurd {0} (cc)
-get_within (z ∷ xs) zero x e = omega arith
-get_within (z ∷ xs) (suc i) x e = let h : i < length xs = get_within xs i x e in omega arith
-
-get_some : {X : Type 0} (xs : List X) (i : ℕ) → i < length xs → (x : X) × (slice_get xs i ≡ Some x)
-get_some [] i lt = absurd (omega arith)
-get_some (x ∷ xs) zero lt = (x, refl)
-get_some (x ∷ xs) (suc i) lt = get_some xs i (omega arith)
 
 -- ---- the order
 pub before-irreflexive : (p : Packet) → IsBefore p p → ⊥
@@ -77,7 +71,7 @@ packets-push net choices a d k packets is are = record {
   ascending = λ i j p r lt e f. ⊎_elim
       (λ (old : slice_get packets j ≡ Some r). ⊎_elim
       (λ (both : slice_get packets i ≡ Some p). are.ascending i j p r lt both old)
-      (λ (last : (i ≡ length packets) × (packet a d k ≡ p)). let h = get_within packets j r old in let at = last.0 in absurd (omega arith))
+      (λ (last : (i ≡ length packets) × (packet a d k ≡ p)). let h = slice_get_within packets j r old in let at = last.0 in absurd (omega arith))
       (get_push packets (packet a d k) i p e))
       (λ (last : (j ≡ length packets) × (packet a d k ≡ r)). ⊎_elim
       (λ (old : slice_get packets i ≡ Some p). subst (λ (u : Packet). IsBefore p u) last.1 (are.each i p old).1)
@@ -176,31 +170,33 @@ packets-all net choices n packets all are = record {
 
 -- ---- how many packets there are
 abbrev rank : Packet → ℕ
-rank p = p.from.0 * 1024 + p.to.0 * 4 + p.choice
+rank p = (p.from.0 * MOST_NODES + p.to.0) * MOST_CHOICES + p.choice
 
-rank-below : (p q : Packet) → p.to.0 < 256 → p.choice < 4 → IsBefore p q → rank p < rank q
+rank-below : (p q : Packet) → p.to.0 < MOST_NODES → p.choice < MOST_CHOICES → IsBefore p q → rank p < rank q
 rank-below p q to choice (inl a) = omega arith
 rank-below p q to choice (inr (inl b)) = let h = b.0 in let k = b.1 in omega arith
 rank-below p q to choice (inr (inr c)) = let h = c.0 in let k = c.1 in let m = c.2 in omega arith
 
-rank-at : (net : Net) (choices : ℕ) (packets : List Packet) → IsGraph net.graph → choices ≤ 4 → ArePackets net choices packets → (i : ℕ) (p : Packet) → slice_get packets i ≡ Some p → i ≤ rank p
+rank-at : (net : Net) (choices : ℕ) (packets : List Packet) → IsGraph net.graph → choices ≤ MOST_CHOICES → ArePackets net choices packets → (i : ℕ) (p : Packet) → slice_get packets i ≡ Some p → i ≤ rank p
 rank-at net choices packets graph few are zero p e = omega arith
 rank-at net choices packets graph few are (suc i) p e =
-    let lt = get_within packets (suc i) p e in
-    let q = get_some packets i (omega arith) in
-    let is = are.each i q.0 q.1 in
-    let before = are.ascending i (suc i) q.0 p (omega arith) q.1 e in
-    let low : i ≤ rank q.0 = rank-at net choices packets graph few are i q.0 q.1 in
-    let step : rank q.0 < rank p = rank-below q.0 p (omega (arith, is.0.to, graph.few_nodes)) (omega (arith, is.1, few)) before in
+    let lt = slice_get_within packets (suc i) p e in
+    let q : Packet = get_or packets i p in
+    let at : slice_get packets i ≡ Some q = slice_get-get_or packets i p (omega arith) in
+    let is = are.each i q at in
+    let before = are.ascending i (suc i) q p (omega arith) at e in
+    let low : i ≤ rank q = rank-at net choices packets graph few are i q at in
+    let step : rank q < rank p = rank-below q p (omega (arith, is.0.to, graph.few_nodes)) (omega (arith, is.1, few)) before in
     omega arith
 
-pub packets-few : (net : Net) (choices : ℕ) (packets : List Packet) → IsGraph net.graph → choices ≤ 4 → ArePackets net choices packets → length packets ≤ 262144
+pub packets-few : (net : Net) (choices : ℕ) (packets : List Packet) → IsGraph net.graph → choices ≤ MOST_CHOICES → ArePackets net choices packets → length packets ≤ MOST_PACKETS
 packets-few net choices packets graph few are = by (length packets) refl
   where
-    by : (n : ℕ) → length packets ≡ n → length packets ≤ 262144
+    by : (n : ℕ) → length packets ≡ n → length packets ≤ MOST_PACKETS
     by zero is = omega arith
     by (suc m) is =
-        let p = get_some packets m (omega arith) in
-        let low : m ≤ rank p.0 = rank-at net choices packets graph few are m p.0 p.1 in
-        let at = are.each m p.0 p.1 in
+        let p : Packet = get_or packets m (packet 0 0 0) in
+        let found : slice_get packets m ≡ Some p = slice_get-get_or packets m (packet 0 0 0) (omega arith) in
+        let low : m ≤ rank p = rank-at net choices packets graph few are m p found in
+        let at = are.each m p found in
         omega (arith, low, at.0.from, at.0.to, at.1, graph.few_nodes, few)

@@ -1,5 +1,5 @@
 -- Counts that wrap, and tallies of the packets whose numbers were taken.
-use Rattle.std.proofs.Common.{◌≡◌, ◌⊎◌, ⊎_elim, set, ℕ, zero, suc, ◌+◌, ◌-◌, ◌*◌, ◌%◌, ◌^◌, ◌<◌, ◌≤◌, ◌==◌, Bool, true, false, cond, List, [], ◌∷◌, ◌++◌, length, replicate, Some, slice_get, slice_index, slice_index_or, refl, sym, ap, ◌∙◌, subst, append-nil, arith}
+use Rattle.std.proofs.Common.{◌≡◌, ◌⊎◌, ⊎_elim, set, ℕ, suc, ◌+◌, ◌-◌, ◌%◌, ◌^◌, ◌<◌, ◌≤◌, ◌==◌, Bool, true, false, cond, List, [], ◌∷◌, ◌++◌, length, replicate, Some, slice_get, slice_index, refl, sym, ap, ◌∙◌, subst, arith}
 use Rattle.std.proofs.Math.Nat.{mod-add-mod, add-mod-mod, mod-eq_of_lt, mod-lt}
 use Rattle.std.specs.List.{AllZip, range_with_len}
 use Rattle.std.proofs.lemmas.Bool.{eqb-true, eqb-false, cases_order}
@@ -8,7 +8,8 @@ use Rattle.sr_model.specs.Graph.{link_count}
 use Rattle.sr_model.specs.Label.{Net}
 use Rattle.sr_loads.specs.declared.packet.Packet.{Packet}
 use Rattle.sr_loads.specs.Loads.{crossings, all_crossings}
-use Rattle.sr_loads.specs.Tally.{IsRunOf, AddsRun, AddsPacket, IsTally, AddsCounts, IsBatchTally, IsTallyTo}
+use Rattle.sr_loads.specs.Tally.{IsRunOf, AddsRun, AddsPacket, IsTally, AddsCounts}
+use Rattle.sr_loads.proofs.RangeLemmas.{range-push}
 
 pub crossings-append : (l : ℕ) (xs ys : List ℕ) → crossings l (xs ++ ys) ≡ crossings l xs + crossings l ys
 crossings-append l [] ys = omega arith
@@ -91,10 +92,10 @@ tally-add net packets taken more counts other after one two adds = record {
 }
 
 -- whether y is x
-abbrev mark : ℕ → ℕ → ℕ
+abbrev pub mark : ℕ → ℕ → ℕ
 mark x y = cond (y == x) 1 0
 
-mark-same : (x : ℕ) → mark x x ≡ 1
+pub mark-same : (x : ℕ) → mark x x ≡ 1
 mark-same x = by (x == x) refl
   where
     by : (b : Bool) → (x == x) ≡ b → mark x x ≡ 1
@@ -152,43 +153,6 @@ adds-crossing before k x lt at = record {
       by true e = absurd (apart (eqb-true k l e))
       by false e = ap (λ (b : Bool). cond b 1 0) e
 
-range-push : (a n j : ℕ) → a + n ≡ j → range_with_len a (suc n) ≡ range_with_len a n ++ j ∷ []
-range-push a zero j is = let e : a ≡ j = omega (arith, is) in ap (λ (k : ℕ). k ∷ []) e
-range-push a (suc n) j is = ap (λ (ks : List ℕ). a ∷ ks) (range-push (a + 1) n j (omega (arith, is)))
-
-range-join : (a m n : ℕ) → range_with_len a m ++ range_with_len (a + m) n ≡ range_with_len a (m + n)
-range-join a zero n =
-    let e : a + 0 ≡ a = omega arith in
-    let f : n ≡ 0 + n = omega arith in
-    ap (λ (k : ℕ). range_with_len k n) e ∙ ap (λ (k : ℕ). range_with_len a k) f
-range-join a (suc m) n =
-    let e : a + suc m ≡ a + 1 + m = omega arith in
-    let f : suc (m + n) ≡ suc m + n = omega arith in
-    ap (λ (k : ℕ). a ∷ (range_with_len (a + 1) m ++ range_with_len k n)) e
-    ∙ (ap (λ (ks : List ℕ). a ∷ ks) (range-join (a + 1) m n) ∙ ap (λ (k : ℕ). range_with_len a k) f)
-
--- what is made of each number of a range, one for each
-pub zip-range : {B : Type 0} (R : ℕ → B → Type 0) (a n : ℕ) (ys : List B) → AllZip R (range_with_len a n) ys → length ys ≡ n
-zip-range R a zero [] zip = refl
-zip-range R a zero (y ∷ ys) zip = absurd zip
-zip-range R a (suc n) [] zip = absurd zip
-zip-range R a (suc n) (y ∷ ys) zip = omega (arith, zip-range R (a + 1) n ys zip.1)
-
-zip-range-at : {B : Type 0} (R : ℕ → B → Type 0) (a n i : ℕ) (d : B) (ys : List B) → AllZip R (range_with_len a n) ys → i < n → R (a + i) (slice_index_or ys i d)
-zip-range-at R a zero i d ys zip lt = absurd (omega arith)
-zip-range-at R a (suc n) i d [] zip lt = absurd zip
-zip-range-at R a (suc n) zero d (y ∷ ys) zip lt = let e : a ≡ a + 0 = omega arith in subst (λ (k : ℕ). R k y) e zip.0
-zip-range-at R a (suc n) (suc i) d (y ∷ ys) zip lt =
-    let e : a + 1 + i ≡ a + suc i = omega arith in
-    subst (λ (k : ℕ). R k (slice_index_or ys i d)) e (zip-range-at R (a + 1) n i d ys zip.1 (omega arith))
-
-pub batch-at : {B : Type 0} (items : B → List ℕ) (net : Net) (packets : List Packet) (batches b : ℕ) (all : List B) (one : B) → AllZip (λ batch x. IsBatchTally net packets batch (items x)) (range_with_len 0 batches) all → b < batches → one ≡ slice_index_or all b one → IsBatchTally net packets b (items one)
-batch-at items net packets batches b all one zip lt is =
-    let e : 0 + b ≡ b = omega arith in
-    subst (λ x. IsBatchTally net packets b (items x)) (sym is)
-    (subst (λ (k : ℕ). IsBatchTally net packets k (items (slice_index_or all b one))) e
-    (zip-range-at (λ batch x. IsBatchTally net packets batch (items x)) 0 batches b one all zip lt))
-
 -- one packet more of a batch
 pub batch-more : (net : Net) (packets : List Packet) (begin number : ℕ) (p : Packet) (counts after : List ℕ) → begin ≤ number → slice_get packets number ≡ Some p → IsTally net packets (range_with_len begin (number - begin)) counts → AddsPacket net p counts after → IsTally net packets (range_with_len begin (number + 1 - begin)) after
 batch-more net packets begin number p counts after le at tally adds =
@@ -198,40 +162,8 @@ batch-more net packets begin number p counts after le at tally adds =
     subst (λ (taken : List ℕ). IsTally net packets taken after)
     (sym (ap (range_with_len begin) next ∙ range-push begin (number - begin) number (omega arith))) pushed
 
--- one batch more
-pub batches-more : (net : Net) (packets : List Packet) (b : ℕ) (counts other after : List ℕ) → IsTallyTo net packets b counts → IsBatchTally net packets b other → AddsCounts other counts after → IsTallyTo net packets (b + 1) after
-batches-more net packets b counts other after one two adds =
-    let m : ℕ = length packets - (length packets - b * 4096) in
-    let n : ℕ = length packets - (length packets - (b * 4096 + 4096)) - b * 4096 in
-    let sum = tally-add net packets (range_with_len 0 m) (range_with_len (b * 4096) n) counts other after one two adds in
-    subst (λ (taken : List ℕ). IsTally net packets taken after) (joined m n refl refl) sum
-  where
-    joined : (m n : ℕ) → m ≡ length packets - (length packets - b * 4096) → n ≡ length packets - (length packets - (b * 4096 + 4096)) - b * 4096 → range_with_len 0 m ++ range_with_len (b * 4096) n ≡ range_with_len 0 (length packets - (length packets - (b + 1) * 4096))
-    joined m n mi ni = ⊎_elim
-        (λ (none : n ≡ 0).
-        let e : range_with_len (b * 4096) n ≡ [] = ap (range_with_len (b * 4096)) none in
-        let f : m ≡ length packets - (length packets - (b + 1) * 4096) = omega arith in
-        ap (λ (ks : List ℕ). range_with_len 0 m ++ ks) e ∙ (append-nil (range_with_len 0 m) ∙ ap (range_with_len 0) f))
-        (λ (o : (n < 0) ⊎ (0 < n)).
-        let some : 0 < n = ⊎_elim (λ (a : n < 0). absurd (omega arith)) (λ (b : 0 < n). b) o in
-        let e : b * 4096 ≡ 0 + m = omega arith in
-        let f : m + n ≡ length packets - (length packets - (b + 1) * 4096) = omega arith in
-        ap (λ (k : ℕ). range_with_len 0 m ++ range_with_len k n) e ∙ (range-join 0 m n ∙ ap (range_with_len 0) f))
-        (cases_order n 0)
-
--- all batches
-pub batches-all : (net : Net) (packets : List Packet) (b : ℕ) (counts : List ℕ) → length packets ≤ b * 4096 → IsTallyTo net packets b counts → IsTally net packets (range_with_len 0 (length packets)) counts
-batches-all net packets b counts all is =
-    let e : length packets - (length packets - b * 4096) ≡ length packets = omega arith in
-    subst (λ (k : ℕ). IsTally net packets (range_with_len 0 k) counts) e is
-
--- nothing is left of a batch before its first packet, nor of all before the first batch
+-- nothing is counted of a batch before its first packet
 pub tally-begins : (net : Net) (packets : List Packet) (begin : ℕ) (counts : List ℕ) → counts ≡ replicate (link_count net.graph) 0 → IsTally net packets (range_with_len begin (begin - begin)) counts
 tally-begins net packets begin counts is =
     let none : begin - begin ≡ 0 = omega arith in
     subst (λ (k : ℕ). IsTally net packets (range_with_len begin k) counts) (sym none) (subst (λ (cs : List ℕ). IsTally net packets [] cs) (sym is) (tally-none net packets))
-
-pub batches-none : (net : Net) (packets : List Packet) (counts : List ℕ) → counts ≡ replicate (link_count net.graph) 0 → IsTallyTo net packets 0 counts
-batches-none net packets counts is =
-    let none : length packets - (length packets - 0 * 4096) ≡ 0 = omega arith in
-    subst (λ (k : ℕ). IsTally net packets (range_with_len 0 k) counts) (sym none) (subst (λ (cs : List ℕ). IsTally net packets [] cs) (sym is) (tally-none net packets))

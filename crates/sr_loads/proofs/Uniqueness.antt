@@ -2,12 +2,13 @@
 use Rattle.std.proofs.Common.{◌≡◌, ℕ, zero, suc, ◌<◌, List, [], ◌∷◌, length, slice_index, refl, sym, ap, ◌∙◌, subst, arith}
 use Rattle.std.specs.List.{AllZip}
 use Rattle.sr_model.specs.declared.entry.Move.{Move}
-use Rattle.sr_model.specs.Label.{Net, IsLabel}
+use Rattle.sr_model.specs.Label.{Net}
 use Rattle.sr_model.specs.Rule.{IsNet}
 use Rattle.sr_model.specs.Graph.{link_count}
 use Rattle.sr_model.specs.Forward.{StepBy, RunBy, crossed}
 use Rattle.sr_laws.proofs.Ascending.{ascending-one}
 use Rattle.sr_laws.proofs.Choices.{step-one}
+use Rattle.sr_laws.proofs.Stacks.{label-same}
 use Rattle.sr_loads.specs.declared.packet.Packet.{Packet}
 use Rattle.sr_loads.specs.Packets.{IsBefore, ArePackets, IsPacketRun}
 use Rattle.sr_loads.specs.Loads.{all_crossings}
@@ -35,9 +36,6 @@ emptied-one net r choice u stack (m ∷ ms) (o ∷ os) v w p q =
     subst (λ (k : ℕ). RunBy net [] choice k p.1 os w []) (sym s.1) (subst (λ (st : List ℕ). RunBy net [] choice q.0 st os w []) (sym s.2) q.3) in
     let rest : ms ≡ os = emptied-one net r choice p.0 p.1 ms os v w p.3 there in
     cc
-
-label-same : (net : Net) (u b s t : ℕ) → IsLabel net u b s → IsLabel net u b t → s ≡ t
-label-same net u b s t p q = cc (p.2, p.3, q.2, q.3)
 
 -- a packet has one run
 run-one : (net : Net) → IsNet net → (p : Packet) (links more : List ℕ) → IsPacketRun net p links → IsPacketRun net p more → links ≡ more

@@ -1,6 +1,6 @@
 -- What is counted of packets that are known by their numbers.
 use Rattle.std.specs.Prelude.{◌≡◌, ℕ, ◌+◌, ◌-◌, ◌*◌, ◌%◌, ◌^◌, ◌<◌, ◌≤◌, List, [], length, Some, slice_index, slice_get, MatchOption}
-use Rattle.std.specs.List.{AllZip, range_with_len}
+use Rattle.std.specs.List.{AllZip, range_with_len, flat_map}
 use Rattle.sr_model.specs.declared.link.TheConstants.{MOST_NODES}
 use Rattle.sr_model.specs.Graph.{link_count}
 use Rattle.sr_model.specs.Walk.{IsDistance}
@@ -20,10 +20,10 @@ abbrev pub GoBetweenPeers : Net → List Packet → Type 0
 GoBetweenPeers net packets =
     (i : ℕ) (p : Packet) → slice_get packets i ≡ Some p → AreNear net p.from.0 p.to.0
 
--- the run of a packet crosses no more links than a walk under one label takes turns
+-- the run of a packet crosses no more links than a net may have nodes
 pub record IsShortRun (net : Net) (p : Packet) (links : List ℕ) : Type 0 where
   pub run : IsPacketRun net p links
-  pub few : length links ≤ MOST_NODES * 3
+  pub few : length links ≤ MOST_NODES
 
 -- the run of packet number i, or nothing where no packet has the number
 abbrev pub IsRunOf : Net → List Packet → ℕ → List ℕ → Type 0
@@ -51,11 +51,24 @@ pub record AddsCounts (other before after : List ℕ) : Type 0 where
   pub long : length after ≡ length before
   pub each : (l : ℕ) → l < length before → slice_index after l ≡ (slice_index before l + slice_index other l) % 2 ^ 64
 
--- the counts are those of the packets of batch number b, each batch but the last of which has 4,096 packets
-abbrev pub IsBatchTally : Net → List Packet → ℕ → List ℕ → Type 0
-IsBatchTally net packets b counts =
-    IsTally net packets (range_with_len (b * BATCH) (length packets - (length packets - (b * BATCH + BATCH)) - b * BATCH)) counts
+-- the numbers of the packets of batch b: the next 4,096, or those that are left
+abbrev pub batch_numbers : List Packet → ℕ → List ℕ
+batch_numbers packets b =
+    range_with_len (b * BATCH) (length packets - (length packets - (b * BATCH + BATCH)) - b * BATCH)
 
--- the counts are those of the packets of the batches below b
-abbrev pub IsTallyTo : Net → List Packet → ℕ → List ℕ → Type 0
-IsTallyTo net packets b counts = IsTally net packets (range_with_len 0 (length packets - (length packets - b * BATCH))) counts
+-- the counts are those of the packets of batch b
+abbrev pub IsBatchTally : Net → List Packet → ℕ → List ℕ → Type 0
+IsBatchTally net packets b = IsTally net packets (batch_numbers packets b)
+
+-- packets of a net
+pub record Traffic : Type 0 where
+  pub net : Net
+  pub packets : List Packet
+
+-- the counts are those of the packets of these batches of the traffic
+abbrev pub IsTallyOf : Traffic → List ℕ → List ℕ → Type 0
+IsTallyOf t batches = IsTally t.net t.packets (flat_map (batch_numbers t.packets) batches)
+
+-- the counts are those of all packets of the traffic
+abbrev pub IsTallyOfAll : Traffic → List ℕ → Type 0
+IsTallyOfAll t = IsTally t.net t.packets (range_with_len 0 (length t.packets))

@@ -4,12 +4,18 @@
 mod batch;
 mod counted;
 mod counts;
+mod forwarders;
 mod forwarding;
 mod laws;
 mod packet;
 mod packets;
+mod queue;
+mod tally;
+#[cfg(test)]
+mod tests;
+mod traffic;
 
-pub use batch::loads;
 pub use counted::{Loads, MOST_CHOICES, MOST_FORWARDERS};
+pub use forwarders::loads;
 pub use laws::loads_are_unique;
 pub use packet::Packet;

@@ -4,11 +4,15 @@ ghost use Rattle.sr_model.specs.Graph.{node_count};
 ghost use Rattle.sr_spf.specs.Trees.{AreTrees};
 ghost use Rattle.sr_loads.specs.Packets.{ArePeers, ArePackets, ArePacketsBefore, packet};
 
+use crate::counted::MOST_CHOICES;
 use crate::packet::Packet;
 use sr_labels::Net;
-use sr_model::NodeNo;
+use sr_model::{MOST_NODES, NodeNo};
 use sr_spf::Trees;
 use std::alloc::{AllocError, Global};
+
+/// The most packets of a net: one from each node to each, for each choice number.
+pub(crate) const MOST_PACKETS: usize = MOST_NODES * MOST_NODES * MOST_CHOICES as usize;
 
 /// Whether packets go from the one node to the other: another one that has an index and to which a walk leads.
 fn are_peers(net: &Net, trees: &Trees, from: NodeNo, to: NodeNo) -> bool

@@ -14,7 +14,7 @@ use sr_print::put_loads;
 use sr_repair::Version;
 use std::alloc::{AllocError, Global};
 
-/// How often each link of the version is crossed by so many packets from each node to each other.
+/// How often each link of the version is crossed by that many packets from each node to each other.
 fn loads_of(
     rt: &impl Runtime,
     alloc: Global,
@@ -26,15 +26,7 @@ fn loads_of(
     requires each { (0 < each) × (each ≤ MOST_EACH) }
     ensures { IfOk result (IsLoads version.now.net each) }
 {
-    loads(
-        rt,
-        alloc,
-        version.net(),
-        version.trees(),
-        version.fib(),
-        workers,
-        each,
-    )
+    loads(rt, alloc, version.net(), version.trees(), workers, each)
 }
 
 /// `load W K`: appends how often each link is crossed by K packets from each node to each other. W forwarders forward

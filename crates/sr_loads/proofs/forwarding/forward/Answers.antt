@@ -1,32 +1,44 @@
-use Rattle.std.proofs.Common.{◌≡◌, ◌∷◌, ◌∙◌, [], ap, inl, inr, reverse, refl, arith}
-use Rattle.sr_model.specs.Graph.{node_count}
-use Rattle.sr_loads.proofs.RunLemmas.{counting-starts, counting-more, counting-ends}
+use Rattle.std.proofs.Common.{◌≡◌, ◌≢◌, ◌<◌, ◌∙◌, ap, arith}
+use Rattle.sr_model.specs.Graph.{Graph, node_count, head}
+use Rattle.sr_spf.specs.Trees.{hops_at}
+use Rattle.sr_loads.proofs.RunLemmas.{forwarded-none, forwarded-few, forwarded-hop, forwarded-more}
 use Rattle.sr_loads.proofs.forwarding.forward.Goals as goal
 
 pub loop-turn-init : goal.loop-turn-init
-loop-turn-init c =
-    rw (c.in_ok-push.ensures.items, c.clear.ensures.items)
-    (counting-starts c.args.net.now c.args.closed.now c.args.packet c.args.counts.now.items c.label_of.result (c.label_of.result ∷ []) c.label_of.ensures c.requires.packet.peers.from refl)
+loop-turn-init c = forwarded-none c.args.net.now c.graph-graph.ensures.net c.args.packet c.args.counts.now.items c.requires.packet
 
-pub follow-requires-clause-counts : goal.follow-requires-clause-counts
-follow-requires-clause-counts c = c.loop-turn.invariant.adds.long ∙ c.requires.counts
+pub chosen_hop-link-requires-clause-some : goal.chosen_hop-link-requires-clause-some
+chosen_hop-link-requires-clause-some c =
+    let away : c.loop-turn.node.0 ≢ c.args.packet.to.0 = (λ e. let ne = c.if-node-packet.false in omega (arith, e, ne)) in
+    forwarded-hop c.args.net.now c.graph-graph.ensures.net c.args.packet c.requires.packet c.args.counts.now.items c.loop-turn.turn c.loop-turn.counts.items c.loop-turn.node.0 c.loop-turn.invariant
+    (hops_at c.args.trees.now c.loop-turn.node.0 c.args.packet.to.0) away
+    (c.requires.trees.hops c.loop-turn.node.0 c.args.packet.to.0 c.loop-turn.invariant.run.within c.requires.packet.peers.to)
+
+pub count-requires : goal.count-requires
+count-requires c =
+    let hops = c.requires.trees.hops c.loop-turn.node.0 c.args.packet.to.0 c.loop-turn.invariant.run.within c.requires.packet.peers.to in
+    let hop = hops.each _ c.chosen_hop-link.result c.chosen_hop-link.ensures in
+    omega (arith, hop.shortest.0.0, c.loop-turn.invariant.run.adds.long, c.requires.counts)
+
+pub link-requires : goal.link-requires
+link-requires c =
+    let hops = c.requires.trees.hops c.loop-turn.node.0 c.args.packet.to.0 c.loop-turn.invariant.run.within c.requires.packet.peers.to in
+    let hop = hops.each _ c.chosen_hop-link.result c.chosen_hop-link.ensures in
+    rw c.graph-graph.ensures.value hop.shortest.0.0
 
 pub loop-turn-preserved : goal.loop-turn-preserved
 loop-turn-preserved c =
-    counting-more c.args.net.now c.args.closed.now c.args.packet c.args.counts.now.items c.loop-turn.turn c.loop-turn.counts.items c.loop-turn.node.0 (reverse c.loop-turn.stack.items) c.in-Some.moved c.follow.new.node.0 (reverse c.step.new.stack.items) c.follow.new.counts.items
-    c.loop-turn.invariant
-    (rw c.follow.ensures.node c.in-Some.ensures.step)
-    c.follow.ensures.within
-    c.follow.ensures.counts
+    let away : c.loop-turn.node.0 ≢ c.args.packet.to.0 = (λ e. let ne = c.if-node-packet.false in omega (arith, e, ne)) in
+    let end : c.link.result.to.0 ≡ head c.args.net.now.graph c.chosen_hop-link.result.0 =
+    ap (λ k. k.to.0) c.link.ensures.link ∙ ap (λ (g : Graph). head g c.chosen_hop-link.result.0) c.graph-graph.ensures.value in
+    rw end
+    (forwarded-more c.args.net.now c.graph-graph.ensures.net c.args.packet c.requires.packet c.args.counts.now.items c.loop-turn.turn c.loop-turn.counts.items c.loop-turn.node.0 c.loop-turn.invariant
+    (hops_at c.args.trees.now c.loop-turn.node.0 c.args.packet.to.0) c.chosen_hop-link.result c.count.new.counts.items away
+    (c.requires.trees.hops c.loop-turn.node.0 c.args.packet.to.0 c.loop-turn.invariant.run.within c.requires.packet.peers.to)
+    c.chosen_hop-link.ensures c.count.ensures)
 
-pub returns-in-None : goal.returns-in-None
-returns-in-None c =
-    let e : node_count c.graph.result.now ≡ node_count c.args.net.now.graph = ap node_count c.graph.ensures.value in
-    counting-ends c.args.net.now c.graph.ensures.net c.args.closed.now c.args.packet c.args.counts.now.items c.loop-turn.turn c.loop-turn.counts.items c.loop-turn.node.0 (reverse c.loop-turn.stack.items)
-    c.requires.closed c.requires.packet c.loop-turn.invariant (inl c.in-None.ensures.none) (omega arith)
-
-pub returns : goal.returns
-returns c =
-    let e : node_count c.graph.result.now ≡ node_count c.args.net.now.graph = ap node_count c.graph.ensures.value in
-    counting-ends c.args.net.now c.graph.ensures.net c.args.closed.now c.args.packet c.args.counts.now.items c.loop-turn.turn c.loop-turn.counts.items c.loop-turn.node.0 (reverse c.loop-turn.stack.items)
-    c.requires.closed c.requires.packet c.loop-turn.invariant (inr (omega arith)) (omega arith)
+pub unreachable-requires : goal.unreachable-requires
+unreachable-requires c =
+    let e : node_count c.graph-graph.result.now ≡ node_count c.args.net.now.graph = ap node_count c.graph-graph.ensures.value in
+    let few : c.loop-turn.turn < node_count c.args.net.now.graph = forwarded-few c.args.net.now c.graph-graph.ensures.net c.args.packet c.requires.packet c.args.counts.now.items c.loop-turn.turn c.loop-turn.counts.items c.loop-turn.node.0 c.loop-turn.invariant in
+    omega (arith, e, few, c.loop-turn-test.false, c.node_count-turn-end.ensures.count)
