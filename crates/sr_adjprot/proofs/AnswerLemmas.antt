@@ -1,14 +1,15 @@
 -- A link has one answer, and each answer delivers.
-use Rattle.std.proofs.Common.{◌≡◌, ◌≢◌, ℕ, ◌+◌, ◌<◌, ◌≤◌, Bool, true, false, List, [], reverse, refl, arith, ap, sym, ◌∙◌, subst, Option, None}
+use Rattle.std.proofs.Common.{◌≡◌, ◌≢◌, ℕ, ◌+◌, ◌<◌, ◌≤◌, Bool, true, false, List, [], reverse, refl, arith, ap, sym, ◌∙◌, subst, Option, None, Some}
 use Rattle.std.specs.Prelude.{is_some}
 use Rattle.std.proofs.lemmas.Bool.{false≢true}
-use Rattle.std.proofs.lemmas.List.{reverse-reverse}
+use Rattle.std.specs.Prelude.{replicate}
+use Rattle.std.proofs.lemmas.List.{reverse-reverse, get_or-replicate}
 use Rattle.sr_model.specs.declared.link.LinkNo.{LinkNo}
 use Rattle.sr_model.specs.declared.repair.Answer.{Answer}
 use Rattle.sr_model.specs.declared.repair.Answer.TheVariants.{Least}
 use Rattle.sr_model.specs.declared.repair.RepairList.{RepairList}
 use Rattle.sr_model.specs.Audit.{is_least}
-use Rattle.sr_model.specs.Graph.{link_count, tail, head, metric, link_at, IsLink}
+use Rattle.sr_model.specs.Graph.{has, link_count, tail, head, metric, link_at, IsLink}
 use Rattle.sr_model.specs.Walk.{cost}
 use Rattle.sr_model.specs.Case.{IsAffected}
 use Rattle.sr_model.specs.Label.{Net, labels_at}
@@ -24,6 +25,8 @@ use Rattle.sr_adjprot.specs.declared.answer.AdjAnswer.{AdjAnswer}
 use Rattle.sr_adjprot.specs.declared.answer.AdjAnswer.TheVariants.{Unprotected, NoIndex, Steer, Repair, Uncovered}
 use Rattle.sr_adjprot.specs.Active.{adj_case, IsOwnHop, IsRedirected, IsAdjAnswer}
 use Rattle.sr_adjprot.specs.Delivery.{AdjDelivers}
+use Rattle.sr_adjprot.specs.Backup.{IsReplaced}
+use Rattle.sr_adjprot.specs.Laws.{BackupsAreUnique}
 
 -- an index that is there isn't missing
 some_not_none : (index : Option ℕ) → index ≡ None → is_some index ≡ true → ⊥
@@ -100,3 +103,35 @@ adj-delivers n r e l (Steer label c) within a = λ x set rest ms v after run.
 adj-delivers n r e l (Repair list labels) within a =
     stack-delivers n r (adj_case l) (head n.graph l.0) list (reverse labels) within (end-affected n r l within a.0.index a.1.hop) a.1.answer_is a.2
 adj-delivers n r e l (Uncovered answer) within a = tt
+
+-- an answer for an eligible label is one by any tests that say so
+pub moved-answer : (n : Net) (e f : List Bool) (l : LinkNo) (a : AdjAnswer) → has e l.0 ≡ true → has f l.0 ≡ true → IsAdjAnswer n e l a → IsAdjAnswer n f l a
+moved-answer n e f l Unprotected p q is = absurd (false≢true (sym is ∙ p))
+moved-answer n e f l NoIndex p q is = (q, is.1)
+moved-answer n e f l (Steer t c) p q is = (record { marked = q; index = is.0.index }, is.1)
+moved-answer n e f l (Repair list ts) p q is = (record { marked = q; index = is.0.index }, is.1, is.2)
+moved-answer n e f l (Uncovered a) p q is = (record { marked = q; index = is.0.index }, is.1, is.2)
+
+-- what is an answer by all tests that say that the label is eligible is done with a packet under it
+pub replaced-as : (n : Net) (l : LinkNo) (a : AdjAnswer) → ((e : List Bool) → has e l.0 ≡ true → IsAdjAnswer n e l a) → IsReplaced n l a
+replaced-as n l a is =
+    let all : List Bool = replicate (l.0 + 1) true in
+    let marked : has all l.0 ≡ true = get_or-replicate (l.0 + 1) l.0 true false (omega arith) in
+    (all, marked, is all marked)
+
+-- one thing is done with a packet under an eligible label
+pub replaced-one : (n : Net) (l : LinkNo) (one two : AdjAnswer) → IsReplaced n l one → IsReplaced n l two → one ≡ two
+replaced-one n l one two p q = adj-answer-one n p.0 l one two p.2 (moved-answer n q.0 p.0 l two q.1 p.1 q.2)
+
+-- a link has at most one label with the flag B beside its own, and one thing is done with a packet under it
+pub backup-one : BackupsAreUnique
+backup-one facts net l None None p q = refl
+backup-one facts net l None (Some b) p q = absurd (p b.label q.0.gives)
+backup-one facts net l (Some a) None p q = absurd (q a.label p.0.gives)
+backup-one facts net l (Some a) (Some b) p q =
+    let low : a.label ≤ b.label = p.0.least b.label q.0.gives in
+    let high : b.label ≤ a.label = q.0.least a.label p.0.gives in
+    let labels : a.label ≡ b.label = omega arith in
+    let answers : a.answer ≡ b.answer = replaced-one net l a.answer b.answer p.1 q.1 in
+    let same : record { label = a.label; answer = a.answer } ≡ record { label = b.label; answer = b.answer } = rw (labels, answers) refl in
+    ap Some same

@@ -36,8 +36,9 @@ use Rattle.sr_domain.proofs.FlatLemmas.{adj_label-least}
 use Rattle.sr_domain.proofs.KeyLemmas.{any-to, any-from}
 use Rattle.sr_domain.proofs.MemberLemmas.{here, later, cases, nowhere, picked-from, picked-to}
 use Rattle.sr_domain.proofs.NetLemmas.{found_as}
-use Rattle.sr_adjprot.specs.Eligible.{IsEligible}
-use Rattle.sr_adjprot.specs.Protected.{gives_backup, if_used, protected_by, protected_in, protected_of}
+use Rattle.sr_adjprot.specs.declared.protected.Flagged.{Flagged}
+use Rattle.sr_adjprot.specs.Eligible.{AnnouncesLink, IsEligible}
+use Rattle.sr_adjprot.specs.Protected.{if_used, flagged, flagged_by, flagged_in, flagged_of, if_protected, protected_of}
 
 -- ---- what a filter keeps
 
@@ -65,10 +66,10 @@ filtered-to {X} p (y ∷ ys) x c e = ⊎_elim
 
 -- ---- keys
 
-same-from : (a b : LinkKey) → same_key a b ≡ true → a ≡ b
+pub same-from : (a b : LinkKey) → same_key a b ≡ true → a ≡ b
 same-from a b e = key-from_cmp a b ((Equal-is (key_cmp a b)).0 e)
 
-same-itself : (a : LinkKey) → same_key a a ≡ true
+pub same-itself : (a : LinkKey) → same_key a a ≡ true
 same-itself a = ap is_eq (tied_itself key_total a)
 
 -- ---- announcements and their places in the database
@@ -78,29 +79,29 @@ pub record HasPart (facts : Facts) (entry : LspId × Stored) (part : Part) : Typ
   pub counted : counts facts entry.0 ≡ true
   pub part_is : Contains (parts_of entry.1.live) part
 
-protected-from : (facts : Facts) (es : List (LspId × Stored)) (a : Announcement) → Contains (protected_in facts es) a → (entry : LspId × Stored) × (part : Part) × Contains es entry × HasPart facts entry part × (protected_by facts entry.0.system part ≡ Some a)
-protected-from facts [] a c = absurd (nowhere a c)
-protected-from facts (entry ∷ es) a c = ⊎_elim
-    (λ (first : Contains (cond (counts facts entry.0) (filter_map (protected_by facts entry.0.system) (parts_of entry.1.live)) []) a). by (counts facts entry.0) refl first)
-    (λ (more : Contains (protected_in facts es) a). let r = protected-from facts es a more in (r.0, r.1, later entry es r.0 r.2, r.3, r.4))
-    (Contains-append_cases (cond (counts facts entry.0) (filter_map (protected_by facts entry.0.system) (parts_of entry.1.live)) []) (protected_in facts es) a c)
+flagged-from : (facts : Facts) (es : List (LspId × Stored)) (a : Flagged) → Contains (flagged_in facts es) a → (entry : LspId × Stored) × (part : Part) × Contains es entry × HasPart facts entry part × (flagged_by facts entry.0.system part ≡ Some a)
+flagged-from facts [] a c = absurd (nowhere a c)
+flagged-from facts (entry ∷ es) a c = ⊎_elim
+    (λ (first : Contains (cond (counts facts entry.0) (filter_map (flagged_by facts entry.0.system) (parts_of entry.1.live)) []) a). by (counts facts entry.0) refl first)
+    (λ (more : Contains (flagged_in facts es) a). let r = flagged-from facts es a more in (r.0, r.1, later entry es r.0 r.2, r.3, r.4))
+    (Contains-append_cases (cond (counts facts entry.0) (filter_map (flagged_by facts entry.0.system) (parts_of entry.1.live)) []) (flagged_in facts es) a c)
   where
-    by : (b : Bool) → counts facts entry.0 ≡ b → Contains (cond b (filter_map (protected_by facts entry.0.system) (parts_of entry.1.live)) []) a → (entry' : LspId × Stored) × (part : Part) × Contains (entry ∷ es) entry' × HasPart facts entry' part × (protected_by facts entry'.0.system part ≡ Some a)
-    by true e h = let p = picked-from (protected_by facts entry.0.system) (parts_of entry.1.live) a h in (entry, p.0, here entry es, record { counted = e; part_is = p.1 }, p.2)
+    by : (b : Bool) → counts facts entry.0 ≡ b → Contains (cond b (filter_map (flagged_by facts entry.0.system) (parts_of entry.1.live)) []) a → (entry' : LspId × Stored) × (part : Part) × Contains (entry ∷ es) entry' × HasPart facts entry' part × (flagged_by facts entry'.0.system part ≡ Some a)
+    by true e h = let p = picked-from (flagged_by facts entry.0.system) (parts_of entry.1.live) a h in (entry, p.0, here entry es, record { counted = e; part_is = p.1 }, p.2)
     by false e h = absurd (nowhere a h)
 
-protected-to : (facts : Facts) (es : List (LspId × Stored)) (entry : LspId × Stored) (part : Part) (a : Announcement) → Contains es entry → HasPart facts entry part → protected_by facts entry.0.system part ≡ Some a → Contains (protected_in facts es) a
-protected-to facts [] entry part a c has e = absurd (nowhere entry c)
-protected-to facts (x ∷ es) entry part a c has e = ⊎_elim
-    (λ (same : x ≡ entry). Contains-append_left (own x) (protected_in facts es) a (subst (λ (y : LspId × Stored). Contains (own y) a) (sym same) mine))
-    (λ (more : Contains es entry). Contains-append_right (own x) (protected_in facts es) a (protected-to facts es entry part a more has e))
+flagged-to : (facts : Facts) (es : List (LspId × Stored)) (entry : LspId × Stored) (part : Part) (a : Flagged) → Contains es entry → HasPart facts entry part → flagged_by facts entry.0.system part ≡ Some a → Contains (flagged_in facts es) a
+flagged-to facts [] entry part a c has e = absurd (nowhere entry c)
+flagged-to facts (x ∷ es) entry part a c has e = ⊎_elim
+    (λ (same : x ≡ entry). Contains-append_left (own x) (flagged_in facts es) a (subst (λ (y : LspId × Stored). Contains (own y) a) (sym same) mine))
+    (λ (more : Contains es entry). Contains-append_right (own x) (flagged_in facts es) a (flagged-to facts es entry part a more has e))
     (cases x es entry c)
   where
-    own : LspId × Stored → List Announcement
-    own y = cond (counts facts y.0) (filter_map (protected_by facts y.0.system) (parts_of y.1.live)) []
+    own : LspId × Stored → List Flagged
+    own y = cond (counts facts y.0) (filter_map (flagged_by facts y.0.system) (parts_of y.1.live)) []
 
     mine : Contains (own entry) a
-    mine = subst (λ (b : Bool). Contains (cond b (filter_map (protected_by facts entry.0.system) (parts_of entry.1.live)) []) a) (sym has.counted) (picked-to (protected_by facts entry.0.system) (parts_of entry.1.live) part a has.part_is e)
+    mine = subst (λ (b : Bool). Contains (cond b (filter_map (flagged_by facts entry.0.system) (parts_of entry.1.live)) []) a) (sym has.counted) (picked-to (flagged_by facts entry.0.system) (parts_of entry.1.live) part a has.part_is e)
 
 announced-to : (facts : Facts) (es : List (LspId × Stored)) (entry : LspId × Stored) (part : Part) (a : Announcement) → Contains es entry → HasPart facts entry part → announced_by entry.0.system part ≡ Some a → Contains (announced_in facts es) a
 announced-to facts [] entry part a c has e = absurd (nowhere entry c)
@@ -165,44 +166,50 @@ none-there (x ∷ xs) e = absurd (by (least xs) e)
     by None h = false≢true (sym h)
     by (Some y) h = false≢true (sym h)
 
-some-there : (xs : List ℕ) (k t : ℕ) → slice_get xs k ≡ Some t → is_some (least xs) ≡ true
-some-there [] k t e = absurd (cc)
-some-there (x ∷ xs) k t e = by (least xs)
+first-there : (x : ℕ) (xs : List ℕ) → is_some (least (x ∷ xs)) ≡ true
+first-there x xs = by (least xs)
   where
     by : (o : Option ℕ) → is_some (lesser o x) ≡ true
     by None = refl
     by (Some y) = refl
 
-both-parts : (p q : Bool) → (not p && q) ≡ true → (p ≡ false) × (q ≡ true)
-both-parts true q e = absurd (false≢true e)
-both-parts false q e = (refl, e)
+pub some-there : (xs : List ℕ) → 0 < length xs → is_some (least xs) ≡ true
+some-there [] few = absurd (omega arith)
+some-there (x ∷ xs) few = first-there x xs
 
-backup-label : (sids : List AdjSid) → gives_backup sids ≡ true → (adj_sid_labels false sids ≡ []) × IsSomeAnd (adj_label sids) (IsLeastNumber (adj_sid_labels true sids))
-backup-label sids e =
-    let parts : (is_some (least (adj_sid_labels false sids)) ≡ false) × (is_some (least (adj_sid_labels true sids)) ≡ true) = both-parts (is_some (least (adj_sid_labels false sids))) (is_some (least (adj_sid_labels true sids))) e in
-    let clear : adj_sid_labels false sids ≡ [] = none-there (adj_sid_labels false sids) parts.0 in
+pub there-some : (xs : List ℕ) → is_some (least xs) ≡ true → 0 < length xs
+there-some [] e = absurd (false≢true e)
+there-some (x ∷ xs) e = omega arith
+
+place-there : (xs : List ℕ) (k t : ℕ) → slice_get xs k ≡ Some t → 0 < length xs
+place-there [] k t e = absurd (cc)
+place-there (x ∷ xs) k t e = omega arith
+
+-- a link without labels with the flag clear has the least with it set
+backup-label : (sids : List AdjSid) → adj_sid_labels false sids ≡ [] → is_some (least (adj_sid_labels true sids)) ≡ true → IsSomeAnd (adj_label sids) (IsLeastNumber (adj_sid_labels true sids))
+backup-label sids clear some =
     let is : IsAdjLabel sids (adj_label sids) = adj_label-least sids in
-    (clear, by (adj_label sids) (is.set clear) parts.1)
+    by (adj_label sids) (is.set clear)
   where
-    by : (o : Option ℕ) → MatchOption o (adj_sid_labels true sids ≡ []) (IsLeastNumber (adj_sid_labels true sids)) → is_some (least (adj_sid_labels true sids)) ≡ true → IsSomeAnd o (IsLeastNumber (adj_sid_labels true sids))
-    by None none some = absurd (false≢true (sym (ap (λ (xs : List ℕ). is_some (least xs)) none) ∙ some))
-    by (Some t) least some = least
+    by : (o : Option ℕ) → MatchOption o (adj_sid_labels true sids ≡ []) (IsLeastNumber (adj_sid_labels true sids)) → IsSomeAnd o (IsLeastNumber (adj_sid_labels true sids))
+    by None none = absurd (false≢true (sym (ap (λ (xs : List ℕ). is_some (least xs)) none) ∙ some))
+    by (Some t) least = least
 
-backup-gives : (sids : List AdjSid) (label : Option ℕ) → adj_sid_labels false sids ≡ [] → IsSomeAnd label (IsLeastNumber (adj_sid_labels true sids)) → gives_backup sids ≡ true
-backup-gives sids None clear is = absurd is
-backup-gives sids (Some t) clear is =
-    ap (λ (xs : List ℕ). not (is_some (least xs)) && is_some (least (adj_sid_labels true sids))) clear ∙ some-there (adj_sid_labels true sids) is.place t is.stands
+label-there : (sids : List AdjSid) (label : Option ℕ) → IsSomeAnd label (IsLeastNumber (adj_sid_labels true sids)) → is_some (least (adj_sid_labels true sids)) ≡ true
+label-there sids None is = absurd is
+label-there sids (Some t) is = some-there (adj_sid_labels true sids) (place-there (adj_sid_labels true sids) is.place t is.stands)
 
 -- ---- parts
 
--- what a part says that gives its link's label the flag B
-pub record IsBackupPart (facts : Facts) (node : ℕ) (part : Part) (a : Announcement) : Type 0 where
+-- what a part says that gives its link a label with the flag B
+pub record IsFlaggedPart (facts : Facts) (node : ℕ) (part : Part) (one : Flagged) : Type 0 where
   pub reach : ReachPart
   pub part_is : part ≡ Reach reach
-  pub gives : gives_backup reach.adj ≡ true
-  pub announces : announced_by node (Reach reach) ≡ Some a
-  pub announced : announcement_of node reach ≡ a
-  pub used : is_in_use facts a ≡ true
+  pub label : least (adj_sid_labels true reach.adj) ≡ Some one.label
+  pub clear : one.clear ≡ is_some (least (adj_sid_labels false reach.adj))
+  pub announces : announced_by node (Reach reach) ≡ Some one.announcement
+  pub announced : announcement_of node reach ≡ one.announcement
+  pub used : is_in_use facts one.announcement ≡ true
 
 announced-is : (node : ℕ) (reach : ReachPart) (a : Announcement) → announced_by node (Reach reach) ≡ Some a → announcement_of node reach ≡ a
 announced-is node reach a e = by ((reach.pseudonode == 0) && not (reach.neighbour == node)) e
@@ -219,66 +226,116 @@ used-is facts (Some b) a e = by (is_in_use facts b) refl e
     by true u h = (h, ap (is_in_use facts) (sym (same_Some b a h)) ∙ u)
     by false u h = absurd (cc)
 
-part-from : (facts : Facts) (node : ℕ) (part : Part) (a : Announcement) → protected_by facts node part ≡ Some a → IsBackupPart facts node part a
-part-from facts node (Reach reach) a e = by (gives_backup reach.adj) refl e
-  where
-    by : (t : Bool) → gives_backup reach.adj ≡ t → cond t (if_used facts (announced_by node (Reach reach))) None ≡ Some a → IsBackupPart facts node (Reach reach) a
-    by true g h = let u = used-is facts (announced_by node (Reach reach)) a h in record {
+flagged-is : (o : Option Announcement) (label : Option ℕ) (clear : Bool) (one : Flagged) → flagged o label clear ≡ Some one → (o ≡ Some one.announcement) × (label ≡ Some one.label) × (one.clear ≡ clear)
+flagged-is None label clear one e = absurd (cc)
+flagged-is (Some a) None clear one e = absurd (cc)
+flagged-is (Some a) (Some t) clear one e =
+    let is : record { announcement = a; label = t; clear = clear } ≡ one = same_Some (record { announcement = a; label = t; clear = clear }) one e in
+    (ap (λ (f : Flagged). Some f.announcement) is, ap (λ (f : Flagged). Some f.label) is, sym (ap (λ (f : Flagged). f.clear) is))
+
+part-from : (facts : Facts) (node : ℕ) (part : Part) (one : Flagged) → flagged_by facts node part ≡ Some one → IsFlaggedPart facts node part one
+part-from facts node (Reach reach) one e =
+    let is = flagged-is (if_used facts (announced_by node (Reach reach))) (least (adj_sid_labels true reach.adj)) (is_some (least (adj_sid_labels false reach.adj))) one e in
+    let u = used-is facts (announced_by node (Reach reach)) one.announcement is.0 in
+    record {
       reach = reach;
       part_is = refl;
-      gives = g;
+      label = is.1;
+      clear = is.2;
       announces = u.0;
-      announced = announced-is node reach a u.0;
+      announced = announced-is node reach one.announcement u.0;
       used = u.1;
     }
-    by false g h = absurd (cc)
-part-from facts node _ a e = absurd (cc)
+part-from facts node _ one e = absurd (cc)
 
-part-to : (facts : Facts) (node : ℕ) (reach : ReachPart) (a : Announcement) → gives_backup reach.adj ≡ true → announced_by node (Reach reach) ≡ Some a → is_in_use facts a ≡ true → protected_by facts node (Reach reach) ≡ Some a
-part-to facts node reach a gives announces used =
-    ap (λ (t : Bool). cond t (if_used facts (announced_by node (Reach reach))) None) gives
-    ∙ ap (if_used facts) announces
-    ∙ ap (λ (t : Bool). cond t (Some a) None) used
+-- the part is listed with its least label with the flag B
+part-to : (facts : Facts) (node : ℕ) (reach : ReachPart) (a : Announcement) → is_some (least (adj_sid_labels true reach.adj)) ≡ true → announced_by node (Reach reach) ≡ Some a → is_in_use facts a ≡ true → (t : ℕ) × (least (adj_sid_labels true reach.adj) ≡ Some t) × (flagged_by facts node (Reach reach) ≡ Some (record { announcement = a; label = t; clear = is_some (least (adj_sid_labels false reach.adj)) }))
+part-to facts node reach a some announces used = by (least (adj_sid_labels true reach.adj)) some
+  where
+    there : if_used facts (announced_by node (Reach reach)) ≡ Some a
+    there = ap (if_used facts) announces ∙ ap (λ (t : Bool). cond t (Some a) None) used
+
+    by : (o : Option ℕ) → is_some o ≡ true → (t : ℕ) × (o ≡ Some t) × (flagged (if_used facts (announced_by node (Reach reach))) o (is_some (least (adj_sid_labels false reach.adj))) ≡ Some (record { announcement = a; label = t; clear = is_some (least (adj_sid_labels false reach.adj)) }))
+    by None e = absurd (false≢true e)
+    by (Some t) e = (t, refl, ap (λ (o : Option Announcement). flagged o (Some t) (is_some (least (adj_sid_labels false reach.adj)))) there)
+
+-- ---- places in the database
+
+-- one of the list, where it stands, and what its part says
+pub record IsFound (facts : Facts) (one : Flagged) : Type 0 where
+  pub entry : LspId × Stored
+  pub part : Part
+  pub stands : Contains facts.database entry
+  pub has : HasPart facts entry part
+  pub says : IsFlaggedPart facts entry.0.system part one
+
+pub found-from : (facts : Facts) (one : Flagged) → Contains (flagged_of facts) one → IsFound facts one
+found-from facts one there =
+    let at = flagged-from facts facts.database one there in
+    record { entry = at.0; part = at.1; stands = at.2; has = at.3; says = part-from facts at.0.0.system at.1 one at.4 }
+
+-- its part announces its link
+abbrev pub found-announces : (facts : Facts) (one : Flagged) → (f : IsFound facts one) → AnnouncesLink facts f.entry.0.system f.says.reach
+found-announces facts one f = record {
+  id = f.entry.0;
+  stored = f.entry.1;
+  stands = f.stands;
+  counted = f.has.counted;
+  own = refl;
+  part = subst (λ (x : Part). Contains (parts_of f.entry.1.live) x) f.says.part_is f.has.part_is;
+  announces = f.says.announces ∙ ap Some (sym f.says.announced);
+}
+
+-- what is announced of a link in use with a label with the flag B is in the list
+pub found-to : (facts : Facts) (node : ℕ) (reach : ReachPart) → AnnouncesLink facts node reach → is_in_use facts (announcement_of node reach) ≡ true → is_some (least (adj_sid_labels true reach.adj)) ≡ true → (t : ℕ) × (least (adj_sid_labels true reach.adj) ≡ Some t) × Contains (flagged_of facts) (record { announcement = announcement_of node reach; label = t; clear = is_some (least (adj_sid_labels false reach.adj)) })
+found-to facts node reach announced used some =
+    let a : Announcement = announcement_of node reach in
+    let by_node = part-to facts node reach a some announced.announces used in
+    let one : Flagged = record { announcement = a; label = by_node.0; clear = is_some (least (adj_sid_labels false reach.adj)) } in
+    let by : flagged_by facts announced.id.system (Reach reach) ≡ Some one = subst (λ (n : ℕ). flagged_by facts n (Reach reach) ≡ Some one) (sym announced.own) by_node.2 in
+    (by_node.0, by_node.1, flagged-to facts facts.database (announced.id, announced.stored) (Reach reach) one announced.stands (record { counted = announced.counted; part_is = announced.part }) by)
 
 -- ---- the two ways
+
+protected-is : (one : Flagged) (a : Announcement) → if_protected one ≡ Some a → (one.clear ≡ false) × (one.announcement ≡ a)
+protected-is one a e = by one.clear refl e
+  where
+    by : (t : Bool) → one.clear ≡ t → cond t None (Some one.announcement) ≡ Some a → (one.clear ≡ false) × (one.announcement ≡ a)
+    by true c h = absurd (cc)
+    by false c h = (c, same_Some one.announcement a h)
 
 pub eligible-from : (facts : Facts) (net : Net) → IsNetOf facts net → (l : ℕ) → l < link_count net.graph → is_announced (protected_of facts) (key_at net.graph l) ≡ true → IsEligible facts net l
 eligible-from facts net is l within e =
     let a = any-to (λ (b : Announcement). same_key (key_at net.graph l) b.key) (protected_of facts) e in
     let named : a.0.key ≡ key_at net.graph l = sym (same-from (key_at net.graph l) a.0.key a.2) in
-    let at = protected-from facts facts.database a.0 a.1 in
-    made a.0 named at.0 at.1 at.2 at.3 (part-from facts at.0.0.system at.1 a.0 at.4)
+    let at = picked-from if_protected (flagged_of facts) a.0 a.1 in
+    let p = protected-is at.0 a.0 at.2 in
+    made at.0 (ap (λ (b : Announcement). b.key) p.1 ∙ named) p.0 (found-from facts at.0 at.1)
   where
-    made : (a : Announcement) → a.key ≡ key_at net.graph l → (entry : LspId × Stored) (part : Part) → Contains facts.database entry → HasPart facts entry part → IsBackupPart facts entry.0.system part a → IsEligible facts net l
-    made a named entry part stands has p =
-        let there : Contains (parts_of entry.1.live) (Reach p.reach) = subst (λ (x : Part). Contains (parts_of entry.1.live) x) p.part_is has.part_is in
-        let has' : HasPart facts entry (Reach p.reach) = record { counted = has.counted; part_is = there } in
-        let found : Contains (announcements_of facts) a = announced-to facts facts.database entry (Reach p.reach) a stands has' p.announces in
-        let backup = backup-label p.reach.adj p.gives in
-        let label : adj_at net l ≡ adj_label p.reach.adj = taken facts net is a l found p.used within named ∙ ap (λ (x : Announcement). x.label) (sym p.announced) in
+    made : (one : Flagged) → one.announcement.key ≡ key_at net.graph l → one.clear ≡ false → IsFound facts one → IsEligible facts net l
+    made one named alone f =
+        let p = f.says in
+        let sids = p.reach.adj in
+        let link = found-announces facts one f in
+        let found : Contains (announcements_of facts) one.announcement = announced-to facts facts.database f.entry (Reach p.reach) one.announcement f.stands (record { counted = f.has.counted; part_is = link.part }) p.announces in
+        let clear : adj_sid_labels false sids ≡ [] = none-there (adj_sid_labels false sids) (sym p.clear ∙ alone) in
+        let backup = backup-label sids clear (ap is_some p.label) in
+        let label : adj_at net l ≡ adj_label sids = taken facts net is one.announcement l found p.used within named ∙ ap (λ (x : Announcement). x.label) (sym p.announced) in
         record {
-          node = entry.0.system;
+          node = f.entry.0.system;
           reach = p.reach;
-          announced = record {
-            id = entry.0;
-            stored = entry.1;
-            stands = stands;
-            counted = has.counted;
-            own = refl;
-            part = there;
-            announces = p.announces ∙ ap Some (sym p.announced);
-          };
+          announced = link;
           used = ap (is_in_use facts) p.announced ∙ p.used;
           named = ap (λ (x : Announcement). x.key) p.announced ∙ named;
-          clear = backup.0;
-          label = subst (λ (o : Option ℕ). IsSomeAnd o (IsLeastNumber (adj_sid_labels true p.reach.adj))) (sym label) backup.1;
+          clear = clear;
+          label = subst (λ (o : Option ℕ). IsSomeAnd o (IsLeastNumber (adj_sid_labels true sids))) (sym label) backup;
         }
 
 pub eligible-to : (facts : Facts) (net : Net) (l : ℕ) → IsEligible facts net l → is_announced (protected_of facts) (key_at net.graph l) ≡ true
 eligible-to facts net l is =
     let a : Announcement = announcement_of is.node is.reach in
-    let gives : gives_backup is.reach.adj ≡ true = backup-gives is.reach.adj (adj_at net l) is.clear is.label in
-    let by_node : protected_by facts is.node (Reach is.reach) ≡ Some a = part-to facts is.node is.reach a gives is.announced.announces is.used in
-    let by : protected_by facts is.announced.id.system (Reach is.reach) ≡ Some a = subst (λ (node : ℕ). protected_by facts node (Reach is.reach) ≡ Some a) (sym is.announced.own) by_node in
-    let there : Contains (protected_of facts) a = protected-to facts facts.database (is.announced.id, is.announced.stored) (Reach is.reach) a is.announced.stands (record { counted = is.announced.counted; part_is = is.announced.part }) by in
+    let f = found-to facts is.node is.reach is.announced is.used (label-there is.reach.adj (adj_at net l) is.label) in
+    let one : Flagged = record { announcement = a; label = f.0; clear = is_some (least (adj_sid_labels false is.reach.adj)) } in
+    let alone : if_protected one ≡ Some a = ap (λ (xs : List ℕ). cond (is_some (least xs)) None (Some a)) is.clear in
+    let there : Contains (protected_of facts) a = picked-to if_protected (flagged_of facts) one a f.2 alone in
     any-from (λ (b : Announcement). same_key (key_at net.graph l) b.key) (protected_of facts) a there (ap (same_key (key_at net.graph l)) is.named ∙ same-itself (key_at net.graph l))

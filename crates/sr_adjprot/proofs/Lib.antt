@@ -1,3 +1,4 @@
 pub mod EligibleLemmas
+pub mod BackupLemmas
 pub mod MarkLemmas
 pub mod AnswerLemmas

@@ -17,7 +17,8 @@ use Rattle.sr_adjprot.specs.Active.{adj_case}
 abbrev pub SteerDelivers : Net → LinkNo → ℕ → Type 0
 SteerDelivers n l label =
     (x : List Bool) → IsFailedSet n.graph (adj_case l) x
-    → (rest : List ℕ) (ms : List Move) (v : ℕ) (after : List ℕ) → Run n [] rest (tail n.graph l.0) (label ∷ rest) ms v after
+    → (rest : List ℕ) (ms : List Move) (v : ℕ) (after : List ℕ)
+    → Run n [] rest (tail n.graph l.0) (label ∷ rest) ms v after
     → PacketRunsWell n x (tail n.graph l.0) (head n.graph l.0) rest ms v after
 
 -- the answer delivers: under the label where it steers, under the labels from the end of the first link on where it

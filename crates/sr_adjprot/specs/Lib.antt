@@ -2,4 +2,5 @@ pub mod Eligible
 pub mod Protected
 pub mod Active
 pub mod Delivery
+pub mod Backup
 pub mod Laws

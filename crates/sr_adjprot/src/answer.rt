@@ -24,3 +24,10 @@ pub enum AdjAnswer<'a> {
     /// Nothing: the repair of the link's failure towards its end isn't a list.
     Uncovered(Answer<'a>),
 }
+
+/// The label of a link with the flag B, where the net took one without it, and what is done with a packet under it.
+#[derive(Debug, Drop)]
+pub struct BackupLabel<'a> {
+    pub label: u32,
+    pub answer: AdjAnswer<'a>,
+}

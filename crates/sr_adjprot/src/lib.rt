@@ -7,8 +7,13 @@ mod laws;
 mod marks;
 mod protected;
 mod replaced;
+mod second;
 
-pub use answer::AdjAnswer;
+pub use answer::{AdjAnswer, BackupLabel};
 pub use laws::{adj_answers_are_determined, adj_answers_deliver};
 pub use marks::eligible;
 pub use replaced::adj_repair;
+pub use second::backup;
+
+#[cfg(test)]
+mod tests;

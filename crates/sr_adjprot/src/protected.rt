@@ -1,21 +1,22 @@
-//! The announcements of links in use whose labels have the flag B.
+//! The announcements of links in use that have labels with the flag B.
 ghost use Rattle.std.specs.Prelude.{◌≡◌, ◌++◌, IfOk, OnOk};
 ghost use Rattle.std.specs.List.{filter_map};
-ghost use Rattle.sr_adjprot.specs.Protected.{gives_backup as gives_backup_in, if_used as if_used_in, protected_by as protected_by_in, protected_of};
+ghost use Rattle.sr_adjprot.specs.Protected.{if_used as if_used_in, flagged_by as flagged_by_in, flagged_of, if_protected, protected_of, is_own as is_own_in, label_beside as label_beside_in, labels_beside};
 
 use sr_domain::{Announcement, announced_by, is_present, least_label, link_by};
 use sr_lsdb::Facts;
 use sr_lsp::Part;
-use sr_model::{MOST_LINKS, SystemId};
-use sr_subtlv::AdjSid;
+use sr_model::{LinkKey, MOST_LINKS, SystemId};
 use std::alloc::{AllocError, Global};
 
-/// Whether the adjacency label has the flag B. A label with it is taken only where there is none without it (this
-/// project's rule).
-fn gives_backup(sids: &[AdjSid]) -> bool
-    ensures { result ≡ gives_backup_in sids.now }
-{
-    least_label(false, sids).is_none() && least_label(true, sids).is_some()
+/// An announcement of a link in use with a label with the flag B.
+#[derive(Clone, Copy, Debug)]
+pub(crate) struct Flagged {
+    pub(crate) announcement: Announcement,
+    /// The least label with the flag.
+    pub(crate) label: u32,
+    /// Whether there is a label with the flag clear too. Then the link's label is one of those (this project's rule).
+    pub(crate) clear: bool,
 }
 
 /// The announcement, if its link is in use.
@@ -31,35 +32,38 @@ fn if_used(facts: &Facts, announced: Option<Announcement>) -> Option<Announcemen
     }
 }
 
-/// The announcement that the part is, if its link is in use and the link's label has the flag B.
-fn protected_by(facts: &Facts, node: SystemId, part: &Part) -> Option<Announcement>
-    ensures { result ≡ protected_by_in facts.now node part.now }
+/// The announcement that the part is, if its link is in use and has a label with the flag B.
+fn flagged_by(facts: &Facts, node: SystemId, part: &Part) -> Option<Flagged>
+    ensures { result ≡ flagged_by_in facts.now node part.now }
 {
     match part {
         Part::Reach(reach) => {
-            if gives_backup(reach.adj.as_slice()) {
-                if_used(facts, announced_by(node, part))
-            } else {
-                None
-            }
+            let sids = reach.adj.as_slice();
+            let announcement = if_used(facts, announced_by(node, part))?;
+            let label = least_label(true, sids)?;
+            Some(Flagged {
+                announcement,
+                label,
+                clear: least_label(false, sids).is_some(),
+            })
         }
         _ => None,
     }
 }
 
 /// Appends what the parts of an LSP announce so.
-fn add_protected(
+fn add_flagged(
     facts: &Facts,
     node: SystemId,
     parts: &[Part],
-    out: &mut Vec<Announcement>,
+    out: &mut Vec<Flagged>,
 ) -> Result<(), AllocError>
     ensures { OnOk result
-        (out.new.items ≡ out.old.items ++ filter_map (protected_by_in facts.now node) parts.now) }
+        (out.new.items ≡ out.old.items ++ filter_map (flagged_by_in facts.now node) parts.now) }
 {
     for part in parts {
-        match protected_by(facts, node, part) {
-            Some(announcement) => out.push(announcement)?,
+        match flagged_by(facts, node, part) {
+            Some(one) => out.push(one)?,
             None => {}
         }
     }
@@ -67,8 +71,8 @@ fn add_protected(
 }
 
 /// All such announcements of present nodes, in order of LSP id and place.
-pub(crate) fn protected_list(alloc: Global, facts: &Facts) -> Result<Vec<Announcement>, AllocError>
-    ensures { IfOk result (λ v. v.items ≡ protected_of facts.now) }
+fn flagged_list(alloc: Global, facts: &Facts) -> Result<Vec<Flagged>, AllocError>
+    ensures { IfOk result (λ v. v.items ≡ flagged_of facts.now) }
 {
     // Room for as many as there are links at most, so that it seldom grows.
     let mut out = Vec::with_capacity(alloc, MOST_LINKS)?;
@@ -77,10 +81,68 @@ pub(crate) fn protected_list(alloc: Global, facts: &Facts) -> Result<Vec<Announc
         if id.pseudonode == 0 && is_present(facts, id.system) {
             match &stored.live {
                 Some(shared) => {
-                    add_protected(facts, id.system, shared.lsp().parts.as_slice(), &mut out)?
+                    add_flagged(facts, id.system, shared.lsp().parts.as_slice(), &mut out)?
                 }
                 None => {}
             }
+        }
+    }
+    Ok(out)
+}
+
+/// The announcements of links in use whose labels have the flag B: such a label is taken only where there is none with the
+/// flag clear (this project's rule).
+pub(crate) fn protected_list(alloc: Global, facts: &Facts) -> Result<Vec<Announcement>, AllocError>
+    ensures { IfOk result (λ v. v.items ≡ protected_of facts.now) }
+{
+    let flagged = flagged_list(alloc, facts)?;
+    let mut out = Vec::with_capacity(alloc, flagged.len())?;
+    for one in &flagged {
+        if !one.clear {
+            out.push(one.announcement)?;
+        }
+    }
+    Ok(out)
+}
+
+/// Whether this is the link's own label.
+fn is_own(own: Option<u32>, label: u32) -> bool
+    ensures { result ≡ is_own_in own label }
+{
+    match own {
+        Some(other) => other == label,
+        None => false,
+    }
+}
+
+/// The label with the flag B of the link of this key, if the announcement has one with the flag clear too and this
+/// isn't the link's own.
+fn label_beside(key: &LinkKey, own: Option<u32>, one: &Flagged) -> Option<u32>
+    ensures { result ≡ label_beside_in key.now own one.now }
+{
+    if one.clear && one.announcement.key == *key && !is_own(own, one.label) {
+        Some(one.label)
+    } else {
+        None
+    }
+}
+
+/// The labels with the flag B of the link of this key, in the announcements in which it has one with the flag clear
+/// too, but for the link's own.
+pub(crate) fn list_beside(
+    alloc: Global,
+    facts: &Facts,
+    key: &LinkKey,
+    own: Option<u32>,
+) -> Result<Vec<u32>, AllocError>
+    ensures { IfOk result (λ v. v.items ≡ labels_beside facts.now key.now own) }
+{
+    let flagged = flagged_list(alloc, facts)?;
+    let mut out = Vec::new(alloc);
+    for one in &flagged {
+        match label_beside(key, own, one) {
+            Some(label) => out.push(label)?,
+            None => {}
         }
     }
     Ok(out)

@@ -5,8 +5,9 @@ ghost use Rattle.sr_model.specs.Label.{labels_at};
 ghost use Rattle.sr_model.specs.Case.{IsAffected};
 ghost use Rattle.sr_model.specs.Repair.{IsCaseAnswer};
 ghost use Rattle.sr_spf.specs.Trees.{AreTrees};
-ghost use Rattle.sr_adjprot.specs.Active.{adj_case as adj_case_of, CanReplace, IsAdjAnswer, IsOwnHop};
+ghost use Rattle.sr_adjprot.specs.Active.{adj_case as adj_case_of, IsAdjAnswer, IsOwnHop};
 ghost use Rattle.sr_adjprot.specs.Delivery.{AdjDelivers};
+ghost use Rattle.sr_adjprot.specs.Backup.{IsReplaced};
 
 use crate::answer::AdjAnswer;
 use sr_labels::Net;
@@ -27,12 +28,12 @@ fn adj_case(link: LinkNo) -> Case
 }
 
 /// The steering to the end of a link that is no next hop towards it.
-fn steered<'a>(net: &Net, trees: &Trees, eligible: &[bool], link: LinkNo) -> AdjAnswer<'a>
+fn steered<'a>(net: &Net, trees: &Trees, link: LinkNo) -> AdjAnswer<'a>
     requires link { link.0 < link_count net.now.graph }
     requires trees { AreTrees net.now.graph trees.now }
-    requires replaced { CanReplace net.now eligible.now link }
+    requires index { is_some (labels_at net.now (head net.now.graph link.0)).index ≡ true }
     requires aside { IsOwnHop net.now link → ⊥ }
-    ensures { IsAdjAnswer net.now eligible.now link result }
+    ensures { IsReplaced net.now link result }
 {
     let edge = net.graph().edge(link);
     let label = node_label(net, edge.from, edge.to);
@@ -46,15 +47,14 @@ fn steered<'a>(net: &Net, trees: &Trees, eligible: &[bool], link: LinkNo) -> Adj
 fn redirected<'a>(
     alloc: Global,
     net: &Net,
-    eligible: &[bool],
     link: LinkNo,
     answer: Answer<'a>,
 ) -> Result<AdjAnswer<'a>, AllocError>
     requires link { link.0 < link_count net.now.graph }
-    requires replaced { CanReplace net.now eligible.now link }
+    requires index { is_some (labels_at net.now (head net.now.graph link.0)).index ≡ true }
     requires affected { IsAffected net.now (adj_case_of link) (head net.now.graph link.0) }
     requires answer { IsCaseAnswer net.now (adj_case_of link) (head net.now.graph link.0) answer }
-    ensures { IfOk result (IsAdjAnswer net.now eligible.now link) }
+    ensures { IfOk result (IsReplaced net.now link) }
 {
     let end = net.graph().edge(link).to;
     let labels = labels_of(alloc, net, adj_case(link), end, &answer)?;
@@ -69,22 +69,36 @@ fn redirected<'a>(
     }
 }
 
-/// What is done with the packet where its label may be replaced.
-fn replaced<'a>(
-    alloc: Global,
-    version: &'a Version,
-    eligible: &[bool],
-    link: LinkNo,
-) -> Result<AdjAnswer<'a>, AllocError>
+/// What is done with the packet where the link's end has a node index.
+fn led<'a>(alloc: Global, version: &'a Version, link: LinkNo) -> Result<AdjAnswer<'a>, AllocError>
     requires link { link.0 < link_count version.now.net.graph }
-    requires replaced { CanReplace version.now.net eligible.now link }
-    ensures { IfOk result (IsAdjAnswer version.now.net eligible.now link) }
+    requires index { is_some (labels_at version.now.net (head version.now.net.graph link.0)).index ≡ true }
+    ensures { IfOk result (IsReplaced version.now.net link) }
 {
     let net = version.net();
     let end = net.graph().edge(link).to;
     match version.repair(adj_case(link), end) {
-        Some(answer) => redirected(alloc, net, eligible, link, answer),
-        None => Ok(steered(net, version.trees(), eligible, link)),
+        Some(answer) => redirected(alloc, net, link, answer),
+        None => Ok(steered(net, version.trees(), link)),
+    }
+}
+
+/// What the router at the beginning of the link does with a packet under an eligible label of the link when the link
+/// fails. The packet arrives, whichever equal-cost links the nodes take.
+pub(crate) fn replaced<'a>(
+    alloc: Global,
+    version: &'a Version,
+    link: LinkNo,
+) -> Result<AdjAnswer<'a>, AllocError>
+    requires { link.0 < link_count version.now.net.graph }
+    ensures answer { IfOk result (IsReplaced version.now.net link) }
+    ensures delivers { IfOk result (AdjDelivers version.now.net link) }
+{
+    let net = version.net();
+    let end = net.graph().edge(link).to;
+    match net.labels(end).index() {
+        None => Ok(AdjAnswer::NoIndex),
+        Some(_) => led(alloc, version, link),
     }
 }
 
@@ -102,13 +116,9 @@ pub fn adj_repair<'a>(
     ensures answer { IfOk result (IsAdjAnswer version.now.net eligible.now link) }
     ensures delivers { IfOk result (AdjDelivers version.now.net link) }
 {
-    if !eligible[link.0 as usize] {
-        return Ok(AdjAnswer::Unprotected);
-    }
-    let net = version.net();
-    let end = net.graph().edge(link).to;
-    match net.labels(end).index() {
-        None => Ok(AdjAnswer::NoIndex),
-        Some(_) => replaced(alloc, version, eligible, link),
+    if eligible[link.0 as usize] {
+        replaced(alloc, version, link)
+    } else {
+        Ok(AdjAnswer::Unprotected)
     }
 }
