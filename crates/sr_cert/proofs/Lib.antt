@@ -1,0 +1,12 @@
+pub mod CertifyLemmas
+pub mod DraftLemmas
+pub mod ExactLemmas
+pub mod FixtureLemmas
+pub mod LabelLemmas
+pub mod OfferLemmas
+pub mod RowsLemmas
+pub mod SpaceLemmas
+pub mod SumLemmas
+pub mod ToldLemmas
+pub mod VerdictLemmas
+pub mod WalkedLemmas

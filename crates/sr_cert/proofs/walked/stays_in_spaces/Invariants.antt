@@ -1,0 +1,17 @@
+use Rattle.std.proofs.Common.{◌<◌, drop}
+use Rattle.std.specs.Prelude.{◌↔◌}
+use Rattle.sr_model.specs.Graph.{node_count}
+use Rattle.sr_cert.specs.Clauses.{StaysInSpaces, begin_of}
+use Rattle.sr_cert.specs.Walked.{AreExact}
+use Rattle.sr_cert.proofs.WalkedLemmas.{Stands}
+use Rattle.sr_cert.proofs.walked.stays_in_spaces.Given as goal
+
+abbrev pub invariant-loop-segment : goal.invariant-loop-segment
+invariant-loop-segment l =
+    record {
+      at : l.at.0 < node_count l.net.graph;
+      stands : Stands l.certificate.segments l.segment-index l.place l.certificate.rows;
+      exact : AreExact l.net.graph l.at.0 (drop l.segment-index l.certificate.segments) l.certificate.dest.0 (drop l.place l.certificate.rows);
+      whole : StaysInSpaces l.net l.x l.at.0 (drop l.segment-index l.certificate.segments) l.certificate.dest.0
+          ↔ StaysInSpaces l.net l.x (begin_of l.net l.certificate) l.certificate.segments l.certificate.dest.0;
+    }

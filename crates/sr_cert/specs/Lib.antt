@@ -1,0 +1,11 @@
+pub mod Rows
+pub mod Taken
+pub mod Clauses
+pub mod Verdict
+pub mod Certified
+pub mod Draft
+pub mod Parts
+pub mod Laws
+pub mod Settled
+pub mod Walked
+pub mod Failing
