@@ -5,6 +5,7 @@ mod audits;
 mod background;
 mod calls;
 mod cases;
+mod certificates;
 mod devices;
 mod domains;
 mod edits;
@@ -23,6 +24,7 @@ mod versions;
 use active::ACTIVE;
 use audits::AUDITS;
 use cases::{CASES, Case};
+use certificates::CERTIFICATES;
 use edits::EDITS;
 use field::FIELD;
 use loads::LOADS;
@@ -121,6 +123,14 @@ fn flooded_domains_are_answered(rt: HostRuntime) -> Result<(), AllocError> {
 #[test]
 fn adjacency_labels_are_answered(rt: HostRuntime) -> Result<(), AllocError> {
     for case in &ACTIVE {
+        assert!(rt; agrees(&rt, case)?, "{}", case.name);
+    }
+    Ok(())
+}
+
+#[test]
+fn certificates_are_answered(rt: HostRuntime) -> Result<(), AllocError> {
+    for case in &CERTIFICATES {
         assert!(rt; agrees(&rt, case)?, "{}", case.name);
     }
     Ok(())

@@ -1,4 +1,5 @@
 pub mod Appended
+pub mod Certified
 pub mod Items
 pub mod Labelled
 pub mod Members

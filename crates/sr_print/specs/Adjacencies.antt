@@ -1,10 +1,11 @@
 -- What becomes of packets under adjacency labels, as a line.
-use Rattle.std.specs.Prelude.{◌≡◌, ◌<◌, ℕ, List, ◌++◌, codes, false}
+use Rattle.std.specs.Prelude.{◌≡◌, ◌<◌, ℕ, List, ◌++◌, codes, false, Option, Some, None}
 use Rattle.sr_model.specs.declared.link.LinkNo.{LinkNo}
 use Rattle.sr_model.specs.Audit.{is_least}
 use Rattle.sr_model.specs.Graph.{Graph, link_count}
 use Rattle.sr_model.specs.Label.{Net}
 use Rattle.sr_adjprot.specs.declared.answer.AdjAnswer.{AdjAnswer}
+use Rattle.sr_adjprot.specs.declared.answer.BackupLabel.{BackupLabel}
 use Rattle.sr_adjprot.specs.declared.answer.AdjAnswer.TheVariants.{Unprotected, NoIndex, Steer, Repair, Uncovered}
 use Rattle.sr_print.specs.Links.{link_word}
 use Rattle.sr_print.specs.Printed.{ended, numbered}
@@ -21,6 +22,15 @@ active_text n (Uncovered answer) = uncovered_text answer
 -- the link, and what is done with a packet under its label
 abbrev pub adjrepair_line : Net → LinkNo → AdjAnswer → List ℕ
 adjrepair_line n link answer = ended (codes "adjrepair" ++ link_word n link.0 ++ active_text n answer)
+
+-- another label of the link that may be protected, and what is done with a packet under it; or that there is none
+abbrev pub backup_text : Net → Option BackupLabel → List ℕ
+backup_text n None = codes " none"
+backup_text n (Some backup) = numbered (codes " label ") backup.label ++ active_text n backup.answer
+
+-- the link, and its other label
+abbrev pub adjbackup_line : Net → LinkNo → Option BackupLabel → List ℕ
+adjbackup_line n link found = ended (codes "adjbackup" ++ link_word n link.0 ++ backup_text n found)
 
 -- the links and nodes of the answer are links and nodes of the graph, and what is uncovered isn't a list
 abbrev pub IsActiveWithin : Graph → AdjAnswer → Type 0

@@ -7,6 +7,7 @@ pub mod Spaces
 pub mod Repairs
 pub mod Answers
 pub mod Adjacencies
+pub mod Certificates
 pub mod Work
 pub mod Loads
 pub mod Told

@@ -1,7 +1,7 @@
 -- Why a line is refused, as text.
 use Rattle.std.specs.Prelude.{ℕ, List, [], ◌++◌, codes, decimal}
 use Rattle.sr_print.specs.declared.refusal.Refusal.{Refusal}
-use Rattle.sr_print.specs.declared.refusal.Refusal.TheVariants.{UnknownWord, BadForm, BadHex, Malformed, Stale, StagedFull, Rule, Overload, NoNode, NoLink, NoDestination, NotAffected, NoVersion, WatchRunning, LineTooLong, VersionsFull}
+use Rattle.sr_print.specs.declared.refusal.Refusal.TheVariants.{UnknownWord, BadForm, BadHex, Malformed, Stale, StagedFull, Rule, Overload, NoNode, NoLink, NoDestination, NotAffected, NoVersion, WatchRunning, LineTooLong, VersionsFull, NoProof, ProofFull}
 use Rattle.sr_model.specs.declared.rule.DomainRule.{DomainRule}
 use Rattle.sr_model.specs.declared.rule.DomainRule.TheVariants.{NoSrgb, SrgbBad, DuplicateIndex, IndexOutside, AdjLabelClash, ZeroMetric, DuplicateLink, TooManyNodes, TooManyLinks}
 use Rattle.sr_print.specs.Printed.{ended, node_word, word}
@@ -36,6 +36,8 @@ refusal_name NoVersion = codes "25 NoVersion"
 refusal_name WatchRunning = codes "26 WatchRunning"
 refusal_name LineTooLong = codes "27 LineTooLong"
 refusal_name VersionsFull = codes "28 VersionsFull"
+refusal_name NoProof = codes "30 NoProof"
+refusal_name ProofFull = codes "31 ProofFull"
 
 -- what a broken rule names: numbers in decimal digits, and nodes by their system ids
 abbrev pub rule_details : DomainRule → List ℕ
@@ -67,6 +69,8 @@ details NoVersion = []
 details WatchRunning = []
 details LineTooLong = []
 details VersionsFull = []
+details NoProof = []
+details ProofFull = []
 
 -- the line of this number is refused
 abbrev pub refused_line : ℕ → Refusal → List ℕ

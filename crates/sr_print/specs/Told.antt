@@ -12,14 +12,18 @@ use Rattle.sr_model.specs.Graph.{Graph, node_count, link_count}
 use Rattle.sr_model.specs.Label.{Net}
 use Rattle.sr_repair.specs.Version.{NumberedNet}
 use Rattle.sr_adjprot.specs.declared.answer.AdjAnswer.{AdjAnswer}
+use Rattle.sr_adjprot.specs.declared.answer.BackupLabel.{BackupLabel}
+use Rattle.sr_cert.specs.declared.certificate.Certificate.{Certificate}
+use Rattle.sr_cert.specs.declared.clause.Verdict.{Verdict}
 use Rattle.sr_loads.specs.Loads.{LinkLoads}
 use Rattle.sr_print.specs.declared.refusal.Refusal.{Refusal}
 use Rattle.sr_print.specs.Printed.{staged_line, dropped_line, version_line, dist_line, show_line}
 use Rattle.sr_print.specs.Forwarding.{next_line, label_line, walk_line}
 use Rattle.sr_print.specs.Spaces.{spaces_lines}
 use Rattle.sr_print.specs.Repairs.{repair_line, uncovered_walk_line, item_lines, summary_line}
-use Rattle.sr_print.specs.Adjacencies.{adjrepair_line}
+use Rattle.sr_print.specs.Adjacencies.{adjrepair_line, adjbackup_line}
 use Rattle.sr_print.specs.Loads.{loads_text}
+use Rattle.sr_print.specs.Certificates.{certificate_lines, prove_uncovered_line, proof_line, verdict_line}
 use Rattle.sr_print.specs.Refused.{refused_line}
 use Rattle.sr_print.specs.Work.{hold_line, watch_line, report_lines, joined_line}
 
@@ -35,9 +39,11 @@ pub record Shown : Type 0 where
 -- what is told to a line: nothing; how many edits are staged, or were dropped; the version of a commit; a distance;
 -- next hops; what a label does; the links of a packet's walk from a node, where there is one; P, extended P and Q;
 -- the answer of a case for a destination, with its labels; what is done with packets under a link's adjacency label;
--- why there is no repair whose packet could be walked; how often packets cross each link; how many answers of each sort
--- the audit of a version has; that audit; the version of a hold; the watchers of a watch, the rounds of each, and the
--- version that it began with; the reports of background work; what is shown; or why the line is refused
+-- why there is no repair whose packet could be walked; how often packets cross each link; the certificate of a repair;
+-- why there is no repair of which there could be one; how many lines of a certificate are kept; what is decided of it;
+-- how many answers of each sort the audit of a version has; that audit; the version of a hold; the watchers of a watch,
+-- the rounds of each, and the version that it began with; the reports of background work; what is shown; the other
+-- label of a link that may be protected, with what is done under it, where there is one; or why the line is refused
 pub data Told : Type 0 where
   Nothing : Told
   Staged : ℕ → Told
@@ -52,12 +58,17 @@ pub data Told : Type 0 where
   AdjRepair : Net → LinkNo → AdjAnswer → Told
   Uncovered : Answer → Told
   Loads : Net → LinkLoads → Told
+  Proved : Net → Certificate → Told
+  Unproved : Answer → Told
+  ProofKept : ℕ → Told
+  Decided : Verdict → Told
   Summary : ℕ → Counts → Told
   Audit : NumberedNet → List Item → Told
   Hold : ℕ → Told
   Watch : ℕ → ℕ → ℕ → Told
   Joined : List RoundReport → Told
   Show : Shown → Told
+  AdjBackup : Net → LinkNo → Option BackupLabel → Told
   Refused : Refusal → Told
 
 -- how it is spelled; the number of the line stands in a refusal alone
@@ -76,12 +87,17 @@ spelled number (Repair net case d answer labels) = repair_line net case d answer
 spelled number (AdjRepair net link answer) = adjrepair_line net link answer
 spelled number (Uncovered answer) = uncovered_walk_line answer
 spelled number (Loads net loads) = loads_text net loads
+spelled number (Proved net certificate) = certificate_lines net certificate
+spelled number (Unproved answer) = prove_uncovered_line answer
+spelled number (ProofKept kept) = proof_line kept
+spelled number (Decided verdict) = verdict_line verdict
 spelled number (Summary version counts) = summary_line version counts
 spelled number (Audit version items) = item_lines version.net items ++ summary_line version.number (counts_of items)
 spelled number (Hold version) = hold_line version
 spelled number (Watch watchers rounds version) = watch_line watchers rounds version
 spelled number (Joined reports) = report_lines reports ++ joined_line (length reports)
 spelled number (Show shown) = show_line shown.version shown.nodes shown.links shown.depth shown.staged
+spelled number (AdjBackup net link found) = adjbackup_line net link found
 spelled number (Refused reason) = refused_line number reason
 
 -- whether it is a refusal
@@ -99,10 +115,15 @@ is_refusal (Repair net case d answer labels) = false
 is_refusal (AdjRepair net link answer) = false
 is_refusal (Uncovered answer) = false
 is_refusal (Loads net loads) = false
+is_refusal (Proved net certificate) = false
+is_refusal (Unproved answer) = false
+is_refusal (ProofKept kept) = false
+is_refusal (Decided verdict) = false
 is_refusal (Summary version counts) = false
 is_refusal (Audit version items) = false
 is_refusal (Hold version) = false
 is_refusal (Watch watchers rounds version) = false
 is_refusal (Joined reports) = false
 is_refusal (Show shown) = false
+is_refusal (AdjBackup net link found) = false
 is_refusal (Refused reason) = true

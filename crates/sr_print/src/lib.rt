@@ -5,6 +5,7 @@
 mod adjacency;
 mod answers;
 mod audit;
+mod certificate;
 mod forwarding;
 mod line;
 mod link;
@@ -21,9 +22,10 @@ mod walk;
 mod way;
 mod work;
 
-pub use adjacency::put_adjrepair;
+pub use adjacency::{put_adjbackup, put_adjrepair};
 pub use answers::put_answers;
 pub use audit::put_summary;
+pub use certificate::{put_certificate, put_proof, put_unproved, put_verdict};
 pub use forwarding::{put_label, put_next};
 pub use line::{put_dist, put_dropped, put_show, put_staged, put_version};
 pub use load::put_loads;

@@ -57,4 +57,8 @@ pub enum Refusal {
     LineTooLong,
     /// As many commits were accepted as may be.
     VersionsFull,
+    /// No certificate is being written.
+    NoProof,
+    /// As many lines of a certificate are kept as may be.
+    ProofFull,
 }

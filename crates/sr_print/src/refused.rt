@@ -61,6 +61,8 @@ fn name_of(refusal: &Refusal) -> &'static [u8]
         Refusal::WatchRunning => b"26 WatchRunning",
         Refusal::LineTooLong => b"27 LineTooLong",
         Refusal::VersionsFull => b"28 VersionsFull",
+        Refusal::NoProof => b"30 NoProof",
+        Refusal::ProofFull => b"31 ProofFull",
     }
 }
 
@@ -114,7 +116,9 @@ fn put_details(refusal: &Refusal, out: &mut Vec<u8>) -> Result<(), AllocError>
         | Refusal::NoVersion
         | Refusal::WatchRunning
         | Refusal::LineTooLong
-        | Refusal::VersionsFull => Ok(()),
+        | Refusal::VersionsFull
+        | Refusal::NoProof
+        | Refusal::ProofFull => Ok(()),
     }
 }
 

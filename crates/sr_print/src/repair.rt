@@ -7,7 +7,7 @@ ghost use Rattle.sr_model.specs.Graph.{node_count, link_count};
 ghost use Rattle.sr_print.specs.Names.{node_text};
 ghost use Rattle.sr_print.specs.Printed.{BeginsWith};
 ghost use Rattle.sr_print.specs.Repairs.{kind_name, case_head, case_text, segment_word, segments_text};
-ghost use Rattle.sr_print.specs.Repairs.{label_word, labels_text};
+ghost use Rattle.sr_print.specs.Repairs.{label_word, labels_behind, labels_text};
 ghost use Rattle.sr_print.specs.Repairs.{list_text, uncovered_text, answer_text, repair_line, uncovered_walk_line};
 ghost use Rattle.sr_print.specs.Repairs.{IsSegment, AreSegments, IsAnswerWithin};
 
@@ -19,7 +19,7 @@ use sr_model::{Answer, Case, Kind, NodeNo, RepairList, Segment};
 use std::alloc::AllocError;
 
 /// The name of a kind of failure.
-fn name_of(kind: Kind) -> &'static [u8]
+pub(crate) fn name_of(kind: Kind) -> &'static [u8]
     ensures { result.now ≡ kind_name kind }
 {
     match kind {
@@ -129,6 +129,18 @@ fn put_each_label(labels: &[u32], out: &mut Vec<u8>) -> Result<(), AllocError>
     Ok(())
 }
 
+/// Appends labels from the top down, each as one more word, or ` none` where there are none. The top is the last of the
+/// labels. After an error a part of them may stand there; what stood before stays.
+pub(crate) fn put_labels_behind(labels: &[u32], out: &mut Vec<u8>) -> Result<(), AllocError>
+    ensures line { OnOk result (out.new.items ≡ out.old.items ++ labels_behind labels.now) }
+    ensures err { OnErr result (BeginsWith out.old.items out.new.items) }
+{
+    if labels.is_empty() {
+        return out.extend_from_slice(b" none");
+    }
+    put_each_label(labels, out)
+}
+
 /// Appends ` labels LABEL LABEL ..` from the top down, or ` labels none` where there are none.
 /// The top is the last of the labels.
 /// After an error a part of it may stand there; what stood before stays.
@@ -136,11 +148,8 @@ fn put_labels(labels: &[u32], out: &mut Vec<u8>) -> Result<(), AllocError>
     ensures line { OnOk result (out.new.items ≡ out.old.items ++ labels_text labels.now) }
     ensures err { OnErr result (BeginsWith out.old.items out.new.items) }
 {
-    if labels.is_empty() {
-        return out.extend_from_slice(b" labels none");
-    }
     out.extend_from_slice(b" labels")?;
-    put_each_label(labels, out)
+    put_labels_behind(labels, out)
 }
 
 /// Appends ` via LINK segments SEGMENTS labels LABELS cost C`.

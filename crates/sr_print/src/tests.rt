@@ -1,12 +1,27 @@
 //! What is printed.
+ghost use Rattle.std.specs.Prelude.{◌≡◌, ◌<◌, [], length, IfOk, IfSome};
+ghost use Rattle.sr_model.specs.declared.name.Ident.TheVariants.{None as NoIdent};
+ghost use Rattle.sr_model.specs.Graph.{node_count};
+ghost use Rattle.sr_model.specs.Rule.{AreAnnounced};
+ghost use Rattle.sr_graph.specs.Draft.{IsDraft};
+ghost use Rattle.sr_cert.specs.Verdict.{IsWithinNet};
 
 use crate::refusal::Refusal;
 use crate::{
-    put_dist, put_dropped, put_hold, put_joined, put_refused, put_report, put_show, put_staged,
-    put_summary, put_version, put_walk_uncovered, put_watch,
+    put_certificate, put_dist, put_dropped, put_hold, put_joined, put_proof, put_refused,
+    put_report, put_show, put_staged, put_summary, put_unproved, put_verdict, put_version,
+    put_walk_uncovered, put_watch,
 };
-use sr_model::{Answer, Counts, DomainRule, RoundReport, SystemId, WatchRound};
-use std::alloc::AllocError;
+use sr_cert::{Certificate, Clause, Verdict};
+use sr_graph::{Draft, DraftLink, Graph};
+use sr_labels::{Net, NodeLabels, Srgb, first_clash};
+use sr_model::{
+    Answer, Case, Counts, DomainRule, FAR, Ident, Kind, LinkKey, LinkNo, NodeNo, Range,
+    RoundReport, Segment, SystemId, WatchRound,
+};
+use sr_seq::Seq;
+use std::alloc::{AllocError, Global};
+use std::test::Fail;
 
 #[test]
 fn lines_are_printed(rt: HostRuntime) -> Result<(), AllocError> {
@@ -45,8 +60,10 @@ fn refusals_are_printed(rt: HostRuntime) -> Result<(), AllocError> {
     put_refused(2, &malformed, &mut out)?;
     put_refused(3, &Refusal::Overload { node: from }, &mut out)?;
     put_refused(5, &Refusal::NoLink { from, to, n: 1 }, &mut out)?;
+    put_refused(6, &Refusal::NoProof, &mut out)?;
+    put_refused(7, &Refusal::ProofFull, &mut out)?;
     let text =
-        "refused 1 25 NoVersion\nrefused 2 4 Malformed 45 8\nrefused 3 20 Overload 0000.0000.0003\nrefused 5 22 NoLink 0000.0000.0003 0000.0000.0abc 1\n";
+        "refused 1 25 NoVersion\nrefused 2 4 Malformed 45 8\nrefused 3 20 Overload 0000.0000.0003\nrefused 5 22 NoLink 0000.0000.0003 0000.0000.0abc 1\nrefused 6 30 NoProof\nrefused 7 31 ProofFull\n";
     assert_eq!(rt; out.as_slice(), text.as_bytes());
     Ok(())
 }
@@ -156,5 +173,156 @@ fn reports_are_printed(rt: HostRuntime) -> Result<(), AllocError> {
         put_report(&report, &mut out)?;
         assert_eq!(rt; out.as_slice(), line.as_bytes());
     }
+    Ok(())
+}
+
+#[test]
+fn verdicts_are_printed(rt: HostRuntime) -> Result<(), AllocError> {
+    let mut out = Vec::new(rt.alloc());
+    put_proof(1, &mut out)?;
+    put_proof(4_096, &mut out)?;
+    put_verdict(Verdict::Accepted { cost: 3 }, &mut out)?;
+    put_verdict(Verdict::Rejected(Clause::FirstRow), &mut out)?;
+    put_unproved(&Answer::NoPath, &mut out)?;
+    put_unproved(&Answer::TooDeep { needed: 4 }, &mut out)?;
+    let text =
+        "proof 1\nproof 4096\naccepted cost 3\nrejected 3\nprove uncovered nopath\nprove uncovered toodeep 4\n";
+    assert_eq!(rt; out.as_slice(), text.as_bytes());
+    Ok(())
+}
+
+/// The system id of a small number.
+fn id(value: u64) -> SystemId
+    requires { value < 256 }
+    ensures { result ≡ value }
+{
+    SystemId::new(value).unwrap()
+}
+
+/// A link of metric 1, with no identity and no groups.
+fn link(alloc: Global, from: u64, to: u64) -> DraftLink
+    requires from { from < 256 }
+    requires to { to < 256 }
+    ensures { result ≡ record { key = record { from = from; to = to; ident = NoIdent }; metric = 1; groups = [] } }
+{
+    DraftLink {
+        key: LinkKey {
+            from: id(from),
+            to: id(to),
+            ident: Ident::None,
+        },
+        metric: 1,
+        groups: Seq::new(Vec::new(alloc)),
+    }
+}
+
+/// Nodes 1 to 4 in a ring.
+fn ring(alloc: Global) -> Result<Draft, AllocError>
+    ensures { IfOk result IsDraft }
+{
+    let nodes = vec![in alloc; id(1), id(2), id(3), id(4)]?;
+    let links = vec![in alloc;
+        link(alloc, 1, 2),
+        link(alloc, 1, 4),
+        link(alloc, 2, 1),
+        link(alloc, 2, 3),
+        link(alloc, 3, 2),
+        link(alloc, 3, 4),
+        link(alloc, 4, 1),
+        link(alloc, 4, 3),
+    ]?;
+    Ok(Draft {
+        nodes: Seq::new(nodes),
+        links: Seq::new(links),
+    })
+}
+
+/// What a node announces that has this index, and the labels 16000 to 16099.
+fn node(alloc: Global, index: u32) -> Result<NodeLabels, Fail> {
+    let ranges = vec![in alloc;
+        Range {
+            first: 16000,
+            size: 100
+        },
+    ]?;
+    Ok(NodeLabels::new(Srgb::new(ranges)?, Some(index), false, false, None))
+}
+
+/// What the nodes announce, each of which has its number as its index.
+fn nodes_of(alloc: Global, graph: &Graph) -> Result<Vec<NodeLabels>, Fail>
+    ensures { IfOk result (λ list. length list.items ≡ node_count graph.now) }
+{
+    let mut list = Vec::new(alloc);
+    for v in 0..graph.node_count() {
+        list.push(node(alloc, v)?)?;
+    }
+    Ok(list)
+}
+
+/// The names of the links.
+fn keys_of(alloc: Global, graph: &Graph) -> Result<Vec<LinkKey>, AllocError>
+    ensures { IfOk result (λ list. AreAnnounced graph.now list.items) }
+{
+    let mut list = Vec::new(alloc);
+    for l in 0..graph.link_count() as u16 {
+        list.push(graph.link(LinkNo(l)).key)?;
+    }
+    Ok(list)
+}
+
+/// The net of the graph, with no adjacency label. None where labels clash.
+fn net_of(alloc: Global, graph: Graph) -> Result<Option<Net>, Fail> {
+    let nodes = nodes_of(alloc, &graph)?;
+    match first_clash(alloc, &nodes, &[])? {
+        Some(_) => Ok(None),
+        None => {
+            let adj = vec![in alloc; None; graph.link_count() as usize]?;
+            let announced = keys_of(alloc, &graph)?;
+            Ok(Some(Net::new(graph, nodes, adj, announced, 3)))
+        }
+    }
+}
+
+/// A certificate of the failure of the link from 1 to 2 for 2, with a segment of each kind and a row that isn't full.
+fn certificate(alloc: Global, net: &Net) -> Result<Option<Certificate>, AllocError>
+    ensures { IfOk result (λ found. IfSome found (IsWithinNet net.now)) }
+{
+    if net.graph().node_count() < 4 || net.graph().link_count() < 8 {
+        return Ok(None);
+    }
+    let segments = vec![in alloc; Segment::Node(NodeNo(2)), Segment::Adj(LinkNo(4))]?;
+    let rows = vec![in alloc;
+        Seq::new(vec![in alloc; 0, 3, 2, 1]?),
+        Seq::new(vec![in alloc; 1, FAR, 1, 0]?),
+    ]?;
+    let labels = vec![in alloc; 16002, 16003]?;
+    Ok(Some(Certificate {
+        case: Case {
+            kind: Kind::Link,
+            link: LinkNo(0),
+        },
+        dest: NodeNo(1),
+        first: LinkNo(1),
+        segments: Seq::new(segments),
+        rows: Seq::new(rows),
+        labels: Seq::new(labels),
+    }))
+}
+
+#[test]
+fn certificates_are_printed(rt: HostRuntime) -> Result<(), Fail> {
+    let alloc = rt.alloc();
+    let net = net_of(alloc, Graph::build(alloc, ring(alloc)?)?)?.ok_or("labels clash")?;
+    let certificate = certificate(alloc, &net)?.ok_or("no ring")?;
+    let mut out = Vec::new(alloc);
+    put_certificate(&net, &certificate, &mut out)?;
+    let text = "proof open link 0000.0000.0001 0000.0000.0002 1 0000.0000.0002\n\
+        proof via 0000.0000.0001 0000.0000.0004 1\n\
+        proof node 0000.0000.0003\n\
+        proof adj 0000.0000.0003 0000.0000.0002 1\n\
+        proof row 0 3 2 1\n\
+        proof row 1 - 1 0\n\
+        proof done 16003 16002\n";
+    assert_eq!(rt; out.as_slice(), text.as_bytes());
     Ok(())
 }

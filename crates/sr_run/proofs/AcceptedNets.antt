@@ -12,6 +12,7 @@ pub nets-kept : (P : Net → Type 0) → ((net : Net) → IsNet net → P net) �
 nets-kept P each = record {
   staged = λ domain edit h. h;
   dropped = λ domain h. h;
+  drafted = λ domain draft h. h;
   accepted = λ domain net is h. All-cons P net domain.nets (each net (net-from_accepted net is.accepted)) h;
   held = λ domain version is h. h;
   watched = λ domain version watchers rounds is h. h;

@@ -26,16 +26,16 @@ use Rattle.sr_spaces.specs.Sets.{IsP, IsExtendedP, IsQ}
 use Rattle.sr_lsdb.specs.declared.facts.Facts.{Facts}
 use Rattle.sr_adjprot.specs.declared.answer.AdjAnswer.{AdjAnswer}
 use Rattle.sr_adjprot.specs.Active.{IsAdjAnswer}
-use Rattle.sr_adjprot.proofs.AnswerLemmas.{adj-answer-one}
+use Rattle.sr_adjprot.proofs.AnswerLemmas.{adj-answer-one, backup-one}
 use Rattle.sr_adjprot.proofs.MarkLemmas.{eligible-one}
 use Rattle.sr_script.specs.declared.name.LinkName.{LinkName}
 use Rattle.sr_script.specs.declared.name.RepairName.{RepairName}
 use Rattle.sr_print.specs.Printed.{ended}
 use Rattle.sr_print.specs.Spaces.{node_words, set_line, spaces_lines}
 use Rattle.sr_print.specs.Told.{Told, spelled, is_refusal}
-use Rattle.sr_print.specs.Told.Told.{Spaces, Repair, AdjRepair, Walk, Uncovered, Summary, Audit}
+use Rattle.sr_print.specs.Told.Told.{Spaces, Repair, AdjRepair, AdjBackup, Walk, Uncovered, Summary, Audit}
 use Rattle.sr_repair.specs.Version.{NumberedNet}
-use Rattle.sr_run.specs.Failures.{AreCaseSpaces, IsActiveOf, IsRepaired, IsRepairWalked, TellsSpaces, TellsRepair, TellsAdjRepair, TellsAdjRepairOf, TellsRepairWalk, TellsSummary, TellsAudit}
+use Rattle.sr_run.specs.Failures.{AreCaseSpaces, IsActiveOf, IsRepaired, IsRepairWalked, TellsSpaces, TellsRepair, TellsAdjRepair, TellsAdjRepairOf, TellsAdjBackup, TellsAdjBackupOf, TellsRepairWalk, TellsSummary, TellsAudit}
 use Rattle.sr_run.specs.Questions.{IsRefused}
 use Rattle.sr_run.proofs.DeterminedTold.{AreAlike, alike, alike-refused}
 use Rattle.sr_run.proofs.DeterminedNames.{of-named_link, of-failure, of-affected}
@@ -85,7 +85,7 @@ labels-one n d NoList labels more p q = p ∙ sym q
 labels-one n d (TooDeep k) labels more p q = p ∙ sym q
 
 -- a list that is the answer isn't another sort of answer
-least-not_other : (answer : Answer) (list : RepairList) → answer ≡ Least list → is_least answer ≡ false → ⊥
+pub least-not_other : (answer : Answer) (list : RepairList) → answer ≡ Least list → is_least answer ≡ false → ⊥
 least-not_other answer list e f = false≢true (sym f ∙ ap is_least e)
 
 list-one : (a b : RepairList) → Least a ≡ Least b → a ≡ b
@@ -167,6 +167,14 @@ module _ (version : NumberedNet) (net : IsNet version.net) (a b : Told) where
       (λ link. TellsAdjRepairOf facts version.net link a) (λ link. TellsAdjRepairOf facts version.net link b)
       (λ link x y. alike a b (AdjRepair version.net link x.0) (AdjRepair version.net link y.0) x.2 y.2
       (ap (AdjRepair version.net link) (active-one facts version.net link x.0 y.0 x.1 y.1)))
+
+  -- what is done with packets under the other label
+  pub adjbackup-alike : (name : LinkName) (facts : Facts) → TellsAdjBackup name facts version a → TellsAdjBackup name facts version b → AreAlike a b
+  adjbackup-alike name facts =
+      of-named_link (AreAlike a b) (IsRefused a) (IsRefused b) (alike-refused a b) version.net net.named name
+      (λ link. TellsAdjBackupOf facts version.net link a) (λ link. TellsAdjBackupOf facts version.net link b)
+      (λ link x y. alike a b (AdjBackup version.net link x.0) (AdjBackup version.net link y.0) x.2 y.2
+      (ap (AdjBackup version.net link) (backup-one facts version.net link x.0 y.0 x.1 y.1)))
 
   walk-told : (choice : ℕ) (case : Case) (d : ℕ) → IsUncovered version.net a case d ⊎ WalkIs version.net choice a case d → IsUncovered version.net b case d ⊎ WalkIs version.net choice b case d → AreAlike a b
   walk-told choice case d (inl x) (inl y) = alike a b (Uncovered x.0) (Uncovered y.0) x.3 y.3 (ap Uncovered (case-answer-one version.net case d x.0 y.0 x.1 y.1))

@@ -9,7 +9,7 @@ use Rattle.sr_lsdb.specs.Edit.{Edit}
 use Rattle.sr_lsdb.specs.Edit.Edit.{SetCost, TakeDown, BringUp, SetDepth}
 use Rattle.sr_script.specs.declared.name.LinkName.{LinkName}
 use Rattle.sr_script.specs.declared.command.Command.{Command}
-use Rattle.sr_script.specs.declared.command.Command.TheVariants.{Lsp, Cost, Down, Up, Depth, Commit, DropStaged, Dist, Next, Label, Spaces, Repair, AdjRepair, Walk, WalkRepair, Load, Audit, AuditFull, Hold, Watch, Join, Show}
+use Rattle.sr_script.specs.declared.command.Command.TheVariants.{Lsp, Cost, Down, Up, Depth, Commit, DropStaged, Dist, Next, Label, Spaces, Repair, AdjRepair, AdjBackup, Prove, ProofOpen, ProofVia, ProofNode, ProofAdj, ProofRow, ProofDone, Walk, WalkRepair, Load, Audit, AuditFull, Hold, Watch, Join, Show}
 use Rattle.sr_script.specs.declared.line.Line.{Line}
 use Rattle.sr_script.specs.declared.line.Line.TheVariants.{Nothing as NoWord, Word}
 use Rattle.sr_script.specs.declared.line.LineFault.{LineFault}
@@ -20,12 +20,15 @@ use Rattle.sr_print.specs.declared.refusal.Refusal.TheVariants as refusal
 use Rattle.sr_print.specs.Told.{Told, spelled, is_refusal}
 use Rattle.sr_print.specs.Told.Told.{Nothing, Hold as HoldTold, Watch as WatchTold, Joined}
 use Rattle.sr_repair.specs.Version.{NumberedNet, version_of}
-use Rattle.sr_run.specs.Domain.{Domain, Background, last_version, with_hold, with_watch}
+use Rattle.sr_cert.specs.declared.draft.CertLine.TheVariants.{Via, AdjSegment}
+use Rattle.sr_cert.specs.Draft.{CertDraft}
+use Rattle.sr_run.specs.Domain.{Domain, Background, last_version, with_draft, with_hold, with_watch}
 use Rattle.sr_run.specs.Domain.Background.{AtRest, OfHold, OfWatch}
 use Rattle.sr_run.specs.Edits.{Refuses, EditsNamed}
 use Rattle.sr_run.specs.Questions.{TellsDistance, TellsNextHops, TellsLookup, TellsWalk, TellsLoads}
-use Rattle.sr_run.specs.Failures.{TellsSpaces, TellsRepair, TellsAdjRepair, TellsRepairWalk, TellsSummary, TellsAudit}
-use Rattle.sr_run.specs.Session.{TellsOf, Asks, Tells, TellsLine, IsRefusedAs}
+use Rattle.sr_run.specs.Failures.{TellsSpaces, TellsRepair, TellsAdjRepair, TellsAdjBackup, TellsRepairWalk, TellsSummary, TellsAudit}
+use Rattle.sr_run.specs.Certificates.{Drafting, DraftsOf, TellsProof, OpensDraft, KeepsLink, KeepsNode, KeepsRow, DecidesDraft}
+use Rattle.sr_run.specs.Session.{TellsOf, Asks, WritesDraft, Tells, TellsLine, IsRefusedAs}
 use Rattle.sr_run.specs.Background.{BeginsWork, JoinsWork, watch_from}
 use Rattle.sr_run.specs.Laws.{AreNets, JoinsMoved, LinesHaveOneAnswer}
 use Rattle.sr_script.proofs.LineLemmas.{one-thing, faults-agree, said-agrees}
@@ -33,7 +36,8 @@ use Rattle.sr_run.proofs.DeterminedTold.{AreAlike, AreOne, alike, alike-refused,
 use Rattle.sr_run.proofs.DeterminedEdits.{staged-one, announces-one, link-edited-one, dropped-one, commit-one}
 use Rattle.sr_run.proofs.DeterminedQuestions.{distance-alike, hops-alike, lookup-alike, walk-alike, loads-alike}
 use Rattle.sr_run.proofs.DeterminedReports.{due-one, joins-unmoved}
-use Rattle.sr_run.proofs.DeterminedFailures.{spaces-alike, repair-alike, adjrepair-alike, repair-walk-alike, summary-alike, audit-alike}
+use Rattle.sr_run.proofs.DeterminedCertificates.{LeaveOne, proof-alike, still-one, opened-one, link-kept-one, node-kept-one, row-kept-one, decided-one}
+use Rattle.sr_run.proofs.DeterminedFailures.{spaces-alike, repair-alike, adjrepair-alike, adjbackup-alike, repair-walk-alike, summary-alike, audit-alike}
 
 -- no line is refused because memory ran out
 memory-not_told : (fault : LineFault) (reason : Refusal) → IsMemory fault → IsRefusedAs fault reason → ⊥
@@ -70,6 +74,18 @@ module _ (old : Domain) (nets : AreNets old) (a b : Told) (new next : Domain) wh
 
   asked-one : (tells : NumberedNet → Told → Type 0) → ((version : NumberedNet) → IsNet version.net → tells version a → tells version b → AreAlike a b) → Asks tells old a new → Asks tells old b next → AreOne a b new next
   asked-one tells one p q = record { told = told-alike old.nets nets tells one p.0 q.0; state = p.1 ∙ sym q.1 }
+
+  -- a line of a certificate
+  draft-left-one : (last : List Net) → All IsNet last → (drafts : NumberedNet → Drafting) → ((version : NumberedNet) → IsNet version.net → (x y : Option CertDraft) → drafts version old.draft a x → drafts version old.draft b y → LeaveOne a b x y)
+      → (x y : Option CertDraft) → DraftsOf drafts (last_version last) old.draft a x → DraftsOf drafts (last_version last) old.draft b y → LeaveOne a b x y
+  draft-left-one [] are drafts one x y p q = still-one a b x y old.draft refusal.NoVersion p q
+  draft-left-one (net ∷ earlier) are drafts one x y p q = one (version_of (length earlier + 1) net) (All-head IsNet net earlier are) x y p q
+
+  drafted-one : (drafts : NumberedNet → Drafting) → ((version : NumberedNet) → IsNet version.net → (x y : Option CertDraft) → drafts version old.draft a x → drafts version old.draft b y → LeaveOne a b x y)
+      → WritesDraft drafts old a new → WritesDraft drafts old b next → AreOne a b new next
+  drafted-one drafts one p q =
+      let left : LeaveOne a b p.0 q.0 = draft-left-one old.nets nets drafts one p.0 q.0 p.1 q.1 in
+      record { told = left.told; state = p.2 ∙ ap (with_draft old) left.draft ∙ sym q.2 }
 
   -- an edit of a link
   edited-one : (edit : LinkKey → Edit) (link : LinkName) (last : List Net) → All IsNet last → EditsNamed edit link (last_version last) old a new → EditsNamed edit link (last_version last) old b next → AreOne a b new next
@@ -118,6 +134,13 @@ module _ (old : Domain) (nets : AreNets old) (a b : Told) (new next : Domain) wh
   said-one line (Spaces repair) says p q = has-one line (asked-one (TellsSpaces repair) (λ version net. spaces-alike version net a b repair) p q)
   said-one line (Repair repair) says p q = has-one line (asked-one (TellsRepair repair) (λ version net. repair-alike version net a b repair) p q)
   said-one line (AdjRepair link) says p q = has-one line (asked-one (TellsAdjRepair link old.editing.accepted) (λ version net. adjrepair-alike version net a b link old.editing.accepted) p q)
+  said-one line (Prove repair) says p q = has-one line (asked-one (TellsProof repair) (λ version net. proof-alike version net a b repair) p q)
+  said-one line (ProofOpen repair) says p q = has-one line (drafted-one (OpensDraft repair) (λ version net x y. opened-one a b x y version net old.draft repair) p q)
+  said-one line (ProofVia link) says p q = has-one line (drafted-one (KeepsLink Via link) (λ version net x y. link-kept-one a b x y version net old.draft Via link) p q)
+  said-one line (ProofNode node) says p q = has-one line (drafted-one (KeepsNode node) (λ version net x y. node-kept-one a b x y version net old.draft node) p q)
+  said-one line (ProofAdj link) says p q = has-one line (drafted-one (KeepsLink AdjSegment link) (λ version net x y. link-kept-one a b x y version net old.draft AdjSegment link) p q)
+  said-one line (ProofRow cells) says p q = has-one line (drafted-one (KeepsRow cells) (λ version net x y. row-kept-one a b x y version net old.draft cells) p q)
+  said-one line (ProofDone labels) says p q = has-one line (drafted-one (DecidesDraft labels) (λ version net x y. decided-one a b x y version net old.draft labels) p q)
   said-one line (Walk ends choice) says p q = has-one line (asked-one (TellsWalk ends choice) (λ version net. walk-alike version net a b ends choice) p q)
   said-one line (WalkRepair repair choice) says p q = has-one line (asked-one (TellsRepairWalk repair choice) (λ version net. repair-walk-alike version net a b repair choice) p q)
   said-one line (Load workers each) says p q = has-one line (asked-one (TellsLoads each) (λ version net. loads-alike version net a b each) p q)
@@ -127,6 +150,7 @@ module _ (old : Domain) (nets : AreNets old) (a b : Told) (new next : Domain) wh
   said-one line (Watch watchers rounds) says p q = has-one line (begun-one (λ version. WatchTold watchers rounds version.number) (λ version. with_watch old (watch_from watchers rounds version)) (last_version old.nets) old.background p q)
   said-one line Join says p q = joined-one line says p q
   said-one line Show says p q = has-one line (record { told = alike a b _ _ p.0 q.0 refl; state = p.1 ∙ sym q.1 })
+  said-one line (AdjBackup link) says p q = has-one line (asked-one (TellsAdjBackup link old.editing.accepted) (λ version net. adjbackup-alike version net a b link old.editing.accepted) p q)
 
   -- a line has one fault that is told
   faults-one : (line : List ℕ) (fault also : LineFault) (reason other : Refusal) → IsLineFault line fault → IsLineFault line also → IsRefusedAs fault reason → IsRefusedAs also other → Refuses old a new reason → Refuses old b next other → AreOne a b new next

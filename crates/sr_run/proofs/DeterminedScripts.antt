@@ -32,6 +32,7 @@ counted-kept : IsKept IsCounted
 counted-kept = record {
   staged = λ domain edit h. h;
   dropped = λ domain h. h;
+  drafted = λ domain draft h. h;
   accepted = λ domain net is h. counted-commit domain.background domain.totals net domain.nets;
   held = λ domain version is h none watch runs. absurd (holds-not_watch version watch runs);
   watched = λ domain version watchers rounds is h none watch runs.
@@ -53,6 +54,7 @@ commits-kept : (least : ℕ) → IsKept (HasCommits least)
 commits-kept least = record {
   staged = λ domain edit h. h;
   dropped = λ domain h. h;
+  drafted = λ domain draft h. h;
   accepted = λ domain net is h. more-commits least domain.background domain.totals h;
   held = λ domain version is h. h;
   watched = λ domain version watchers rounds is h. h;

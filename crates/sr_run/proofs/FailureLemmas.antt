@@ -1,5 +1,12 @@
 -- What the answers on failures owe.
-use Rattle.std.proofs.Common.{◌≡◌, ℕ, Bool, List, subst}
+use Rattle.std.proofs.Common.{◌≡◌, ℕ, Bool, List, Option, Some, None, IfSome, subst}
+use Rattle.sr_model.specs.declared.link.LinkNo.{LinkNo}
+use Rattle.sr_model.specs.Label.{Net}
+use Rattle.sr_lsdb.specs.declared.facts.Facts.{Facts}
+use Rattle.sr_adjprot.specs.declared.answer.BackupLabel.{BackupLabel}
+use Rattle.sr_adjprot.specs.Backup.{IsBackup}
+use Rattle.sr_print.specs.Adjacencies.{IsActiveWithin}
+use Rattle.sr_print.proofs.Within.{active-within}
 use Rattle.sr_model.specs.declared.case.Case.{Case}
 use Rattle.sr_model.specs.Graph.{Graph}
 use Rattle.sr_model.specs.Case.{IsFailedSet, source_of}
@@ -16,3 +23,8 @@ spaces-told g h case d s x p extended q same source failed ps es qs = subst (λ 
   extended_is = subst (λ (u : ℕ). IsExtendedP h x u extended) source es;
   q_is = qs;
 })
+
+-- the links and nodes of what is done under a link's other label are those of the net
+pub backup-within : (facts : Facts) (n : Net) (l : LinkNo) (found : Option BackupLabel) → IsBackup facts n l found → IfSome found (λ b. IsActiveWithin n.graph b.answer)
+backup-within facts n l None is = tt
+backup-within facts n l (Some b) is = active-within n is.1.0 l b.answer is.1.2

@@ -1,5 +1,5 @@
 -- From what is told of a version, or of edits, to what is told to a command.
-use Rattle.std.proofs.Common.{◌≡◌, ℕ, ◌+◌, ◌<◌, ◌≤◌, ◌++◌, Bool, true, false, List, [], ◌∷◌, length, Option, Some, None, refl, sym, subst, ap, ◌∙◌, inl, inr, arith}
+use Rattle.std.proofs.Common.{◌≡◌, ℕ, ◌+◌, ◌<◌, ◌≤◌, ◌++◌, false, List, [], ◌∷◌, length, Option, Some, None, refl, sym, subst, ap, ◌∙◌, inl, inr, arith}
 use Rattle.std.specs.declared.result.Result.{Result}
 use Rattle.std.specs.declared.result.Result.TheVariants.{Ok, Err}
 use Rattle.sr_model.specs.declared.name.LinkKey.{LinkKey}
@@ -17,8 +17,10 @@ use Rattle.sr_lsdb.specs.Staging.{Stages, StagesLsp}
 use Rattle.sr_domain.specs.Net.{IsNetOf}
 use Rattle.sr_domain.specs.Rules.{IsFirstBrokenRule}
 use Rattle.sr_script.specs.declared.command.Command.{Command}
+use Rattle.sr_script.specs.declared.command.Command.TheVariants.{AuditFull, Commit, Hold, Watch, Join}
 use Rattle.sr_script.specs.declared.name.LinkName.{LinkName}
 use Rattle.sr_repair.specs.Version.{NumberedNet, version_of}
+use Rattle.sr_cert.specs.Draft.{CertDraft}
 use Rattle.sr_print.specs.declared.refusal.Refusal.{Refusal}
 use Rattle.sr_print.specs.declared.refusal.Refusal.TheVariants.{Rule, VersionsFull}
 use Rattle.sr_print.specs.Told.{Told, Shown, spelled, is_refusal}
@@ -27,11 +29,12 @@ use Rattle.sr_run.specs.declared.commit.TheConstants.{MOST_VERSIONS}
 use Rattle.sr_run.specs.declared.stop.Stop.{Stop}
 use Rattle.sr_run.specs.declared.stop.Stop.TheVariants.{Refused as Refusing, Memory}
 use Rattle.sr_run.specs.declared.session.Reply.{Reply}
-use Rattle.sr_run.specs.Domain.{Domain, last_version, number_of, with_staged, with_dropped, with_net}
+use Rattle.sr_run.specs.Domain.{Domain, last_version, number_of, with_staged, with_dropped, with_draft, with_net}
 use Rattle.sr_run.specs.Edits.{Refuses, StagesEdit, Announces, EditsNamed, EditsLink, DropsStaged, Commits}
+use Rattle.sr_run.specs.Certificates.{Drafting, DraftsOf}
 use Rattle.sr_run.specs.State.{IsKeptState, IsNextVersion, State, state_of, with_next_version}
-use Rattle.sr_run.specs.Session.{Asks, Tells, TellsOf, Shows, shown_of, version_nodes, version_links}
-use Rattle.sr_run.specs.Handlers.{PutsTold, Carries, Moves, RepliesTo, IsReply, TellsStaged, IsAnnounced, LacksAnnounced}
+use Rattle.sr_run.specs.Session.{Asks, WritesDraft, Tells, TellsOf, Shows, shown_of, version_nodes, version_links}
+use Rattle.sr_run.specs.Handlers.{PutsTold, Carries, CarriesOut, Moves, RepliesTo, IsReply, IsOfDomain, IsOfText, TellsStaged, IsAnnounced, LacksAnnounced}
 use Rattle.sr_run.proofs.NameLemmas.{has-announced, lacks-announced, announced-weaker}
 
 -- what is told so is told so
@@ -50,6 +53,27 @@ pub asked-facts : (tells : Facts → NumberedNet → Told → Type 0) (state : S
 asked-facts tells state told is domain same =
     (domain, same, (subst (λ (s : State). TellsOf (tells s.editing.accepted) s.current told) (sym same) is, refl))
 
+-- what is told to a line of a certificate, whatever domain the session shows
+pub drafted : (drafts : NumberedNet → Drafting) (state : State) (draft : Option CertDraft) (told : Told) → DraftsOf drafts state.current state.draft told draft
+    → Moves (WritesDraft drafts) state (record { editing = state.editing; current = state.current; draft = draft }) told
+drafted drafts state draft told is domain same = (
+  with_draft domain draft,
+  ap (λ (s : State). (let x : State = record { editing = s.editing; current = s.current; draft = draft } in x)) same,
+  (draft, subst (λ (s : State). DraftsOf drafts s.current s.draft told draft) (sym same) is, refl),
+)
+
+-- and so is the command that says such a line
+pub drafted-told : (command : Command) (drafts : NumberedNet → Drafting) (old now : State) (draft : Option CertDraft) (before after : List ℕ) (result : Result (Unit {0}) Stop)
+    → ((domain : Domain) (told : Told) (next : Domain) → WritesDraft drafts domain told next → Tells domain command told next) → old ≡ now
+    → Carries (λ told. DraftsOf drafts old.current old.draft told draft) before after result
+    → CarriesOut command now (record { editing = old.editing; current = old.current; draft = draft }) before after result
+drafted-told command drafts old now draft before after result means is =
+    carries-weaker _ _ before after result
+    (λ told d. subst (λ (s : State). Moves (λ domain t next. Tells domain command t next) s (record { editing = old.editing; current = old.current; draft = draft }) told) is
+    (λ domain same.
+    let next = drafted drafts old draft told d domain same in
+    (next.0, next.1, means domain told next.0 next.2)))
+
 -- what is told of the last version
 pub told-of : (tells : NumberedNet → Told → Type 0) (current : Option NumberedNet) (version : NumberedNet) (told : Told) → current ≡ Some version → tells version told → TellsOf tells current told
 told-of tells current version told is t = subst (λ (o : Option NumberedNet). TellsOf tells o told) (sym is) t
@@ -62,11 +86,11 @@ puts-of tells current version before after told is t accepted appended =
 
 -- ---- what a session shows of a domain
 
-with-editing : (domain : Domain) (editing new : Editing) → editing ≡ new → (let s : State = record { editing = editing; current = last_version domain.nets } in s) ≡ record { editing = new; current = last_version domain.nets }
-with-editing domain editing new e = ap (λ (x : Editing). (let s : State = record { editing = x; current = last_version domain.nets } in s)) e
+with-editing : (domain : Domain) (editing new : Editing) → editing ≡ new → (let s : State = record { editing = editing; current = last_version domain.nets; draft = domain.draft } in s) ≡ record { editing = new; current = last_version domain.nets; draft = domain.draft }
+with-editing domain editing new e = ap (λ (x : Editing). (let s : State = record { editing = x; current = last_version domain.nets; draft = domain.draft } in s)) e
 
-same-current : (old : State) (domain : Domain) (new : Editing) → old ≡ state_of domain → (let s : State = record { editing = new; current = last_version domain.nets } in s) ≡ record { editing = new; current = old.current }
-same-current old domain new here = ap (λ (x : State). (let s : State = record { editing = new; current = x.current } in s)) (sym here)
+same-current : (old : State) (domain : Domain) (new : Editing) → old ≡ state_of domain → (let s : State = record { editing = new; current = last_version domain.nets; draft = domain.draft } in s) ≡ record { editing = new; current = old.current; draft = old.draft }
+same-current old domain new here = ap (λ (x : State). (let s : State = record { editing = new; current = x.current; draft = x.draft } in s)) (sym here)
 
 last-shown : (old now : State) (domain : Domain) (version : NumberedNet) → old ≡ now → old.current ≡ Some version → state_of domain ≡ now → last_version domain.nets ≡ Some version
 last-shown old now domain version is some same = ap (λ (s : State). s.current) (same ∙ sym is) ∙ some
@@ -75,7 +99,7 @@ last-shown old now domain version is some same = ap (λ (s : State). s.current) 
 
 -- an edit that was staged, or not, is told of the domain that the session shows
 stages-shown : (edit : Edit) (domain : Domain) (new : Editing) (staged : Result ℕ StageFault) (told : Told) → Stages edit domain.editing new staged → TellsStaged staged told
-    → (next : Domain) × (state_of next ≡ record { editing = new; current = last_version domain.nets }) × StagesEdit edit domain told next
+    → (next : Domain) × (state_of next ≡ record { editing = new; current = last_version domain.nets; draft = domain.draft }) × StagesEdit edit domain told next
 stages-shown edit domain new (Ok count) told s t =
     (with_staged domain edit, with-editing domain _ new (sym s.state), inr (s.room, t ∙ ap Staged s.counted, refl))
 stages-shown edit domain new (Err (Stale stored given)) told s t = absurd s
@@ -83,7 +107,7 @@ stages-shown edit domain new (Err Full) told s t = (domain, with-editing domain 
 stages-shown edit domain new (Err (WantingMemory error)) told s t = absurd t
 
 pub stages-told : (edit : Edit) (old now : State) (new : Editing) (staged : Result ℕ StageFault) (told : Told) → old ≡ now → Stages edit old.editing new staged → TellsStaged staged told
-    → Moves (StagesEdit edit) now (record { editing = new; current = old.current }) told
+    → Moves (StagesEdit edit) now (record { editing = new; current = old.current; draft = old.draft }) told
 stages-told edit old now new staged told is s t domain same =
     let here : old ≡ state_of domain = is ∙ sym same in
     let next = stages-shown edit domain new staged told (subst (λ (x : State). Stages edit x.editing new staged) here s) t in
@@ -92,7 +116,7 @@ stages-told edit old now new staged told is s t domain same =
 -- the same of an edit of a link that is named
 pub link-told : (edit : LinkKey → Edit) (link : LinkName) (old now : State) (version : NumberedNet) (key : LinkKey) (new : Editing) (staged : Result ℕ StageFault) (told : Told)
     → old ≡ now → old.current ≡ Some version → IsAnnounced version.net link key → Stages (edit key) old.editing new staged → TellsStaged staged told
-    → Moves (EditsLink edit link) now (record { editing = new; current = old.current }) told
+    → Moves (EditsLink edit link) now (record { editing = new; current = old.current; draft = old.draft }) told
 link-told edit link old now version key new staged told is some announced s t domain same =
     let next = stages-told (edit key) old now new staged told is s t domain same in (
       next.0,
@@ -113,7 +137,7 @@ link-missing edit link old now version reason is some lacks domain same = (
 
 -- a PDU that was staged, or not
 pdu-shown : (octets : List ℕ) (lsp : Lsp) (domain : Domain) (new : Editing) (staged : Result ℕ StageFault) (told : Told) → Reads octets lsp → StagesLsp lsp domain.editing new staged → TellsStaged staged told
-    → (next : Domain) × (state_of next ≡ record { editing = new; current = last_version domain.nets }) × Announces octets domain told next
+    → (next : Domain) × (state_of next ≡ record { editing = new; current = last_version domain.nets; draft = domain.draft }) × Announces octets domain told next
 pdu-shown octets lsp domain new (Ok count) told reads s t =
     (with_staged domain (Announce lsp), with-editing domain _ new (sym s.1.state), inr (lsp, reads, inr (s.0, inr (s.1.room, t ∙ ap Staged s.1.counted, refl))))
 pdu-shown octets lsp domain new (Err (Stale stored given)) told reads s t =
@@ -123,7 +147,7 @@ pdu-shown octets lsp domain new (Err Full) told reads s t =
 pdu-shown octets lsp domain new (Err (WantingMemory error)) told reads s t = absurd t
 
 pub pdu-told : (octets : List ℕ) (lsp : Lsp) (old now : State) (new : Editing) (staged : Result ℕ StageFault) (told : Told) → old ≡ now → Reads octets lsp → StagesLsp lsp old.editing new staged → TellsStaged staged told
-    → Moves (Announces octets) now (record { editing = new; current = old.current }) told
+    → Moves (Announces octets) now (record { editing = new; current = old.current; draft = old.draft }) told
 pdu-told octets lsp old now new staged told is reads s t domain same =
     let here : old ≡ state_of domain = is ∙ sym same in
     let next = pdu-shown octets lsp domain new staged told reads (subst (λ (x : State). StagesLsp lsp x.editing new staged) here s) t in
@@ -131,7 +155,7 @@ pdu-told octets lsp old now new staged told is reads s t domain same =
 
 -- the staged edits that were dropped
 pub drops-told : (old now : State) (new : Editing) (count : ℕ) → old ≡ now → count ≡ old.editing.staged → new ≡ with_none_staged old.editing
-    → Moves DropsStaged now (record { editing = new; current = old.current }) (Dropped count)
+    → Moves DropsStaged now (record { editing = new; current = old.current; draft = old.draft }) (Dropped count)
 drops-told old now new count is counted state domain same =
     let here : old ≡ state_of domain = is ∙ sym same in
     let edited : old.editing ≡ domain.editing = ap (λ (x : State). x.editing) here in (
@@ -148,14 +172,16 @@ number-length [] = refl
 number-length (net ∷ earlier) = omega arith
 
 -- a state is its parts
-pub state-parts : (s : State) (editing : Editing) (current : Option NumberedNet) → s.editing ≡ editing → s.current ≡ current → (let x : State = record { editing = editing; current = current } in x) ≡ s
-state-parts s editing current e c =
-    ap (λ (x : Editing). (let y : State = record { editing = x; current = current } in y)) (sym e) ∙ ap (λ (x : Option NumberedNet). (let y : State = record { editing = s.editing; current = x } in y)) (sym c)
+pub state-parts : (s : State) (editing : Editing) (current : Option NumberedNet) (draft : Option CertDraft) → s.editing ≡ editing → s.current ≡ current → s.draft ≡ draft → (let x : State = record { editing = editing; current = current; draft = draft } in x) ≡ s
+state-parts s editing current draft e c d =
+    ap (λ (x : Editing). (let y : State = record { editing = x; current = current; draft = draft } in y)) (sym e)
+    ∙ ap (λ (x : Option NumberedNet). (let y : State = record { editing = s.editing; current = x; draft = draft } in y)) (sym c)
+    ∙ ap (λ (x : Option CertDraft). (let y : State = record { editing = s.editing; current = s.current; draft = x } in y)) (sym d)
 
 -- a state with the version after the last one is kept
-pub next-kept : (old : State) (editing : Editing) (version : NumberedNet) → editing ≡ old.editing → number_of old.current < MOST_VERSIONS → IsNextVersion old version → IsKeptState (record { editing = with_accepted editing; current = Some version })
+pub next-kept : (old : State) (editing : Editing) (version : NumberedNet) → editing ≡ old.editing → number_of old.current < MOST_VERSIONS → IsNextVersion old version → IsKeptState (record { editing = with_accepted editing; current = Some version; draft = None })
 next-kept old editing version same room next =
-    record { few = omega (arith, room, next.counted); counted = omega (arith, next.counted); fresh = subst (λ (e : Editing). IsNetOf e.tentative version.net) (sym same) next.net }
+    record { few = omega (arith, room, next.counted); counted = omega (arith, next.counted); fresh = subst (λ (e : Editing). IsNetOf e.tentative version.net) (sym same) next.net; drafted = tt }
 
 -- the state whose net is accepted
 pub accepted-next : (old : State) (version : NumberedNet) → number_of old.current < MOST_VERSIONS → IsNextVersion old version → (domain : Domain) → state_of domain ≡ old
@@ -166,18 +192,18 @@ accepted-next old version room next domain same =
     let number : number_of old.current ≡ length domain.nets = ap (λ (x : State). number_of x.current) (sym same) ∙ number-length domain.nets in
     let count : version.number ≡ length domain.nets + 1 = omega (arith, next.counted, number) in
     let one : version ≡ version_of (length domain.nets + 1) version.net = ap (λ (k : ℕ). version_of k version.net) count in (
-      state-parts (with_next_version old version) (with_accepted domain.editing) (Some (version_of (length domain.nets + 1) version.net)) (ap with_accepted (sym edited)) (ap (λ (v : NumberedNet). Some v) one),
+      state-parts (with_next_version old version) (with_accepted domain.editing) (Some (version_of (length domain.nets + 1) version.net)) None (ap with_accepted (sym edited)) (ap (λ (v : NumberedNet). Some v) one) refl,
       inr (omega (arith, room, number), inr (record { net = version.net; is_net = net; told_is = ap Version one; accepted = refl })),
       one,
     )
 
 -- the state whose tentative facts are rejected
-pub rejects-told : (now new : State) (rule : DomainRule) → number_of now.current < MOST_VERSIONS → IsFirstBrokenRule now.editing.tentative rule → new.editing ≡ with_none_staged now.editing → new.current ≡ now.current → Moves Commits now new (Refused (Rule rule))
-rejects-told now new rule room broken editing current domain same =
+pub rejects-told : (now new : State) (rule : DomainRule) → number_of now.current < MOST_VERSIONS → IsFirstBrokenRule now.editing.tentative rule → new.editing ≡ with_none_staged now.editing → new.current ≡ now.current → new.draft ≡ now.draft → Moves Commits now new (Refused (Rule rule))
+rejects-told now new rule room broken editing current draft domain same =
     let edited : domain.editing ≡ now.editing = ap (λ (x : State). x.editing) same in
     let number : number_of now.current ≡ length domain.nets = ap (λ (x : State). number_of x.current) (sym same) ∙ number-length domain.nets in (
       with_dropped domain,
-      state-parts new (with_none_staged domain.editing) (last_version domain.nets) (editing ∙ ap with_none_staged (sym edited)) (current ∙ sym (ap (λ (x : State). x.current) same)),
+      state-parts new (with_none_staged domain.editing) (last_version domain.nets) domain.draft (editing ∙ ap with_none_staged (sym edited)) (current ∙ sym (ap (λ (x : State). x.current) same)) (draft ∙ sym (ap (λ (x : State). x.draft) same)),
       inr (
         omega (arith, room, number),
         inl (record { rule = rule; broken = subst (λ (e : Editing). IsFirstBrokenRule e.tentative rule) (sym edited) broken; told_is = refl; dropped = refl }),
@@ -215,14 +241,25 @@ edits-moved command edit other link old new told same means m domain like =
     (next.0, next.1, means domain told next.0 (edits-same edit other link (last_version domain.nets) domain told next.0 same next.2))
 
 -- `cost`, `down` and `up` are edits of a link
-pub edits-told : (command : Command) (edit other : LinkKey → Edit) (link : LinkName) (old new : State) (before after : List ℕ) (told : Result (Unit {0}) Stop) (result : Result Reply Stop)
+pub edits-told : (command : Command) (edit other : LinkKey → Edit) (link : LinkName) (old new : State) (before after : List ℕ) (told : Result (Unit {0}) Stop)
     → ((k : LinkKey) → edit k ≡ other k)
     → ((domain : Domain) (t : Told) (next : Domain) → EditsLink other link domain t next → Tells domain command t next)
-    → Carries (Moves (EditsLink edit link) old new) before after told → IsReply told result → RepliesTo command old new before after result
-edits-told command edit other link old new before after (Ok done) result same means c r =
-    subst (λ (x : Result Reply Stop). RepliesTo command old new before after x) (sym r)
-    (record { told = c.told; is = edits-moved command edit other link old new c.told same means c.is; accepted = c.accepted; appended = c.appended })
-edits-told command edit other link old new before after (Err (Refusing reason)) result same means c r =
-    subst (λ (x : Result Reply Stop). RepliesTo command old new before after x) (sym r) (edits-moved command edit other link old new (Refused reason) same means c)
-edits-told command edit other link old new before after (Err (Memory error)) result same means c r =
-    subst (λ (x : Result Reply Stop). RepliesTo command old new before after x) (sym r) tt
+    → Carries (Moves (EditsLink edit link) old new) before after told → CarriesOut command old new before after told
+edits-told command edit other link old new before after told same means =
+    carries-weaker _ _ before after told (λ t. edits-moved command edit other link old new t same means)
+
+-- what was appended is a reply
+pub text-replies : (command : Command) (old new : State) (before after : List ℕ) (told : Result (Unit {0}) Stop) (result : Result Reply Stop)
+    → CarriesOut command old new before after told → IsReply told result → RepliesTo command old new before after result
+text-replies command old new before after (Ok done) result c r = subst (λ (x : Result Reply Stop). RepliesTo command old new before after x) (sym r) c
+text-replies command old new before after (Err (Refusing reason)) result c r = subst (λ (x : Result Reply Stop). RepliesTo command old new before after x) (sym r) c
+text-replies command old new before after (Err (Memory error)) result c r = subst (λ (x : Result Reply Stop). RepliesTo command old new before after x) (sym r) c
+
+-- a command of the domain is answered at once, but for the whole audit
+pub of-text : (command : Command) → IsOfDomain command → (command ≡ AuditFull → ⊥) → IsOfText command
+of-text AuditFull quiet other = other refl
+of-text Commit quiet other = quiet
+of-text Hold quiet other = quiet
+of-text (Watch watchers rounds) quiet other = quiet
+of-text Join quiet other = quiet
+of-text command quiet other = tt

@@ -19,6 +19,8 @@ pub mod DeterminedTold
 pub mod DeterminedNames
 pub mod DeterminedQuestions
 pub mod DeterminedFailures
+pub mod DeterminedCertificates
+pub mod CertificateLemmas
 pub mod DeterminedEdits
 pub mod DeterminedReports
 pub mod DeterminedLines

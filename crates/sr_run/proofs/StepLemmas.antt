@@ -7,13 +7,14 @@ use Rattle.sr_lsdb.specs.Edit.{Edit}
 use Rattle.sr_lsdb.specs.Edit.Edit.{Announce, SetCost, TakeDown, BringUp, SetDepth}
 use Rattle.sr_script.specs.declared.name.LinkName.{LinkName}
 use Rattle.sr_script.specs.declared.command.Command.{Command}
-use Rattle.sr_script.specs.declared.command.Command.TheVariants.{Lsp, Cost, Down, Up, Depth, Commit, DropStaged, Hold, Watch, Join}
+use Rattle.sr_script.specs.declared.command.Command.TheVariants.{Lsp, Cost, Down, Up, Depth, Commit, DropStaged, ProofOpen, ProofVia, ProofNode, ProofAdj, ProofRow, ProofDone, Hold, Watch, Join}
 use Rattle.sr_domain.specs.Net.{IsNetOf}
 use Rattle.sr_print.specs.Told.{Told}
 use Rattle.sr_print.specs.Told.Told.{Hold as HoldTold, Watch as WatchTold}
 use Rattle.sr_engine.specs.Replies.{Replies}
 use Rattle.sr_repair.specs.Version.{NumberedNet}
-use Rattle.sr_run.specs.Domain.{Domain, Background, last_version, with_staged, with_dropped, with_net, with_hold, with_watch, with_joined}
+use Rattle.sr_cert.specs.Draft.{CertDraft}
+use Rattle.sr_run.specs.Domain.{Domain, Background, last_version, with_staged, with_dropped, with_draft, with_net, with_hold, with_watch, with_joined}
 use Rattle.sr_run.specs.Domain.Background.{AtRest, OfHold, OfWatch}
 use Rattle.sr_run.specs.Background.{BeginsWork, EndsWork, watch_from}
 use Rattle.sr_run.specs.Edits.{Refuses, StagesEdit, EditsNamed, Announces, Commits}
@@ -22,7 +23,8 @@ use Rattle.sr_run.specs.Handlers.{IsOfDomain}
 use Rattle.sr_run.proofs.NameLemmas.{announced-then}
 
 -- what an edit and the dropping of edits keep
-module _ (Q : Domain → Type 0) (staged : (domain : Domain) (edit : Edit) → Q domain → Q (with_staged domain edit)) (dropped : (domain : Domain) → Q domain → Q (with_dropped domain)) where
+module _ (Q : Domain → Type 0) (staged : (domain : Domain) (edit : Edit) → Q domain → Q (with_staged domain edit)) (dropped : (domain : Domain) → Q domain → Q (with_dropped domain))
+    (drafted : (domain : Domain) (draft : Option CertDraft) → Q domain → Q (with_draft domain draft)) where
   staged-keeps : (edit : Edit) (old : Domain) (told : Told) (new : Domain) → StagesEdit edit old told new → Q old → Q new
   staged-keeps edit old told new (inl full) h = subst Q (sym full.1.1) h
   staged-keeps edit old told new (inr more) h = subst Q (sym more.2) (staged old edit h)
@@ -46,6 +48,12 @@ module _ (Q : Domain → Type 0) (staged : (domain : Domain) (edit : Edit) → Q
   quiet-keeps old (Depth depth) told new quiet t h = staged-keeps (SetDepth depth) old told new t h
   quiet-keeps old Commit told new quiet t h = absurd quiet
   quiet-keeps old DropStaged told new quiet t h = subst Q (sym t.1) (dropped old h)
+  quiet-keeps old (ProofOpen repair) told new quiet t h = subst Q (sym t.2) (drafted old t.0 h)
+  quiet-keeps old (ProofVia link) told new quiet t h = subst Q (sym t.2) (drafted old t.0 h)
+  quiet-keeps old (ProofNode node) told new quiet t h = subst Q (sym t.2) (drafted old t.0 h)
+  quiet-keeps old (ProofAdj link) told new quiet t h = subst Q (sym t.2) (drafted old t.0 h)
+  quiet-keeps old (ProofRow cells) told new quiet t h = subst Q (sym t.2) (drafted old t.0 h)
+  quiet-keeps old (ProofDone labels) told new quiet t h = subst Q (sym t.2) (drafted old t.0 h)
   quiet-keeps old Hold told new quiet t h = absurd quiet
   quiet-keeps old (Watch watchers rounds) told new quiet t h = absurd quiet
   quiet-keeps old Join told new quiet t h = absurd quiet
@@ -65,12 +73,14 @@ quiet-stays old command told new quiet t =
     quiet-keeps (Stays old)
     (λ domain edit s. record { nets = s.nets; background = s.background; totals = s.totals })
     (λ domain s. record { nets = s.nets; background = s.background; totals = s.totals })
+    (λ domain draft s. record { nets = s.nets; background = s.background; totals = s.totals })
     old command told new quiet t (stays-itself old)
 
 -- what each step of a domain keeps is kept by each answer
 pub record IsKept (Q : Domain → Type 0) : Type 0 where
   pub staged : (domain : Domain) (edit : Edit) → Q domain → Q (with_staged domain edit)
   pub dropped : (domain : Domain) → Q domain → Q (with_dropped domain)
+  pub drafted : (domain : Domain) (draft : Option CertDraft) → Q domain → Q (with_draft domain draft)
   pub accepted : (domain : Domain) (net : Net) → IsNetOf domain.editing.tentative net → Q domain → Q (with_net domain net)
   pub held : (domain : Domain) (version : NumberedNet) → last_version domain.nets ≡ Some version → Q domain → Q (with_hold domain version)
   pub watched : (domain : Domain) (version : NumberedNet) (watchers rounds : ℕ) → last_version domain.nets ≡ Some version → Q domain → Q (with_watch domain (watch_from watchers rounds version))
@@ -97,7 +107,7 @@ module _ (Q : Domain → Type 0) (kept : IsKept Q) where
   watch-keeps watchers rounds old told new (Some version) (OfWatch watch) is b h = subst Q (sym b.1) h
 
   quietly : (old : Domain) (command : Command) (told : Told) (new : Domain) → IsOfDomain command → Tells old command told new → Q old → Q new
-  quietly = quiet-keeps Q kept.staged kept.dropped
+  quietly = quiet-keeps Q kept.staged kept.dropped kept.drafted
 
   -- the last clause serves all commands that ask: they change nothing
   tells-keep : (old : Domain) (command : Command) (told : Told) (new : Domain) → Tells old command told new → Q old → Q new
@@ -108,6 +118,12 @@ module _ (Q : Domain → Type 0) (kept : IsKept Q) where
   tells-keep old (Depth depth) told new t h = quietly old (Depth depth) told new tt t h
   tells-keep old Commit told new t h = commit-keeps old told new t h
   tells-keep old DropStaged told new t h = quietly old DropStaged told new tt t h
+  tells-keep old (ProofOpen repair) told new t h = quietly old (ProofOpen repair) told new tt t h
+  tells-keep old (ProofVia link) told new t h = quietly old (ProofVia link) told new tt t h
+  tells-keep old (ProofNode node) told new t h = quietly old (ProofNode node) told new tt t h
+  tells-keep old (ProofAdj link) told new t h = quietly old (ProofAdj link) told new tt t h
+  tells-keep old (ProofRow cells) told new t h = quietly old (ProofRow cells) told new tt t h
+  tells-keep old (ProofDone labels) told new t h = quietly old (ProofDone labels) told new tt t h
   tells-keep old Hold told new t h = hold-keeps old told new (last_version old.nets) old.background refl t h
   tells-keep old (Watch watchers rounds) told new t h = watch-keeps watchers rounds old told new (last_version old.nets) old.background refl t h
   tells-keep old Join told new t h = subst Q (sym t.1.1) (kept.joined old h)

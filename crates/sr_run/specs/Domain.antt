@@ -4,6 +4,7 @@ use Rattle.sr_model.specs.Label.{Net}
 use Rattle.sr_lsdb.specs.Editing.{Editing, opening as no_edits, with_edit, with_accepted, with_none_staged}
 use Rattle.sr_lsdb.specs.Edit.{Edit}
 use Rattle.sr_repair.specs.Version.{NumberedNet, version_of}
+use Rattle.sr_cert.specs.Draft.{CertDraft}
 
 -- a watch: its watchers, the rounds of each, and the number of the version that was current when it began
 pub record BegunWatch : Type 0 where
@@ -25,10 +26,12 @@ pub record WatchTotals : Type 0 where
   pub commits : ℕ
 
 -- the accepted and the tentative facts with how many edits are staged; the nets of the accepted commits, the last one
--- first; what runs in the background; and what was asked of all watches
+-- first; the certificate that is being written, where one is open; what runs in the background; and what was asked of
+-- all watches
 pub record Domain : Type 0 where
   pub editing : Editing
   pub nets : List Net
+  pub draft : Option CertDraft
   pub background : Background
   pub totals : WatchTotals
 
@@ -38,7 +41,7 @@ no_watches = record { places = 0; rounds = 0; commits = 0 }
 
 -- before the first line
 abbrev pub opening_domain : Domain
-opening_domain = record { editing = no_edits; nets = []; background = AtRest; totals = no_watches }
+opening_domain = record { editing = no_edits; nets = []; draft = None; background = AtRest; totals = no_watches }
 
 -- the version of the last of these nets: its number is how many there are
 abbrev pub last_version : List Net → Option NumberedNet
@@ -80,13 +83,18 @@ with_staged domain edit = record domain { editing = with_edit edit domain.editin
 abbrev pub with_dropped : Domain → Domain
 with_dropped domain = record domain { editing = with_none_staged domain.editing }
 
--- after the tentative facts are accepted, of which this is the net
+-- after the tentative facts are accepted, of which this is the net; no certificate is open then
 abbrev pub with_net : Domain → Net → Domain
 with_net domain net = record domain {
   editing = with_accepted domain.editing;
   nets = net ∷ domain.nets;
+  draft = None;
   totals = with_commit_during domain.background domain.totals;
 }
+
+-- after a line of a certificate: this one is open, or none
+abbrev pub with_draft : Domain → Option CertDraft → Domain
+with_draft domain draft = record domain { draft = draft }
 
 -- after a hold of this version is begun
 abbrev pub with_hold : Domain → NumberedNet → Domain

@@ -1,5 +1,5 @@
 -- What is told to questions about a failure in a version: spaces, repairs, the walks of repaired packets, and audits.
-use Rattle.std.specs.Prelude.{◌≡◌, ℕ, ◌<◌, ◌⊎◌, Bool, false, List, [], ◌∷◌, Some, reverse}
+use Rattle.std.specs.Prelude.{◌≡◌, ℕ, ◌<◌, ◌⊎◌, Bool, false, List, [], ◌∷◌, Option, Some, reverse}
 use Rattle.sr_model.specs.declared.link.LinkNo.{LinkNo}
 use Rattle.sr_model.specs.declared.entry.Move.{Move}
 use Rattle.sr_model.specs.declared.case.Case.{Case}
@@ -21,10 +21,12 @@ use Rattle.sr_adjprot.specs.declared.answer.AdjAnswer.{AdjAnswer}
 use Rattle.sr_adjprot.specs.Eligible.{AreEligible}
 use Rattle.sr_adjprot.specs.Active.{IsAdjAnswer}
 use Rattle.sr_adjprot.specs.Delivery.{AdjDelivers}
+use Rattle.sr_adjprot.specs.declared.answer.BackupLabel.{BackupLabel}
+use Rattle.sr_adjprot.specs.Backup.{IsBackup}
 use Rattle.sr_script.specs.declared.name.LinkName.{LinkName}
 use Rattle.sr_script.specs.declared.name.RepairName.{RepairName}
 use Rattle.sr_print.specs.Told.{Told}
-use Rattle.sr_print.specs.Told.Told.{Spaces, Repair, AdjRepair, Walk, Uncovered, Summary, Audit}
+use Rattle.sr_print.specs.Told.Told.{Spaces, Repair, AdjRepair, AdjBackup, Walk, Uncovered, Summary, Audit}
 use Rattle.sr_repair.specs.Version.{NumberedNet}
 use Rattle.sr_repair.specs.Delivery.{RepairDelivers}
 use Rattle.sr_run.specs.Names.{OfNamedLink, OfFailure, OfAffected}
@@ -74,8 +76,8 @@ abbrev pub TellsRepair : RepairName → NumberedNet → Told → Type 0
 TellsRepair repair version told =
     OfAffected (IsRefused told) version.net repair (λ case d. TellsRepairOf version.net case d told)
 
--- what the router at the beginning of the link does with a packet under the link's adjacency label, which the facts tell
--- to be eligible or not; the packet arrives
+-- what the router at the beginning of the link does with a packet under the link's adjacency label, which the facts
+-- tell to be eligible or not; the packet arrives
 pub record IsActiveOf (facts : Facts) (net : Net) (link : LinkNo) (answer : AdjAnswer) : Type 0 where
   pub eligible : List Bool
   pub are_eligible : AreEligible facts net eligible
@@ -91,6 +93,17 @@ TellsAdjRepairOf facts net link told =
 abbrev pub TellsAdjRepair : LinkName → Facts → NumberedNet → Told → Type 0
 TellsAdjRepair name facts version told =
     OfNamedLink (IsRefused told) version.net name (λ link. TellsAdjRepairOf facts version.net link told)
+
+-- the other label that is announced for the link with the flag B, and what is done with a packet under it; or there is
+-- none
+abbrev pub TellsAdjBackupOf : Facts → Net → LinkNo → Told → Type 0
+TellsAdjBackupOf facts net link told =
+    (found : Option BackupLabel) × IsBackup facts net link found × (told ≡ AdjBackup net link found)
+
+-- `adjbackup`: of the link that is named
+abbrev pub TellsAdjBackup : LinkName → Facts → NumberedNet → Told → Type 0
+TellsAdjBackup name facts version told =
+    OfNamedLink (IsRefused told) version.net name (λ link. TellsAdjBackupOf facts version.net link told)
 
 -- the packet of the repair crosses its first link, and goes on under its stack by the choice number, the failed links
 -- being closed; it reaches the destination with an empty stack, at the cost of the repair

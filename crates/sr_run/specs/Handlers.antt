@@ -1,5 +1,5 @@
 -- What the session's functions say: what was appended is told, or why they stopped is.
-use Rattle.std.specs.Prelude.{◌≡◌, ℕ, ◌<◌, ◌≤◌, Bool, true, false, List, [], ◌++◌, Option, Some, None, is_some, MatchResult}
+use Rattle.std.specs.Prelude.{◌≡◌, ℕ, ◌<◌, ◌≤◌, ◌⊎◌, Bool, true, false, List, ◌++◌, Option, Some, None, is_some, MatchResult}
 use Rattle.std.specs.declared.result.Result.{Result}
 use Rattle.std.specs.declared.result.Result.TheVariants.{Ok, Err}
 use Rattle.sr_model.specs.declared.case.Case.{Case}
@@ -18,7 +18,7 @@ use Rattle.sr_script.specs.declared.name.RepairName.{RepairName}
 use Rattle.sr_script.specs.declared.command.Command.{Command}
 use Rattle.sr_model.specs.declared.link.TheConstants.{MOST_METRIC}
 use Rattle.sr_script.specs.declared.command.TheConstants.{MOST_DEPTH, MOST_WATCHERS, MOST_ROUNDS, MOST_WORKERS, MOST_EACH}
-use Rattle.sr_script.specs.declared.command.Command.TheVariants.{Cost, Depth, Load, Commit, AuditFull, Hold, Watch, Join}
+use Rattle.sr_script.specs.declared.command.Command.TheVariants.{Cost, Depth, Load, Prove, ProofOpen, ProofVia, ProofNode, ProofAdj, ProofRow, ProofDone, Commit, AuditFull, Hold, Watch, Join}
 use Rattle.sr_print.specs.declared.refusal.Refusal.{Refusal}
 use Rattle.sr_print.specs.declared.refusal.Refusal.TheVariants as refusal
 use Rattle.sr_print.specs.Told.{Told, spelled, is_refusal}
@@ -35,6 +35,8 @@ use Rattle.sr_print.specs.Repairs.{item_lines, summary_line}
 use Rattle.sr_print.specs.Refused.{refused_line}
 use Rattle.sr_repair.specs.Version.{NumberedNet}
 use Rattle.sr_script.specs.declared.line.LineFault.{LineFault}
+use Rattle.sr_cert.specs.declared.draft.CertLine.{CertLine}
+use Rattle.sr_cert.specs.Draft.{CertDraft, with_line}
 use Rattle.sr_run.specs.declared.stop.Stop.{Stop}
 use Rattle.sr_run.specs.declared.stop.Stop.TheVariants.{Refused, Memory}
 use Rattle.sr_run.specs.declared.edits.LinkEdit.{LinkEdit}
@@ -70,6 +72,11 @@ Carries tells before after (Err (Memory error)) = Unit {0}
 abbrev pub Moves : (Domain → Told → Domain → Type 0) → State → State → Told → Type 0
 Moves tells old new told = (domain : Domain) → state_of domain ≡ old
     → (next : Domain) × (state_of next ≡ new) × tells domain told next
+
+-- the open certificate after a line: that of before, or the same with one more line
+abbrev pub MayGrowBy : Option CertDraft → CertLine → Option CertDraft → Type 0
+MayGrowBy old line new =
+    (new ≡ old) ⊎ ((draft : CertDraft) × (old ≡ Some draft) × (new ≡ Some (with_line draft line)))
 
 -- a command is carried out
 abbrev pub CarriesOut : Command → State → State → List ℕ → List ℕ → Result (Unit {0}) Stop → Type 0
@@ -115,6 +122,26 @@ IsOfDomain Hold = ⊥
 IsOfDomain (Watch watchers rounds) = ⊥
 IsOfDomain Join = ⊥
 IsOfDomain _ = Unit {0}
+
+-- the command leaves background work alone, and its answer is appended at once
+abbrev pub IsOfText : Command → Type 0
+IsOfText AuditFull = ⊥
+IsOfText Commit = ⊥
+IsOfText Hold = ⊥
+IsOfText (Watch watchers rounds) = ⊥
+IsOfText Join = ⊥
+IsOfText _ = Unit {0}
+
+-- such a command that has nothing to do with certificates
+abbrev pub IsPlain : Command → Type 0
+IsPlain (Prove repair) = ⊥
+IsPlain (ProofOpen repair) = ⊥
+IsPlain (ProofVia link) = ⊥
+IsPlain (ProofNode node) = ⊥
+IsPlain (ProofAdj link) = ⊥
+IsPlain (ProofRow cells) = ⊥
+IsPlain (ProofDone labels) = ⊥
+IsPlain command = IsOfText command
 
 -- the two systems are these nodes
 abbrev pub AreEnds : Net → EndNames → ℕ → ℕ → Type 0

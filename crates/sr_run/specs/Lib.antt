@@ -4,6 +4,7 @@ pub mod Edits
 pub mod Background
 pub mod Questions
 pub mod Failures
+pub mod Certificates
 pub mod Session
 pub mod Usage
 pub mod Program

@@ -4,7 +4,7 @@ use Rattle.sr_model.specs.Key.{pair_of}
 use Rattle.sr_model.specs.Graph.{node_count, link_count}
 use Rattle.sr_lsdb.specs.Edit.Edit.{SetCost, TakeDown, BringUp, SetDepth}
 use Rattle.sr_script.specs.declared.command.Command.{Command}
-use Rattle.sr_script.specs.declared.command.Command.TheVariants.{Lsp, Cost, Down, Up, Depth, Commit, DropStaged, Dist, Next, Label, Spaces, Repair, AdjRepair, Walk, WalkRepair, Load, Audit, AuditFull, Hold, Watch, Join, Show}
+use Rattle.sr_script.specs.declared.command.Command.TheVariants.{Lsp, Cost, Down, Up, Depth, Commit, DropStaged, Dist, Next, Label, Spaces, Repair, AdjRepair, AdjBackup, Prove, ProofOpen, ProofVia, ProofNode, ProofAdj, ProofRow, ProofDone, Walk, WalkRepair, Load, Audit, AuditFull, Hold, Watch, Join, Show}
 use Rattle.sr_script.specs.declared.line.Line.TheVariants.{Nothing as NoWord, Word}
 use Rattle.sr_script.specs.declared.line.LineFault.{LineFault}
 use Rattle.sr_script.specs.declared.line.LineFault.TheVariants as fault
@@ -15,11 +15,14 @@ use Rattle.sr_print.specs.Told.{Shown, Told, spelled, is_refusal}
 use Rattle.sr_print.specs.Told.Told.{Nothing, Refused, Show as ShowTold}
 use Rattle.sr_repair.specs.Version.{NumberedNet}
 use Rattle.sr_engine.specs.Replies.{Conduct}
-use Rattle.sr_run.specs.Domain.{Domain, last_version, number_of}
+use Rattle.sr_cert.specs.declared.draft.CertLine.TheVariants.{Via, AdjSegment}
+use Rattle.sr_cert.specs.Draft.{CertDraft}
+use Rattle.sr_run.specs.Domain.{Domain, last_version, number_of, with_draft}
 use Rattle.sr_run.specs.Edits.{Refuses, Announces, EditsLink, StagesEdit, DropsStaged, Commits}
 use Rattle.sr_run.specs.Background.{BeginsHold, BeginsWatch, JoinsWork, EndsWork}
 use Rattle.sr_run.specs.Questions.{TellsDistance, TellsNextHops, TellsLookup, TellsWalk, TellsLoads}
-use Rattle.sr_run.specs.Failures.{TellsSpaces, TellsRepair, TellsAdjRepair, TellsRepairWalk, TellsSummary, TellsAudit}
+use Rattle.sr_run.specs.Failures.{TellsSpaces, TellsRepair, TellsAdjRepair, TellsAdjBackup, TellsRepairWalk, TellsSummary, TellsAudit}
+use Rattle.sr_run.specs.Certificates.{Drafting, DraftsOf, TellsProof, OpensDraft, KeepsLink, KeepsNode, KeepsRow, DecidesDraft}
 
 -- this is told of the version, or there is none, which is refused
 abbrev pub TellsOf : (NumberedNet → Told → Type 0) → Option NumberedNet → Told → Type 0
@@ -29,6 +32,12 @@ TellsOf tells (Some version) told = tells version told
 -- a question about the last version, which changes nothing
 abbrev pub Asks : (NumberedNet → Told → Type 0) → Domain → Told → Domain → Type 0
 Asks tells old told new = TellsOf tells (last_version old.nets) told × (new ≡ old)
+
+-- a line of a certificate about the last version, which changes the open certificate alone
+abbrev pub WritesDraft : (NumberedNet → Drafting) → Domain → Told → Domain → Type 0
+WritesDraft drafts old told new =
+    (draft : Option CertDraft) × DraftsOf drafts (last_version old.nets) old.draft told draft
+    × (new ≡ with_draft old draft)
 
 -- how many nodes the last version has, and 0 before the first
 abbrev pub version_nodes : Option NumberedNet → ℕ
@@ -69,6 +78,13 @@ Tells old (Label node label) told new = Asks (TellsLookup node label) old told n
 Tells old (Spaces repair) told new = Asks (TellsSpaces repair) old told new
 Tells old (Repair repair) told new = Asks (TellsRepair repair) old told new
 Tells old (AdjRepair link) told new = Asks (TellsAdjRepair link old.editing.accepted) old told new
+Tells old (Prove repair) told new = Asks (TellsProof repair) old told new
+Tells old (ProofOpen repair) told new = WritesDraft (OpensDraft repair) old told new
+Tells old (ProofVia link) told new = WritesDraft (KeepsLink Via link) old told new
+Tells old (ProofNode node) told new = WritesDraft (KeepsNode node) old told new
+Tells old (ProofAdj link) told new = WritesDraft (KeepsLink AdjSegment link) old told new
+Tells old (ProofRow cells) told new = WritesDraft (KeepsRow cells) old told new
+Tells old (ProofDone labels) told new = WritesDraft (DecidesDraft labels) old told new
 Tells old (Walk ends choice) told new = Asks (TellsWalk ends choice) old told new
 Tells old (WalkRepair repair choice) told new = Asks (TellsRepairWalk repair choice) old told new
 Tells old (Load workers each) told new = Asks (TellsLoads each) old told new
@@ -78,6 +94,7 @@ Tells old Hold told new = BeginsHold old told new
 Tells old (Watch watchers rounds) told new = BeginsWatch watchers rounds old told new
 Tells old Join told new = JoinsWork old told new
 Tells old Show told new = Shows old told new
+Tells old (AdjBackup link) told new = Asks (TellsAdjBackup link old.editing.accepted) old told new
 
 -- a line with this fault is refused for this reason; running out of memory ends the run
 abbrev pub IsRefusedAs : LineFault → Refusal → Type 0

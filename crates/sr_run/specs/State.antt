@@ -1,10 +1,11 @@
 -- What a session shows of a domain, and what it keeps.
-use Rattle.std.specs.Prelude.{◌≡◌, ℕ, ◌+◌, ◌-◌, ◌*◌, ◌<◌, ◌≤◌, Bool, true, false, List, length, slice_get, Option, Some, IfSome}
+use Rattle.std.specs.Prelude.{◌≡◌, ℕ, ◌+◌, ◌-◌, ◌*◌, ◌<◌, ◌≤◌, Bool, true, false, List, length, slice_get, Option, Some, None, IfSome}
 use Rattle.sr_model.specs.declared.audit.Counts.{Counts}
 use Rattle.sr_model.specs.Label.{Net}
 use Rattle.sr_lsdb.specs.Editing.{Editing, with_accepted}
 use Rattle.sr_domain.specs.Net.{IsNetOf}
 use Rattle.sr_repair.specs.Version.{NumberedNet}
+use Rattle.sr_cert.specs.Draft.{CertDraft, IsDraftWithin}
 use Rattle.sr_audit.specs.Counted.{AreAuditCounts}
 use Rattle.sr_script.specs.declared.command.TheConstants.{MOST_ROUNDS}
 use Rattle.sr_store.specs.Counts.{counted}
@@ -18,25 +19,35 @@ use Rattle.sr_run.specs.Domain.{Domain, opening_domain, Background, BegunWatch, 
 use Rattle.sr_run.specs.Domain.Background.{AtRest, OfHold, OfWatch}
 use Rattle.sr_run.specs.Usage.{unused}
 
--- the accepted and the tentative facts with how many edits are staged, and the version of the last accepted commit
+-- the accepted and the tentative facts with how many edits are staged, the version of the last accepted commit, and the
+-- certificate that is open, where one is
 pub record State : Type 0 where
   pub editing : Editing
   pub current : Option NumberedNet
+  pub draft : Option CertDraft
 
 -- what a session shows of the domain: of its nets the last one, with their number
 abbrev pub state_of : Domain → State
-state_of domain = record { editing = domain.editing; current = last_version domain.nets }
+state_of domain = record { editing = domain.editing; current = last_version domain.nets; draft = domain.draft }
 
--- what a session keeps: no more versions than there may be, counted from 1, and the last net is that of the accepted
--- facts
+-- the nodes and links of the open certificate, where one is, are those of this version
+abbrev pub IsDraftOf : Option NumberedNet → Option CertDraft → Type 0
+IsDraftOf current None = Unit {0}
+IsDraftOf None (Some draft) = ⊥
+IsDraftOf (Some version) (Some draft) = IsDraftWithin version.net draft
+
+-- what a session keeps: no more versions than there may be, counted from 1; the last net is that of the accepted facts,
+-- and an open certificate speaks of it
 pub record IsKeptState (state : State) : Type 0 where
   pub few : number_of state.current ≤ MOST_VERSIONS
   pub counted : IfSome state.current (λ version. 0 < version.number)
   pub fresh : IfSome state.current (λ version. IsNetOf state.editing.accepted version.net)
+  pub drafted : IsDraftOf state.current state.draft
 
 -- the state after the tentative facts are accepted with this version
 abbrev pub with_next_version : State → NumberedNet → State
-with_next_version state version = record { editing = with_accepted state.editing; current = Some version }
+with_next_version state version =
+    record { editing = with_accepted state.editing; current = Some version; draft = None }
 
 -- the version after the last one, of the net of the tentative facts
 pub record IsNextVersion (state : State) (version : NumberedNet) : Type 0 where

@@ -1,19 +1,19 @@
-//! What becomes of packets under an adjacency label in the last version: `adjrepair`.
+//! What becomes of packets under an adjacency label in the last version: `adjrepair` and `adjbackup`.
 ghost use Rattle.std.specs.Prelude.{◌<◌, IfOk, IfSome};
 ghost use Rattle.sr_model.specs.Graph.{link_count};
 ghost use Rattle.sr_domain.specs.Net.{IsNetOf};
 ghost use Rattle.sr_run.specs.Session.{TellsOf};
-ghost use Rattle.sr_run.specs.Failures.{IsActiveOf, TellsAdjRepair};
+ghost use Rattle.sr_run.specs.Failures.{IsActiveOf, TellsAdjBackup, TellsAdjRepair};
 ghost use Rattle.sr_run.specs.Handlers.{Carries};
 
 use crate::current::{CurrentVersion, last_version};
 use crate::names::find_link;
 use crate::session::DomainSession;
 use crate::stop::{Stop, found};
-use sr_adjprot::{AdjAnswer, adj_repair, eligible};
+use sr_adjprot::{AdjAnswer, adj_repair, backup, eligible};
 use sr_lsdb::Facts;
 use sr_model::LinkNo;
-use sr_print::put_adjrepair;
+use sr_print::{put_adjbackup, put_adjrepair};
 use sr_repair::Version;
 use sr_script::LinkName;
 use std::alloc::{AllocError, Global};
@@ -51,8 +51,27 @@ fn put_active_of(
     Ok(())
 }
 
+/// Appends the other label that is announced for the link that is named with the flag B, and what is done with a packet
+/// under it.
+fn put_backup_of(
+    alloc: Global,
+    facts: &Facts,
+    current: &CurrentVersion,
+    name: &LinkName,
+    out: &mut Vec<u8>,
+) -> Result<(), Stop>
+    requires { IfSome current.now (λ version. IsNetOf facts.now version.net) }
+    ensures { Carries (TellsOf (TellsAdjBackup name.now facts.now) current.now) out.old.items out.new.items result }
+{
+    let version = found!(last_version(current));
+    let named = found!(find_link(version, name));
+    let found = backup(alloc, facts, version, named)?;
+    put_adjbackup(version.net(), named, &found, out)?;
+    Ok(())
+}
+
 impl DomainSession {
-    ghost use Rattle.sr_script.specs.declared.command.Command.TheVariants.{AdjRepair};
+    ghost use Rattle.sr_script.specs.declared.command.Command.TheVariants.{AdjBackup, AdjRepair};
     ghost use Rattle.sr_run.specs.Handlers.{CarriesOut};
 
     /// `adjrepair A B n`: appends what the router at the beginning of the link does with a packet under the link's
@@ -62,5 +81,13 @@ impl DomainSession {
         ensures { CarriesOut (AdjRepair name.now) self.now self.now out.old.items out.new.items result }
     {
         put_active_of(self.alloc, self.editor.accepted(), &self.current, name, out)
+    }
+
+    /// `adjbackup A B n`: appends the label that is announced for the link with the flag B beside the net's, and what the
+    /// router does with a packet under it when the link fails.
+    pub(crate) fn adjbackup(&self, name: &LinkName, out: &mut Vec<u8>) -> Result<(), Stop>
+        ensures { CarriesOut (AdjBackup name.now) self.now self.now out.old.items out.new.items result }
+    {
+        put_backup_of(self.alloc, self.editor.accepted(), &self.current, name, out)
     }
 }

@@ -1,7 +1,6 @@
 //! `commit`: the tentative facts become the accepted ones, and their net the next version.
-ghost use Rattle.std.specs.Prelude.{◌≡◌, ◌+◌, ◌<◌, ◌≤◌, ◌++◌, Some, IfOk, IfSome, MatchResult, OnErr, OnOk};
+ghost use Rattle.std.specs.Prelude.{◌≡◌, ◌+◌, ◌<◌, ◌++◌, IfOk, IfSome, MatchResult, OnErr, OnOk};
 ghost use Rattle.sr_model.specs.Graph.{node_count, link_count};
-ghost use Rattle.sr_lsdb.specs.Editing.{with_accepted};
 ghost use Rattle.sr_domain.specs.Rules.{IsFirstBrokenRule};
 ghost use Rattle.sr_print.specs.Printed.{version_line};
 ghost use Rattle.sr_repair.specs.Version.{version_of};
@@ -115,8 +114,7 @@ impl DomainSession {
         requires { IsKeptState (with_next_version self.old version) }
         ensures said { OnOk result (out.new.items ≡ out.old.items ++
             version_line version.number (node_count version.net.graph) (link_count version.net.graph)) }
-        ensures editing { OnOk result (self.new.editing ≡ with_accepted self.old.editing) }
-        ensures version { OnOk result (self.new.current ≡ Some version) }
+        ensures accepted { OnOk result (self.new ≡ with_next_version self.old version) }
         ensures kept { OnErr result (self.new ≡ self.old) }
     {
         let graph = version.net().graph();
@@ -129,6 +127,8 @@ impl DomainSession {
         let current = CurrentVersion::new(self.alloc, version)?;
         self.editor.accept();
         self.current = current;
+        // A certificate speaks of the version before.
+        self.draft = None;
         Ok(())
     }
 

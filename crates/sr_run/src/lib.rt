@@ -4,6 +4,7 @@
 mod adjacencies;
 mod audits;
 mod background;
+mod certificates;
 mod commit;
 mod current;
 mod distances;

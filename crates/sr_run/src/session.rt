@@ -1,4 +1,4 @@
-//! The session: the facts that a script edits, and the version of the last commit.
+//! The session: the facts that a script edits, the version of the last commit, and the certificate that is open.
 ghost use Rattle.std.specs.Prelude.{◌≡◌, MatchOption};
 ghost use Rattle.sr_script.specs.LineSays.{IsMemory};
 ghost use Rattle.sr_engine.specs.Written.{written};
@@ -6,6 +6,7 @@ ghost use Rattle.sr_run.specs.Session.{IsRefusedAs, version_links, version_nodes
 ghost use Rattle.sr_run.specs.Handlers.{IsNoRefusal, IsReply, WritesRefusal};
 
 use crate::audits::{audit_counts, begin_audit};
+use crate::certificates::prove;
 use crate::current::{CurrentVersion, last_number, last_version};
 use crate::distances::{dist, next};
 use crate::edits::LinkEdit;
@@ -15,6 +16,7 @@ use crate::loaded::load;
 use crate::repaired::walk_repair;
 use crate::stop::Stop;
 use sr_base::{Runtime, Sink, SinkFault};
+use sr_cert::CertDraft;
 use sr_engine::Answers;
 use sr_lsdb::Editor;
 use sr_print::{Refusal, put_refused, put_show};
@@ -22,12 +24,14 @@ use sr_script::{Command, LineFault};
 use std::alloc::Global;
 use std::marker::Model;
 
-/// The facts that a script edits, and the version of the last accepted commit. Contracts see these alone.
+/// The facts that a script edits, the version of the last accepted commit, and the certificate that is open, where one
+/// is. Contracts see these alone.
 #[derive(Drop)]
 pub(crate) struct DomainSession {
     pub(crate) alloc: Global,
     pub(crate) editor: Editor,
     pub(crate) current: CurrentVersion,
+    pub(crate) draft: Option<CertDraft>,
 }
 
 /// How a command is answered.
@@ -45,10 +49,10 @@ impl Model for DomainSession {
     ghost Value = { State };
 
     ghost view = { λ s.
-        record { editing = s.editor; current = s.current } };
+        record { editing = s.editor; current = s.current; draft = s.draft } };
 
     ghost invariant = { λ s.
-        IsKeptState (record { editing = s.editor; current = s.current }) };
+        IsKeptState (record { editing = s.editor; current = s.current; draft = s.draft }) };
 }
 
 /// Writes the refusal of the line of this number.
@@ -131,7 +135,7 @@ impl DomainSession {
     ghost use Rattle.sr_script.specs.declared.command.Command.TheVariants.{Show};
     ghost use Rattle.sr_run.specs.Domain.{opening_domain};
     ghost use Rattle.sr_run.specs.State.{state_of};
-    ghost use Rattle.sr_run.specs.Handlers.{CarriesOut, IsAsked, IsOfDomain, RepliesTo};
+    ghost use Rattle.sr_run.specs.Handlers.{CarriesOut, IsAsked, IsOfDomain, IsOfText, IsPlain, RepliesTo};
 
     /// A session before its first line.
     pub(crate) fn new(alloc: Global) -> DomainSession
@@ -141,6 +145,7 @@ impl DomainSession {
             alloc,
             editor: Editor::new(alloc),
             current: CurrentVersion::none(),
+            draft: None,
         }
     }
 
@@ -174,6 +179,70 @@ impl DomainSession {
         Ok(())
     }
 
+    /// Carries out a command that has nothing to do with certificates and whose answer is appended.
+    fn tell_plain(
+        &mut self,
+        rt: &impl Runtime,
+        command: Command,
+        out: &mut Vec<u8>,
+    ) -> Result<(), Stop>
+        requires asked { IsAsked command }
+        requires plain { IsPlain command }
+        ensures told { CarriesOut command self.old self.new out.old.items out.new.items result }
+        ensures current { self.new.current ≡ self.old.current }
+    {
+        let alloc = self.alloc;
+        let current = &self.current;
+        match command {
+            Command::Lsp { octets } => self.lsp(octets.as_slice(), out),
+            Command::Cost { link, metric } => self.edit_link(&link, LinkEdit::Cost(metric), out),
+            Command::Down { link } => self.edit_link(&link, LinkEdit::Down, out),
+            Command::Up { link } => self.edit_link(&link, LinkEdit::Up, out),
+            Command::Depth { depth } => self.depth(depth, out),
+            Command::DropStaged => self.drop_staged(out),
+            Command::Dist { ends } => dist(current, &ends, out),
+            Command::Next { ends } => next(current, &ends, out),
+            Command::Label { node, label: top } => label(current, node, top, out),
+            Command::Spaces { repair: name } => spaces(alloc, current, &name, out),
+            Command::Repair { repair: name } => repair(alloc, current, &name, out),
+            Command::AdjRepair { link } => self.adjrepair(&link, out),
+            Command::Walk { ends, choice } => walk_packet(alloc, current, &ends, choice, out),
+            Command::WalkRepair {
+                repair: name,
+                choice,
+            } => { walk_repair(alloc, current, &name, choice, out) }
+            Command::Load { workers, each } => load(rt, alloc, current, workers, each, out),
+            Command::Audit => audit_counts(current, out),
+            Command::Show => self.show(out),
+            Command::AdjBackup { link } => self.adjbackup(&link, out),
+            _ => unreachable!(),
+        }
+    }
+
+    /// Carries out a command that leaves background work alone and whose answer is appended.
+    fn tell_text(
+        &mut self,
+        rt: &impl Runtime,
+        command: Command,
+        out: &mut Vec<u8>,
+    ) -> Result<(), Stop>
+        requires asked { IsAsked command }
+        requires text { IsOfText command }
+        ensures told { CarriesOut command self.old self.new out.old.items out.new.items result }
+        ensures current { self.new.current ≡ self.old.current }
+    {
+        match command {
+            Command::Prove { repair: name } => prove(self.alloc, &self.current, &name, out),
+            Command::ProofOpen { repair: name } => self.proof_open(&name, out),
+            Command::ProofVia { link } => self.proof_via(&link, out),
+            Command::ProofNode { node } => self.proof_node(node, out),
+            Command::ProofAdj { link } => self.proof_adj(&link, out),
+            Command::ProofRow { cells } => self.proof_row(cells, out),
+            Command::ProofDone { labels } => self.proof_done(labels, out),
+            other => self.tell_plain(rt, other, out),
+        }
+    }
+
     /// Carries out a command that leaves background work alone, and appends the answer; of `audit full` nothing is
     /// appended.
     pub(crate) fn tell(
@@ -187,44 +256,9 @@ impl DomainSession {
         ensures told { RepliesTo command self.old self.new out.old.items out.new.items result }
         ensures current { self.new.current ≡ self.old.current }
     {
-        let alloc = self.alloc;
-        let current = &self.current;
         match command {
-            Command::Lsp { octets } => replied(self.lsp(octets.as_slice(), out)),
-            Command::Cost { link, metric } => replied(self.edit_link(
-                &link,
-                LinkEdit::Cost(metric),
-                out,
-            )),
-            Command::Down { link } => replied(self.edit_link(&link, LinkEdit::Down, out)),
-            Command::Up { link } => replied(self.edit_link(&link, LinkEdit::Up, out)),
-            Command::Depth { depth } => replied(self.depth(depth, out)),
-            Command::DropStaged => replied(self.drop_staged(out)),
-            Command::Dist { ends } => replied(dist(current, &ends, out)),
-            Command::Next { ends } => replied(next(current, &ends, out)),
-            Command::Label {
-                node,
-                label: number,
-            } => replied(label(current, node, number, out)),
-            Command::Spaces { repair: name } => replied(spaces(alloc, current, &name, out)),
-            Command::Repair { repair: name } => replied(repair(alloc, current, &name, out)),
-            Command::AdjRepair { link } => replied(self.adjrepair(&link, out)),
-            Command::Walk { ends, choice } => replied(walk_packet(
-                alloc, current, &ends, choice, out,
-            )),
-            Command::WalkRepair {
-                repair: name,
-                choice,
-            } => replied(walk_repair(alloc, current, &name, choice, out)),
-            Command::Load { workers, each } => replied(load(
-                rt, alloc, current, workers, each, out,
-            )),
-            Command::Audit => replied(audit_counts(current, out)),
-            Command::AuditFull => begin_audit(current),
-            Command::Commit | Command::Hold | Command::Watch { .. } | Command::Join => {
-                unreachable!()
-            }
-            Command::Show => replied(self.show(out)),
+            Command::AuditFull => begin_audit(&self.current),
+            other => replied(self.tell_text(rt, other, out)),
         }
     }
 }

@@ -11,7 +11,7 @@ use Rattle.sr_script.specs.declared.name.EndNames.{EndNames}
 use Rattle.sr_script.specs.declared.name.LinkName.{LinkName}
 use Rattle.sr_script.specs.declared.name.RepairName.{RepairName}
 use Rattle.sr_script.specs.declared.command.Command.{Command}
-use Rattle.sr_script.specs.declared.command.Command.TheVariants.{Lsp, Cost, Down, Up, Depth, Commit, DropStaged, Dist, Next, Label, Spaces, Repair, AdjRepair, Walk, Load, Audit, Hold, Watch, Join, Show}
+use Rattle.sr_script.specs.declared.command.Command.TheVariants.{Lsp, Cost, Down, Up, Depth, Commit, DropStaged, Dist, Next, Label, Spaces, Repair, AdjRepair, AdjBackup, Walk, Load, Prove, ProofDone, Audit, Hold, Watch, Join, Show}
 
 -- two nodes of an example
 abbrev pub example_ends : EndNames
@@ -43,11 +43,14 @@ example_commands =
     ∷ AdjRepair example_link
     ∷ Walk example_ends 0
     ∷ Load 1 1
+    ∷ Prove example_repair
+    ∷ ProofDone []
     ∷ Audit
     ∷ Hold
     ∷ Watch 1 1
     ∷ Join
     ∷ Show
+    ∷ AdjBackup example_link
     ∷ []
 
 -- one of the commands begins with the word

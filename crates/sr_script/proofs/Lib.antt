@@ -4,5 +4,7 @@ mod BlankLemmas
 mod DigitLemmas
 mod OctetLemmas
 mod FirstWords
+mod ListLemmas
+mod CertificateWords
 mod SaidLemmas
 pub mod LineLemmas

@@ -1,10 +1,10 @@
 -- What a line says, and why it is refused.
-use Rattle.std.proofs.Common.{◌≡◌, ◌≢◌, ℕ, ◌<◌, Bool, List, [], ◌∷◌, length, refl, sym, ap, subst, arith, ◌⊎◌, inl, inr}
+use Rattle.std.proofs.Common.{◌≡◌, ◌≢◌, ℕ, ◌<◌, Bool, List, [], ◌∷◌, length, refl, sym, ap, ◌∙◌, subst, arith, ◌⊎◌, inl, inr}
 use Rattle.std.specs.Prelude.{codes, IsErr, slice_index_or, IsTrue, ◌↔◌}
 use Rattle.std.specs.declared.result.Result.TheVariants.{Err}
 use Rattle.hex.specs.Hex.{decode_of}
 use Rattle.sr_script.specs.declared.command.Command.{Command}
-use Rattle.sr_script.specs.declared.command.Command.TheVariants.{Lsp}
+use Rattle.sr_script.specs.declared.command.Command.TheVariants.{Lsp, ProofDone}
 use Rattle.sr_script.specs.declared.line.Line.{Line}
 use Rattle.sr_script.specs.declared.line.Line.TheVariants.{Nothing, Word}
 use Rattle.sr_script.specs.declared.line.LineFault.{LineFault}
@@ -12,7 +12,7 @@ use Rattle.sr_script.specs.declared.line.LineFault.TheVariants.{TooLong, Unknown
 use Rattle.sr_script.specs.Words.{pieces, word_at, words, words_of}
 use Rattle.sr_script.specs.Says.{SaysCommand}
 use Rattle.sr_script.specs.LineSays.{BeginsCommand, IsRemark, SayNothing, IsUnknown, IsKnown, IsLspOf, WordsSay, IsBadForm, IsBadHex, IsWordsFault, IsShortLine, LineSays, IsLineFault, IsMemory}
-use Rattle.sr_script.specs.Answers.{IsHexFault, IsReading}
+use Rattle.sr_script.specs.Answers.{IsFormFault, IsHexFault, IsReading}
 use Rattle.sr_script.proofs.SaidLemmas.{said-once, first-not_remark, lsp-length, lsp-decoded}
 
 -- ---- first words
@@ -78,15 +78,16 @@ two-words (a ∷ []) first two e = absurd (omega arith)
 two-words (a ∷ b ∷ []) first two e = ap (λ (w : List ℕ). w ∷ b ∷ []) e
 two-words (a ∷ b ∷ c ∷ rest) first two e = absurd (omega arith)
 
-lsp-begins : (ws : List (List ℕ)) → word_at ws 0 ≡ codes "lsp" → 0 < length ws
+-- words of which the first has letters are some
+words-begin : (ws : List (List ℕ)) (letter : ℕ) (letters : List ℕ) → word_at ws 0 ≡ letter ∷ letters → 0 < length ws
 unfolding word_at
-lsp-begins [] e = absurd (omega (arith, ap length e))
-lsp-begins (first ∷ rest) e = omega arith
+words-begin [] letter letters e = absurd (omega (arith, ap length e))
+words-begin (first ∷ rest) letter letters e = omega arith
 
 -- `lsp` with no text, or more than one
 pub lsp-refused : (ws : List (List ℕ)) → word_at ws 0 ≡ codes "lsp" → length ws ≢ 2 → IsBadForm ws
 lsp-refused ws first count = record {
-  known = known-is ws (lsp-begins ws first) (Lsp [], first);
+  known = known-is ws (words-begin ws _ _ first) (Lsp [], first);
   other = λ text e. count (ap length e);
   unsaid = λ command p. count (lsp-length ws command p first);
 }
@@ -97,6 +98,21 @@ hex-refused ws (Memory error) first two e = tt
 hex-refused ws TooLong first two e = absurd e
 hex-refused ws UnknownWord first two e = absurd e
 hex-refused ws BadForm first two e = absurd e
+
+-- words of a certificate that its readers refuse are refused so
+pub proof-refused : (ws : List (List ℕ)) (fault : LineFault) → word_at ws 0 ≡ codes "proof" → IsFormFault ws fault → IsWordsFault ws fault
+proof-refused ws BadForm first none = record {
+  known = known-is ws (words-begin ws _ _ first) (ProofDone [], first);
+  other = λ text e. no-octets (sym first ∙ first-lsp ws text e);
+  unsaid = none;
+}
+  where
+    no-octets : codes "proof" ≢ codes "lsp"
+    no-octets e = absurd (omega (arith, ap length e))
+proof-refused ws TooLong first none = absurd none
+proof-refused ws UnknownWord first none = absurd none
+proof-refused ws BadHex first none = absurd none
+proof-refused ws (Memory error) first none = tt
 
 -- ---- what is said isn't refused
 

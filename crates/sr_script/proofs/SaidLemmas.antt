@@ -3,14 +3,17 @@ use Rattle.std.proofs.Common.{◌≡◌, ℕ, List, length, arith}
 use Rattle.std.specs.Prelude.{codes, IsErr}
 use Rattle.hex.specs.Hex.{decode_of}
 use Rattle.sr_script.specs.declared.command.Command.{Command}
-use Rattle.sr_script.specs.declared.command.Command.TheVariants.{Lsp}
+use Rattle.sr_script.specs.declared.command.Command.TheVariants.{Lsp, ProofRow, ProofDone}
 use Rattle.sr_script.specs.Words.{word_at}
 use Rattle.sr_script.specs.Says.{SaysCommand, first_word}
 use Rattle.sr_script.specs.LineSays.{IsRemark}
+use Rattle.sr_script.proofs.CertificateWords.{row-once, done-once}
 
 -- words say at most one command
 pub said-once : (ws : List (List ℕ)) (a b : Command) → SaysCommand ws a → SaysCommand ws b → a ≡ b
 said-once ws (Lsp octets) b p q = grind arith
+said-once ws (ProofRow a) (ProofRow b) p q = row-once ws a b p q
+said-once ws (ProofDone a) (ProofDone b) p q = done-once ws a b p q
 said-once ws a b p q = grind arith
 
 -- no word that begins a command begins with `#`

@@ -1,5 +1,5 @@
 -- What the readers of commands answer.
-use Rattle.std.specs.Prelude.{◌≡◌, ◌≢◌, ◌⊎◌, List, ℕ, ◌+◌, None, Option, MatchOption, IsErr}
+use Rattle.std.specs.Prelude.{◌≡◌, ◌≢◌, ◌⊎◌, List, ℕ, ◌+◌, ◌<◌, map, length, None, Some, Option, MatchOption, IsErr}
 use Rattle.std.specs.declared.result.Result.{Result}
 use Rattle.std.specs.declared.result.Result.TheVariants.{Ok, Err}
 use Rattle.hex.specs.Hex.{decode_of}
@@ -50,3 +50,15 @@ abbrev pub IsHexFault : List ℕ → LineFault → Type 0
 IsHexFault text BadHex = IsErr (decode_of text)
 IsHexFault text (Memory error) = Unit {0}
 IsHexFault text _ = ⊥
+
+-- the words, which give these values or none, don't give a list of at most so many values; or memory ran out
+abbrev pub IsListFault : {T : Type 0} → List (Option T) → ℕ → LineFault → Type 0
+IsListFault {T} given most BadForm = (values : List T) → given ≡ map Some values → most < length values
+IsListFault given most (Memory error) = Unit {0}
+IsListFault given most _ = ⊥
+
+-- the words say no command, or memory ran out
+abbrev pub IsFormFault : List (List ℕ) → LineFault → Type 0
+IsFormFault ws BadForm = (command : Command) → ¬ SaysCommand ws command
+IsFormFault ws (Memory error) = Unit {0}
+IsFormFault ws _ = ⊥

@@ -1,8 +1,11 @@
 -- Numbers as words: 1 to 10 decimal digits (this project's rule). Leading zeros are taken.
-use Rattle.std.specs.Prelude.{ℕ, ◌+◌, ◌-◌, ◌*◌, nat_le, ◌&&◌, Bool, if◌then◌else◌, List, length, fold, Option, Some, None}
+use Rattle.std.specs.Prelude.{ℕ, ◌+◌, ◌-◌, ◌*◌, nat_le, ◌&&◌, Bool, if◌then◌else◌, List, length, fold, codes, Option, Some, None}
 use Rattle.std.specs.List.{list_all}
 use Rattle.std.specs.Char.{is_ascii_digit}
+use Rattle.std.specs.Str.{bytes_eq}
+use Rattle.sr_model.specs.declared.link.TheConstants.{FAR}
 use Rattle.sr_script.specs.declared.number.TheConstants.{MOST_DIGITS}
+use Rattle.sr_script.specs.declared.command.TheConstants.{MOST_DISTANCE}
 
 -- the number that decimal digits write, the highest digit first; 48 is `b'0'`
 abbrev pub decimal_value : List ℕ → ℕ
@@ -24,3 +27,7 @@ within low high None = None
 -- the number that a word writes, if it is a number in the range
 unfoldable pub number_in : ℕ → ℕ → List ℕ → Option ℕ
 number_in low high word = within low high (number_read word)
+
+-- the cell that a word writes: a distance, or `-` where there is no walk
+unfoldable pub cell_read : List ℕ → Option ℕ
+cell_read word = if bytes_eq word (codes "-") then Some FAR else number_in 0 MOST_DISTANCE word

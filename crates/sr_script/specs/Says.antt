@@ -1,19 +1,19 @@
 -- The commands of a script, word by word (this project's rule).
-use Rattle.std.specs.Prelude.{◌≡◌, ℕ, ◌+◌, List, [], ◌∷◌, ◌++◌, length, codes, Some, Ok}
+use Rattle.std.specs.Prelude.{◌≡◌, ℕ, ◌+◌, ◌≤◌, List, [], ◌∷◌, ◌++◌, length, map, codes, Some, Ok}
 use Rattle.hex.specs.Hex.{decode_of}
 use Rattle.sr_model.specs.declared.case.Kind.{Kind}
 use Rattle.sr_model.specs.declared.case.Kind.TheVariants.{Link, Node, Risk}
 use Rattle.sr_model.specs.SystemText.{system_read}
-use Rattle.sr_script.specs.Number.{number_in}
+use Rattle.sr_script.specs.Number.{number_in, cell_read}
 use Rattle.sr_script.specs.Words.{word_at}
 use Rattle.sr_model.specs.declared.link.TheConstants.{MOST_METRIC}
-use Rattle.sr_script.specs.declared.command.TheConstants.{MOST_DEPTH, MOST_LABEL, MOST_CHOICE, MOST_WATCHERS, MOST_ROUNDS, MOST_WORKERS, MOST_EACH}
+use Rattle.sr_script.specs.declared.command.TheConstants.{MOST_DEPTH, MOST_LABEL, MOST_CHOICE, MOST_WATCHERS, MOST_ROUNDS, MOST_WORKERS, MOST_EACH, MOST_CELLS, MOST_LABELS}
 use Rattle.sr_script.specs.declared.name.TheConstants.{MOST_LINK_NUMBER}
 use Rattle.sr_script.specs.declared.name.EndNames.{EndNames}
 use Rattle.sr_script.specs.declared.name.LinkName.{LinkName}
 use Rattle.sr_script.specs.declared.name.RepairName.{RepairName}
 use Rattle.sr_script.specs.declared.command.Command.{Command}
-use Rattle.sr_script.specs.declared.command.Command.TheVariants.{Lsp, Cost, Down, Up, Depth, Commit, DropStaged, Dist, Next, Label, Spaces, Repair, AdjRepair, Walk, WalkRepair, Load, Audit, AuditFull, Hold, Watch, Join, Show}
+use Rattle.sr_script.specs.declared.command.Command.TheVariants.{Lsp, Cost, Down, Up, Depth, Commit, DropStaged, Dist, Next, Label, Spaces, Repair, AdjRepair, AdjBackup, Walk, WalkRepair, Load, Prove, ProofOpen, ProofVia, ProofNode, ProofAdj, ProofRow, ProofDone, Audit, AuditFull, Hold, Watch, Join, Show}
 
 -- the word for a kind of failure
 abbrev pub kind_word : Kind → List ℕ
@@ -21,13 +21,15 @@ kind_word Link = codes "link"
 kind_word Node = codes "node"
 kind_word Risk = codes "risk"
 
--- what a word behind the first gives: itself, a system id, a number of a range, a kind of failure, or octets
+-- what a word behind the first gives: itself, a system id, a number of a range, a kind of failure, octets, or a cell of
+-- a row
 pub data Argument : Type 0 where
   Itself : List ℕ → Argument
   System : ℕ → Argument
   Number : ℕ → ℕ → ℕ → Argument
   Failure : Kind → Argument
   Hex : List ℕ → Argument
+  Cell : ℕ → Argument
 
 -- the word gives the argument; a number comes behind the least and the greatest one that may stand there
 abbrev pub IsGiven : List ℕ → Argument → Type 0
@@ -36,6 +38,7 @@ IsGiven word (System id) = system_read word ≡ Some id
 IsGiven word (Number low high n) = number_in low high word ≡ Some n
 IsGiven word (Failure kind) = word ≡ kind_word kind
 IsGiven word (Hex octets) = decode_of word ≡ Ok octets
+IsGiven word (Cell n) = cell_read word ≡ Some n
 
 -- the words from place i on give these arguments, a word each
 abbrev pub AreGiven : List (List ℕ) → ℕ → List Argument → Type 0
@@ -53,6 +56,11 @@ link_arguments link = System link.from ∷ System link.to ∷ Number 1 MOST_LINK
 -- a failure by its kind and the protected link, and a destination
 abbrev pub repair_arguments : RepairName → List Argument
 repair_arguments repair = Failure repair.kind ∷ link_arguments repair.link ++ System repair.dest ∷ []
+
+-- labels, or the one word `none` where there are none
+abbrev pub labels_arguments : List ℕ → List Argument
+labels_arguments [] = Itself (codes "none") ∷ []
+labels_arguments (label ∷ labels) = map (Number 0 MOST_LABEL) (label ∷ labels)
 
 -- the form of a command: its first word, and the arguments behind it, in the order of the words
 abbrev pub form : Command → List ℕ × List Argument
@@ -72,12 +80,20 @@ form (AdjRepair link) = (codes "adjrepair", link_arguments link)
 form (Walk ends choice) = (codes "walk", ends_arguments ends ++ Number 0 MOST_CHOICE choice ∷ [])
 form (WalkRepair repair choice) = (codes "walk", repair_arguments repair ++ Number 0 MOST_CHOICE choice ∷ [])
 form (Load workers each) = (codes "load", Number 1 MOST_WORKERS workers ∷ Number 1 MOST_EACH each ∷ [])
+form (Prove repair) = (codes "prove", repair_arguments repair)
+form (ProofOpen repair) = (codes "proof", Itself (codes "open") ∷ repair_arguments repair)
+form (ProofVia link) = (codes "proof", Itself (codes "via") ∷ link_arguments link)
+form (ProofNode node) = (codes "proof", Itself (codes "node") ∷ System node ∷ [])
+form (ProofAdj link) = (codes "proof", Itself (codes "adj") ∷ link_arguments link)
+form (ProofRow cells) = (codes "proof", Itself (codes "row") ∷ map Cell cells)
+form (ProofDone labels) = (codes "proof", Itself (codes "done") ∷ labels_arguments labels)
 form Audit = (codes "audit", [])
 form AuditFull = (codes "audit", Itself (codes "full") ∷ [])
 form Hold = (codes "hold", [])
 form (Watch watchers rounds) = (codes "watch", Number 1 MOST_WATCHERS watchers ∷ Number 1 MOST_ROUNDS rounds ∷ [])
 form Join = (codes "join", [])
 form Show = (codes "show", [])
+form (AdjBackup link) = (codes "adjbackup", link_arguments link)
 
 -- the word with which a command begins
 abbrev pub first_word : Command → List ℕ
@@ -87,8 +103,16 @@ first_word command = (form command).0
 abbrev pub arguments : Command → List Argument
 arguments command = (form command).1
 
+-- a row has a cell for each of 1 to 256 nodes, and a certificate at most 257 labels; the form alone says how many
+-- arguments any other command has
+abbrev pub IsOfLength : Command → Type 0
+IsOfLength (ProofRow cells) = (1 ≤ length cells) × (length cells ≤ MOST_CELLS)
+IsOfLength (ProofDone labels) = length labels ≤ MOST_LABELS
+IsOfLength command = Unit {0}
+
 -- the words say the command: its first word, and behind it a word for each argument, and no others
 pub record SaysCommand (ws : List (List ℕ)) (command : Command) : Type 0 where
   pub first : word_at ws 0 ≡ first_word command
   pub others : AreGiven ws 1 (arguments command)
   pub count : length ws ≡ 1 + length (arguments command)
+  pub room : IsOfLength command

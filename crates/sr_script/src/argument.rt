@@ -71,13 +71,14 @@ pub(crate) fn link_argument(words: &Words<'_>, place: usize) -> Option<LinkName>
     Some(LinkName { from, to, n })
 }
 
-/// The failure and the destination that are named behind the first word.
-pub(crate) fn repair_argument(words: &Words<'_>) -> Option<RepairName>
-    ensures { MatchOption result (NamesNoRepair words.now 1)
-        (λ repair. AreGiven words.now 1 (repair_arguments repair)) }
+/// The failure and the destination that are named from a place on.
+pub(crate) fn repair_argument(words: &Words<'_>, place: usize) -> Option<RepairName>
+    requires { place + 4 < KEPT }
+    ensures { MatchOption result (NamesNoRepair words.now place)
+        (λ repair. AreGiven words.now place (repair_arguments repair)) }
 {
-    let kind = kind_argument(words, 1)?;
-    let link = link_argument(words, 2)?;
-    let dest = system_argument(words, 5)?;
+    let kind = kind_argument(words, place)?;
+    let link = link_argument(words, place + 1)?;
+    let dest = system_argument(words, place + 4)?;
     Some(RepairName { kind, link, dest })
 }

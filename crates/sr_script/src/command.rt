@@ -1,7 +1,7 @@
 //! What a script asks for.
 
 use crate::name::{EndNames, LinkName, RepairName};
-use sr_model::SystemId;
+use sr_model::{MOST_NODES, SystemId};
 use sr_seq::Seq;
 
 /// The greatest depth: how many segments a repair list may have at most.
@@ -24,6 +24,16 @@ pub const MOST_WORKERS: u32 = 8;
 
 /// The most packets of a load from one node to another.
 pub const MOST_EACH: u32 = 4;
+
+/// The greatest distance of a row: 2^33 - 1. No walk without repeated nodes costs as much, since it crosses at most 255
+/// links, whose metrics have 24 bits.
+pub const MOST_DISTANCE: u64 = 8_589_934_591;
+
+/// The most cells of a row: one for each node.
+pub const MOST_CELLS: usize = MOST_NODES;
+
+/// The most labels of a certificate: as many as a segment for each node and the destination have (this project's rule).
+pub const MOST_LABELS: usize = 257;
 
 /// A command of a script, with what its words name. `choice` is the number by which equal-cost links are chosen.
 #[derive(Debug, Drop)]
@@ -61,6 +71,20 @@ pub enum Command {
     /// `load W K`: asks how often each link is crossed by K packets from each node to each other, which W forwarders
     /// forward.
     Load { workers: u32, each: u32 },
+    /// `prove KIND A B n D`: asks for the certificate of the repair of a failure and a destination.
+    Prove { repair: RepairName },
+    /// `proof open KIND A B n D`: begins a certificate of a failure and a destination.
+    ProofOpen { repair: RepairName },
+    /// `proof via A B n`: the link on which the packet leaves.
+    ProofVia { link: LinkName },
+    /// `proof node A`: a node segment.
+    ProofNode { node: SystemId },
+    /// `proof adj A B n`: an adjacency segment.
+    ProofAdj { link: LinkName },
+    /// `proof row V V ..`: a row of distances, `FAR` where there is no walk.
+    ProofRow { cells: Seq<u64> },
+    /// `proof done X X ..`: ends a certificate with its labels, in the order of the words, and asks for the verdict.
+    ProofDone { labels: Seq<u32> },
     /// `audit`: asks for the counts over all cases.
     Audit,
     /// `audit full`: asks for the answer of each case, too.
@@ -73,4 +97,7 @@ pub enum Command {
     Join,
     /// `show`: asks for the current version, its nodes and links, the accepted depth, and how many edits are staged.
     Show,
+    /// `adjbackup A B n`: asks for another announced adjacency label of the link, which is protected, and what is done
+    /// with a packet under it when the link fails.
+    AdjBackup { link: LinkName },
 }

@@ -1,6 +1,6 @@
 //! The next word of a text.
 
-ghost use Rattle.std.specs.Prelude.{◌≡◌, ◌<◌, ◌≤◌, ℕ, true, false, [], ◌∷◌, length, slice_index, MatchOption};
+ghost use Rattle.std.specs.Prelude.{◌≡◌, ◌<◌, ◌≤◌, ℕ, true, false, [], ◌∷◌, drop, length, slice_index, MatchOption};
 ghost use Rattle.sr_script.specs.Words.{words, is_blank as blank_test, AreBlanks};
 
 use crate::blank::is_blank;
@@ -69,4 +69,18 @@ pub(crate) fn next_word(text: &[u8]) -> Option<NextWord<'_>>
     }
     let (word, rest) = from_word.split_at(word_length(from_word));
     Some(NextWord { word, rest })
+}
+
+/// The text behind its first words, of which there may be fewer.
+pub(crate) fn text_behind(text: &[u8], count: usize) -> &[u8]
+    ensures { words result.now ≡ drop count (words text.now) }
+{
+    let mut rest = text;
+    for past in 0..count {
+        match next_word(rest) {
+            None => return rest,
+            Some(next) => rest = next.rest,
+        }
+    }
+    rest
 }

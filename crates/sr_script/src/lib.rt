@@ -4,12 +4,14 @@
 mod argument;
 mod blank;
 mod blank_block;
+mod certificate;
 mod command;
 mod cursor;
 mod digits;
 mod hexadecimal;
 mod law;
 mod line;
+mod listed;
 mod name;
 mod number;
 mod readers;
@@ -19,8 +21,8 @@ mod tests;
 mod words;
 
 pub use command::{
-    Command, MOST_CHOICE, MOST_DEPTH, MOST_EACH, MOST_LABEL, MOST_ROUNDS, MOST_WATCHERS,
-    MOST_WORKERS,
+    Command, MOST_CELLS, MOST_CHOICE, MOST_DEPTH, MOST_DISTANCE, MOST_EACH, MOST_LABEL,
+    MOST_LABELS, MOST_ROUNDS, MOST_WATCHERS, MOST_WORKERS,
 };
 pub use law::{fault_is_unique, line_says_one_thing, said_is_not_refused};
 pub use line::{Line, LineFault};

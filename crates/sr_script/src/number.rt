@@ -1,7 +1,10 @@
 //! Numbers as words.
 
 ghost use Rattle.std.specs.Prelude.{◌≡◌, ◌≤◌, IfSome};
-ghost use Rattle.sr_script.specs.Number.{number_read, number_in as number_within};
+ghost use Rattle.sr_script.specs.Number.{number_read, number_in as number_within, cell_read};
+
+use crate::command::MOST_DISTANCE;
+use sr_model::FAR;
 
 /// The most digits of a number.
 pub const MOST_DIGITS: usize = 10;
@@ -33,6 +36,22 @@ pub(crate) fn number_in(word: &[u8], low: u32, high: u32) -> Option<u32>
     let value = read_number(word)?;
     if low as u64 <= value && value <= high as u64 {
         Some(value as u32)
+    } else {
+        None
+    }
+}
+
+/// The cell that the word writes: a distance, or `FAR` for `-`. None exactly where it writes none.
+#[tactic(auto, unfolding(crate::specs::Number::number_in, crate::specs::Number::cell_read))]
+pub(crate) fn read_cell(word: &[u8]) -> Option<u64>
+    ensures { result ≡ cell_read word.now }
+{
+    if word == b"-".as_slice() {
+        return Some(FAR);
+    }
+    let value = read_number(word)?;
+    if value <= MOST_DISTANCE {
+        Some(value)
     } else {
         None
     }

@@ -1,9 +1,10 @@
-//! The readers of commands: what the words say that begin with each first word, but `lsp`.
+//! The readers of commands: what the words say that begin with each first word, but `lsp` and `proof`.
 //!
-//! A new word has its variant and its limits in `command.rt`, its form and an example in `specs/Says.antt`, and its reader
-//! and its line in `read_command` here. A reader of more than eight words goes on behind them word by word.
+//! A new word has its variant and its limits in `command.rt`, its form and an example in `specs/Says.antt`, and its
+//! reader and its line in `read_command` here. A reader of more than eight words takes them from the text, as
+//! `read_list` does.
 
-ghost use Rattle.std.specs.Prelude.{◌≡◌, ◌≢◌, [], codes};
+ghost use Rattle.std.specs.Prelude.{◌≡◌, ◌≢◌, ◌↔◌, IsTrue, [], codes};
 ghost use Rattle.sr_script.specs.Words.{word_at};
 ghost use Rattle.sr_script.specs.Says.{first_word, arguments};
 ghost use Rattle.sr_script.specs.Answers.{IsCommandOf, IsReading, IsOnly};
@@ -22,20 +23,27 @@ use sr_model::MOST_METRIC;
 /// Returns the command of the reader whose word comes first, or that the words have a bad form.
 macro_rules! read_by_word {
     ($words:expr; $($first:literal => $read:expr,)*) => {
-        let first = $words.get(0);
         $(
-            if first == $first.as_slice() {
+            if comes_first($words, $first) {
                 return $read.ok_or(LineFault::BadForm);
             }
         )*
     };
 }
 
-/// The command that the words say, by the reader for the first of them: that word may be unknown, or the words have no form
-/// of a command. `lsp` is read elsewhere.
+/// Whether this is the first word.
+fn comes_first(words: &Words<'_>, word: &[u8]) -> bool
+    ensures { IsTrue result ↔ (word_at words.now 0 ≡ word.now) }
+{
+    words.get(0) == word
+}
+
+/// The command that the words say, by the reader for the first of them: that word may be unknown, or the words have no
+/// form of a command. `lsp` and `proof` are read elsewhere.
 #[tactic(auto, using(crate::proofs::FirstWords::begins))]
 pub(crate) fn read_command(words: &Words<'_>) -> Result<Command, LineFault>
-    requires { word_at words.now 0 ≢ codes "lsp" }
+    requires no_octets { word_at words.now 0 ≢ codes "lsp" }
+    requires no_proof { word_at words.now 0 ≢ codes "proof" }
     ensures { IsReading words.now result }
 {
     read_by_word! { words;
@@ -53,11 +61,13 @@ pub(crate) fn read_command(words: &Words<'_>) -> Result<Command, LineFault>
         b"adjrepair" => read_adjrepair(words),
         b"walk" => read_walk(words),
         b"load" => read_load(words),
+        b"prove" => read_prove(words),
         b"audit" => read_audit(words),
         b"hold" => read_lone(words, Command::Hold),
         b"watch" => read_watch(words),
         b"join" => read_lone(words, Command::Join),
         b"show" => read_lone(words, Command::Show),
+        b"adjbackup" => read_adjbackup(words),
     }
     Err(LineFault::UnknownWord)
 }
@@ -170,7 +180,7 @@ fn read_spaces(words: &Words<'_>) -> Option<Command>
     if words.len() != 6 {
         return None;
     }
-    let repair = repair_argument(words)?;
+    let repair = repair_argument(words, 1)?;
     Some(Command::Spaces { repair })
 }
 
@@ -182,7 +192,7 @@ fn read_repair(words: &Words<'_>) -> Option<Command>
     if words.len() != 6 {
         return None;
     }
-    let repair = repair_argument(words)?;
+    let repair = repair_argument(words, 1)?;
     Some(Command::Repair { repair })
 }
 
@@ -210,7 +220,7 @@ fn read_walk(words: &Words<'_>) -> Option<Command>
             Some(Command::Walk { ends, choice })
         }
         7 => {
-            let repair = repair_argument(words)?;
+            let repair = repair_argument(words, 1)?;
             let choice = number_argument(words, 6, 0, MOST_CHOICE)?;
             Some(Command::WalkRepair { repair, choice })
         }
@@ -229,6 +239,18 @@ fn read_load(words: &Words<'_>) -> Option<Command>
     let workers = number_argument(words, 1, 1, MOST_WORKERS)?;
     let each = number_argument(words, 2, 1, MOST_EACH)?;
     Some(Command::Load { workers, each })
+}
+
+/// `prove KIND A B n D`
+fn read_prove(words: &Words<'_>) -> Option<Command>
+    requires { word_at words.now 0 ≡ codes "prove" }
+    ensures { IsCommandOf words.now result }
+{
+    if words.len() != 6 {
+        return None;
+    }
+    let repair = repair_argument(words, 1)?;
+    Some(Command::Prove { repair })
 }
 
 /// `audit`, or `audit full`
@@ -254,4 +276,16 @@ fn read_watch(words: &Words<'_>) -> Option<Command>
     let watchers = number_argument(words, 1, 1, MOST_WATCHERS)?;
     let rounds = number_argument(words, 2, 1, MOST_ROUNDS)?;
     Some(Command::Watch { watchers, rounds })
+}
+
+/// `adjbackup A B n`
+fn read_adjbackup(words: &Words<'_>) -> Option<Command>
+    requires { word_at words.now 0 ≡ codes "adjbackup" }
+    ensures { IsCommandOf words.now result }
+{
+    if words.len() != 4 {
+        return None;
+    }
+    let link = link_argument(words, 1)?;
+    Some(Command::AdjBackup { link })
 }

@@ -1,10 +1,11 @@
 //! Reads a line.
 
 ghost use Rattle.std.specs.Prelude.{◌≡◌, ◌≤◌, ◌↔◌, IsTrue, IfOk, IfErr, codes};
-ghost use Rattle.sr_script.specs.Words.{word_at};
+ghost use Rattle.sr_script.specs.Words.{words as words_in, word_at};
 ghost use Rattle.sr_script.specs.LineSays.{IsRemark, SayNothing, LineSays, IsLineFault, WordsSay, IsWordsFault};
 
 use crate::blank::without_return;
+use crate::certificate::read_proof;
 use crate::command::Command;
 use crate::hexadecimal::read_octets;
 use crate::line::{Line, LineFault};
@@ -28,6 +29,19 @@ fn read_lsp_words(alloc: Global, words: &Words<'_>) -> Result<Line, LineFault>
     }
 }
 
+/// What the words of `proof` say.
+fn read_proof_words(alloc: Global, text: &[u8], words: &Words<'_>) -> Result<Line, LineFault>
+    requires whole { words.now ≡ words_in text.now }
+    requires first { word_at words.now 0 ≡ codes "proof" }
+    ensures said { IfOk result (WordsSay words.now) }
+    ensures refused { IfErr result (IsWordsFault words.now) }
+{
+    match read_proof(alloc, text, words) {
+        Ok(command) => Ok(Line::Word(command)),
+        Err(fault) => Err(fault),
+    }
+}
+
 /// Whether the word begins a remark.
 fn is_remark(word: &[u8]) -> bool
     ensures { IsTrue result ↔ IsRemark word.now }
@@ -42,8 +56,9 @@ fn says_nothing(words: &Words<'_>) -> bool
     words.len() == 0 || is_remark(words.get(0))
 }
 
-/// What the words say.
-fn read_words(alloc: Global, words: &Words<'_>) -> Result<Line, LineFault>
+/// What the words of the text say.
+fn read_words(alloc: Global, text: &[u8], words: &Words<'_>) -> Result<Line, LineFault>
+    requires { words.now ≡ words_in text.now }
     ensures said { IfOk result (WordsSay words.now) }
     ensures refused { IfErr result (IsWordsFault words.now) }
 {
@@ -52,6 +67,9 @@ fn read_words(alloc: Global, words: &Words<'_>) -> Result<Line, LineFault>
     }
     if words.get(0) == b"lsp".as_slice() {
         return read_lsp_words(alloc, words);
+    }
+    if words.get(0) == b"proof".as_slice() {
+        return read_proof_words(alloc, text, words);
     }
     match read_command(words) {
         Ok(command) => Ok(Line::Word(command)),
@@ -73,6 +91,7 @@ pub fn read_line(alloc: Global, line: &[u8]) -> Result<Line, LineFault>
     if line.is_empty() {
         return Ok(Line::Nothing);
     }
-    let words = Words::of(without_return(line));
-    read_words(alloc, &words)
+    let text = without_return(line);
+    let words = Words::of(text);
+    read_words(alloc, text, &words)
 }

@@ -1,5 +1,5 @@
 use super::*;
-use std::alloc::Global;
+use std::alloc::{AllocError, Global};
 use std::process::Abort;
 use std::test::Fail;
 
@@ -104,6 +104,15 @@ fn questions_are_read(rt: HostRuntime) -> Result<(), Fail> {
             "adjrepair 0000.0000.0001 0000.0000.0002 65535",
             "AdjRepair { link: LinkName { from: SystemId { value: 1 }, to: SystemId { value: 2 }, n: 65535 } }",
         ),
+        (
+            "adjbackup 0000.0000.0001 0000.0000.0002 65535",
+            "AdjBackup { link: LinkName { from: SystemId { value: 1 }, to: SystemId { value: 2 }, n: 65535 } }",
+        ),
+        (
+            "prove node 0000.0000.0001 0000.0000.0002 3 0000.0000.0004",
+            "Prove { repair: RepairName { kind: Node, link: LinkName { from: SystemId { value: 1 }, to: SystemId { value: 2 }, n: 3 }, \
+            dest: SystemId { value: 4 } } }",
+        ),
         ("load 8 4", "Load { workers: 8, each: 4 }"),
         ("load 01\t1 ", "Load { workers: 1, each: 1 }"),
     ] {
@@ -127,6 +136,127 @@ fn other_commands_are_read(rt: HostRuntime) -> Result<(), Fail> {
         ("depth 0000000000", "Depth { depth: 0 }"),
     ] {
         expect_command(&rt, alloc, line, expected)?;
+    }
+    Ok(())
+}
+
+#[test]
+fn certificates_are_read(rt: HostRuntime) -> Result<(), Fail> {
+    let alloc = rt.alloc();
+    for (line, expected) in [
+        (
+            "proof open risk 0000.0000.0001 0000.0000.0002 3 0000.0000.0004",
+            "ProofOpen { repair: RepairName { kind: Risk, link: LinkName { from: SystemId { value: 1 }, to: SystemId { value: 2 }, n: 3 }, \
+            dest: SystemId { value: 4 } } }",
+        ),
+        (
+            "proof via 0000.0000.0001 0000.0000.0004 1",
+            "ProofVia { link: LinkName { from: SystemId { value: 1 }, to: SystemId { value: 4 }, n: 1 } }",
+        ),
+        (
+            "proof  node\t0000.0000.0003",
+            "ProofNode { node: SystemId { value: 3 } }",
+        ),
+        (
+            "proof adj 0000.0000.0003 0000.0000.0002 2",
+            "ProofAdj { link: LinkName { from: SystemId { value: 3 }, to: SystemId { value: 2 }, n: 2 } }",
+        ),
+    ] {
+        expect_command(&rt, alloc, line, expected)?;
+    }
+    Ok(())
+}
+
+// No walk stands as 2^62.
+#[test]
+fn rows_and_labels_are_read(rt: HostRuntime) -> Result<(), Fail> {
+    let alloc = rt.alloc();
+    for (line, expected) in [
+        (
+            "proof row 0 3 2 1",
+            "ProofRow { cells: Seq { items: [0, 3, 2, 1] } }",
+        ),
+        (
+            "proof row -",
+            "ProofRow { cells: Seq { items: [4611686018427387904] } }",
+        ),
+        (
+            "proof row 8589934591 - 0000000001 \r",
+            "ProofRow { cells: Seq { items: [8589934591, 4611686018427387904, 1] } }",
+        ),
+        (
+            "proof row 11 12 13 14 15 16 17\t18  19 20",
+            "ProofRow { cells: Seq { items: [11, 12, 13, 14, 15, 16, 17, 18, 19, 20] } }",
+        ),
+        (
+            "proof done 16003 16002",
+            "ProofDone { labels: Seq { items: [16003, 16002] } }",
+        ),
+        (
+            "proof done 1048575",
+            "ProofDone { labels: Seq { items: [1048575] } }",
+        ),
+        ("proof done none", "ProofDone { labels: Seq { items: [] } }"),
+    ] {
+        expect_command(&rt, alloc, line, expected)?;
+    }
+    Ok(())
+}
+
+#[test]
+fn forms_of_certificates_are_kept(rt: HostRuntime) {
+    let lines = [
+        "proof",
+        "proof close",
+        "proof Row 0",
+        "proof row",
+        "proof row 8589934592",
+        "proof row 00000000000",
+        "proof row 0 --",
+        "proof row 0 -1",
+        "proof row none",
+        "proof row 1 2 3 4 5 6 7 x",
+        "proof done",
+        "proof done none none",
+        "proof done 16003 none",
+        "proof done none 16003",
+        "proof done 1048576",
+        "proof done -",
+        "proof node",
+        "proof node 0000.0000.0003 1",
+        "proof via 0000.0000.0001 0000.0000.0004",
+        "proof via 0000.0000.0001 0000.0000.0004 0",
+        "proof adj 0000.0000.0001 0000.0000.0004 1 1",
+        "proof open link 0000.0000.0001 0000.0000.0002 1",
+        "proof open path 0000.0000.0001 0000.0000.0002 1 0000.0000.0003",
+        "prove link 0000.0000.0001 0000.0000.0002 1",
+        "adjbackup 0000.0000.0001 0000.0000.0002 65536",
+    ];
+    expect(&rt, rt.alloc(), &lines, "bad form");
+}
+
+/// A line that ends with so many times the same word of one letter.
+fn repeated(alloc: Global, begin: &str, letter: u8, count: usize) -> Result<Vec<u8>, AllocError> {
+    let mut line = Vec::new(alloc);
+    line.extend_from_slice(begin.as_bytes())?;
+    for _ in 0..count {
+        line.push(b' ')?;
+        line.push(letter)?;
+    }
+    Ok(line)
+}
+
+#[test]
+fn rows_and_labels_have_limits(rt: HostRuntime) -> Result<(), Fail> {
+    let alloc = rt.alloc();
+    for (begin, letter, count, expected) in [
+        ("proof row", b'-', 256, "command"),
+        ("proof row", b'-', 257, "bad form"),
+        ("proof done", b'7', 257, "command"),
+        ("proof done", b'7', 258, "bad form"),
+    ] {
+        let line = repeated(alloc, begin, letter, count)?;
+        assert_eq!(rt; outcome(&read_line(alloc, &line)), expected);
     }
     Ok(())
 }
@@ -162,6 +292,8 @@ fn other_first_words_are_unknown(rt: HostRuntime) {
         "\r\r",
         "0000.0000.0001",
         "commit#",
+        "proofs",
+        "Prove",
     ];
     expect(&rt, rt.alloc(), &lines, "unknown word");
 }

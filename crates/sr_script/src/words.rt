@@ -10,7 +10,7 @@ use std::marker::Model;
 pub const KEPT: usize = 8;
 
 /// The words of a text: the first eight, and the text behind these. Contracts see all of them, as a list of lists of
-/// bytes. Commands of more words go on behind the eighth, word by word.
+/// bytes. Commands of more words are read from the text itself, word by word.
 #[derive(Drop)]
 pub(crate) struct Words<'a> {
     texts: [&'a [u8]; KEPT],

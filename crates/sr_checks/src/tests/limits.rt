@@ -115,3 +115,25 @@ fn edits_and_versions_have_a_most(rt: HostRuntime) -> Result<(), AllocError> {
     }
     Ok(())
 }
+
+/// A pair of nodes, and a certificate that is opened.
+const OPENED: &[u8] =
+    b"lsp 831b010014010000005f04b0000000000001000000000001000003f2100a00000100020980001f400103003e80871200000000600a000001080306400000000001161c0000000000020000000a11040800000001000000011f053000005dc1\n\
+    lsp 831b010014010000005f04b0000000000002000000000001000003f2100a00000200020980001f400103003e80871200000000600a000002080306400000000002161c0000000000010000000a11040800000001000000011f053000005dc1\n\
+    commit\n\
+    proof open link 0000.0000.0001 0000.0000.0002 1 0000.0000.0002\n";
+
+#[test]
+fn a_certificate_has_at_most_4_096_lines(rt: HostRuntime) -> Result<(), AllocError> {
+    let alloc = rt.alloc();
+    let words = words(alloc, "run")?;
+    let mut script = Vec::from_slice(alloc, OPENED)?;
+    script.extend_from_slice(&repeated(alloc, b"proof row 0\n", 4_096, b"proof done none\n")?)?;
+    let mut source = SteadySource::new(script);
+    let mut sink = SteadySink::new(alloc);
+    let status = run(&rt, words.as_slice(), &mut source, &mut sink)?;
+    let answers: &[u8] = b"proof 4096\nrefused 4100 31 ProofFull\nrejected 1\n";
+    assert!(rt; sink.bytes().ends_with(answers));
+    assert_eq!(rt; status, 1);
+    Ok(())
+}

@@ -1,9 +1,9 @@
-use Rattle.std.proofs.Common.{◌≡◌, ◌<◌, arith, ap, refl, sym, ◌∙◌, Some}
+use Rattle.std.proofs.Common.{◌≡◌, ◌<◌, arith, ap, refl, ◌∙◌}
 use Rattle.sr_run.specs.declared.commit.TheConstants.{MOST_VERSIONS}
-use Rattle.sr_lsdb.specs.Editing.{with_accepted, with_none_staged}
+use Rattle.sr_lsdb.specs.Editing.{with_none_staged}
 use Rattle.sr_run.specs.Domain.{number_of}
 use Rattle.sr_run.specs.State.{State}
-use Rattle.sr_run.proofs.HandlerLemmas.{next-kept, rejects-told, state-parts}
+use Rattle.sr_run.proofs.HandlerLemmas.{next-kept, rejects-told}
 use Rattle.sr_run.proofs.session.DomainSession.commit.Goals as goal
 
 pub accept-requires : goal.accept-requires
@@ -18,7 +18,7 @@ returns-in_ok-accept-in-Ok g c =
     let room : number_of c.args.self.now.current < MOST_VERSIONS = omega (arith, same, c.last_number.ensures, c.if-last_number-ge-MOST_VERSIONS.false) in (
       c.in-Ok.version,
       rw c.in-Ok.is at c.in_ok-version.ensures,
-      sym (state-parts c.accept.new.self (with_accepted c.args.self.now.editing) (Some c.in-Ok.version) c.in_ok-accept-in-Ok.ensures.editing c.in_ok-accept-in-Ok.ensures.version),
+      c.in_ok-accept-in-Ok.ensures.accepted,
       room,
       λ number. c.in_ok-accept-in-Ok.ensures.said,
     )
@@ -27,6 +27,6 @@ pub returns-in-Err : goal.returns-in-Err
 returns-in-Err g c =
     let same : number_of c.self.inside.current ≡ number_of c.args.self.now.current = ap (λ (s : State). number_of s.current) c.self.view_is in
     let room : number_of c.args.self.now.current < MOST_VERSIONS = omega (arith, same, c.last_number.ensures, c.if-last_number-ge-MOST_VERSIONS.false) in
-    let new : State = record { editing = c.drop_staged-dropped.new.self; current = c.self.inside.current } in
+    let new : State = record { editing = c.drop_staged-dropped.new.self; current = c.self.inside.current; draft = c.self.inside.draft } in
     let current = ap (λ (s : State). s.current) c.self.view_is in
-    (current, rejects-told c.args.self.now new c.in-Err.rule room (rw c.in-Err.is at c.in_ok-version.ensures) (c.drop_staged-dropped.ensures.dropped ∙ ap (λ (s : State). with_none_staged s.editing) c.self.view_is) current)
+    (current, rejects-told c.args.self.now new c.in-Err.rule room (rw c.in-Err.is at c.in_ok-version.ensures) (c.drop_staged-dropped.ensures.dropped ∙ ap (λ (s : State). with_none_staged s.editing) c.self.view_is) current (ap (λ (s : State). s.draft) c.self.view_is))

@@ -1,0 +1,8 @@
+-- the rows so far stand behind
+use Rattle.std.proofs.Common.{◌≡◌, ◌++◌, take}
+use Rattle.std.specs.List.{flat_map}
+use Rattle.sr_print.specs.Certificates.{row_line}
+use Rattle.sr_print.proofs.certificate.put_rows.Given as goal
+
+abbrev pub invariant-loop-row : goal.invariant-loop-row
+invariant-loop-row l = l.out.items ≡ l.fn.out.items ++ flat_map row_line (take l.row-index l.rows)
