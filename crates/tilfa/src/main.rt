@@ -20,8 +20,17 @@ use std::sync::Arc;
 /// The status where the words aren't a command.
 const NO_COMMAND: u8 = 2;
 
+/// The status where a read failed.
+const READ_FAILED: u8 = 3;
+
+/// The status where a write failed.
+const WRITE_FAILED: u8 = 4;
+
 /// The status where memory ran out, or the words can't be had.
 const NO_MEMORY: u8 = 5;
+
+/// The status where the script has too many bytes.
+const TOO_MUCH: u8 = 6;
 
 /// The words after the program's name, or the status that says why there are none: words that aren't text are no command,
 /// and any other failure ends as if memory had run out. Which of the two statuses it is isn't proved: no contract of the
@@ -69,6 +78,30 @@ fn run<R: AllocGlobal + Runtime + 'static, S: Source, K: Sink, G: Gate + 'static
     ExitCode::from(tilfa(rt, words, source, sink, gate, usage))
 }
 
+/// Tells on standard error why a run wasn't begun, or ended early. A message that can't be written changes nothing: the
+/// status says it too.
+fn tell(rt: &HostRuntime, code: ExitCode) {
+    if code == ExitCode::from(NO_COMMAND) {
+        let _ = eprintln!(rt; "usage: tilfa run | tilfa make --nodes N --start S");
+    }
+    if code == ExitCode::from(READ_FAILED) {
+        let _ = eprintln!(rt;
+            "tilfa: standard input can't be read; the lines that were read are answered"
+        );
+    }
+    if code == ExitCode::from(WRITE_FAILED) {
+        let _ = eprintln!(rt; "tilfa: standard output can't be written; the output ends early");
+    }
+    if code == ExitCode::from(NO_MEMORY) {
+        let _ = eprintln!(rt; "tilfa: memory ran out; the output ends early");
+    }
+    if code == ExitCode::from(TOO_MUCH) {
+        let _ = eprintln!(rt;
+            "tilfa: the script has more than 33,554,432 bytes; the lines among the first of them are answered"
+        );
+    }
+}
+
 fn main(rt: HostRuntime) -> ExitCode {
     let code = match words(&rt) {
         Ok(words) => {
@@ -91,9 +124,6 @@ fn main(rt: HostRuntime) -> ExitCode {
         }
         Err(status) => ExitCode::from(status),
     };
-    if code == ExitCode::from(NO_COMMAND) {
-        // A message that can't be written changes nothing: the status says it too.
-        let _ = eprintln!(rt; "usage: tilfa run | tilfa make --nodes N --start S");
-    }
+    tell(&rt, code);
     code
 }
