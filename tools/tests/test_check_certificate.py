@@ -1,11 +1,14 @@
-"""Tests of check-certificate: a ring of four whose verdicts were worked out by hand, and what four routers flooded."""
+"""Tests of check-certificate: a ring of four whose verdicts were worked out by hand, what four routers flooded, and the
+program's own verdicts.
+"""
 from __future__ import annotations
 
+import random
 import tempfile
 import unittest
 from pathlib import Path
 
-from commands import EXAMPLES, TEXTS, run
+from commands import EXAMPLES, PROGRAM, TEXTS, answers, example, run
 
 # A ring of four routers with metrics of 1, each with the label range 16000 to 23999 and its number as its index; pair p
 # of two neighbours has the link identifiers (p, p) and the adjacency label 24000 + p.
@@ -122,6 +125,39 @@ proof done 24003 24003 16003
         status, verdicts, _ = run("check-certificate", domain, "-", given="".join(spoilt).encode())
         self.assertEqual((verdicts.count("rejected "), verdicts.count("accepted ")), (len(spoilt), 0))
 
+    @unittest.skipUnless(PROGRAM.exists(), "the program isn't built")
+    def test_the_verdicts_of_the_program(self) -> None:
+        """Both decide alike on 1,000 certificates: one in eight as it was answered, the others with a drawn change."""
+        rng = random.Random("certificates")
+        met = set()
+        for name, count in (("frr_mesh9", 500), ("frr_ring4", 250), ("costly_ring", 250)):
+            domain = domain_of(example(f"{name}.script"))
+            proved = certificates_of(domain)
+            parts = [line for certificate in proved for line in certificate[1:] if not line.startswith("proof row")]
+            given = []
+            for at in range(count):
+                certificate = rng.choice(proved)
+                given += spoilt(rng, certificate, parts) if at % 8 else certificate
+            told = answers(domain + "".join(given)).decode().splitlines()
+            self.assertEqual([line for line in told if line.startswith("refused ")], [])
+            wanted = [line for line in told if line.startswith(("accepted ", "rejected "))]
+            self.assertEqual((len(wanted), check(domain, "".join(given))), (count, (1, wanted)))
+            met |= {line if line.startswith("rejected ") else "accepted" for line in wanted}
+        self.assertEqual(met, {"accepted"} | {f"rejected {clause}" for clause in range(1, 8)})
+
+    def test_lines_that_the_program_refuses(self) -> None:
+        """A header of another length, version or system id length isn't one of a PDU of level 2 (ISO 10589, 9.8)."""
+        for at, octet in ((0, 0x82), (1, 26), (2, 2), (3, 5), (4, 18), (5, 0), (9, 26)):
+            octets = bytearray.fromhex(lsp(1).split()[1])
+            octets[at] = octet
+            octets[8] = 0 if at == 9 else octets[8]
+            self.assertEqual(check(RING + f"lsp {octets.hex()}\ncommit\n", CERTIFICATE), (2, []))
+        zero = RING.replace("831b010014", "831b010614")
+        self.assertEqual(check(zero, CERTIFICATE)[0], 0)
+
+    def test_remarks_of_any_bytes(self) -> None:
+        self.assertEqual(check("# Z\u00fcrich\n" + RING, "# Z\u00fcrich\n" + CERTIFICATE)[0], 0)
+
     def test_what_cant_be_read(self) -> None:
         unknown = CERTIFICATE.replace("0000.0000.0003", "0000.0000.0009")
         for domain, lines in (
@@ -136,6 +172,75 @@ proof done 24003 24003 16003
         ):
             self.assertEqual(check(domain, lines), (2, []))
         self.assertEqual(run("check-certificate", "--help")[0], 0)
+
+
+def domain_of(script: str) -> str:
+    """The lines of a script to its first commit."""
+    return script[: script.index("commit\n") + len("commit\n")]
+
+
+def certificates_of(domain: str) -> list[list[str]]:
+    """The lines of a certificate of each repair."""
+    asked = ""
+    for line in answers(domain + "audit full\n").decode().splitlines():
+        words = line.split()
+        if words[0] == "repair" and "via" in words:
+            asked += f"prove {words[1]} {words[2].replace('>', ' ').replace('#', ' ')} {words[4]}\n"
+    found: list[list[str]] = []
+    for line in answers(domain + asked).decode().splitlines(keepends=True):
+        if line.startswith("proof open "):
+            found.append([])
+        if line.startswith("proof "):
+            found[-1].append(line)
+    return found
+
+
+def spoilt(rng: random.Random, certificate: list[str], parts: list[str]) -> list[str]:
+    """The certificate with one drawn change. Parts are lines `proof via`, `proof node`, `proof adj` and `proof done` of
+    this domain's certificates."""
+    lines = list(certificate)
+    rows = [at for at, line in enumerate(lines) if line.startswith("proof row")]
+    segments = list(range(2, rows[0]))
+    change = rng.choice(("number", "number", "label", "exchange", "segment", "drop", "repeat", "less", "back", "part"))
+    if change == "number":
+        at = rng.choice(rows)
+        lines[at] = with_word(rng, lines[at], ("0", "-", "8589934591"))
+    elif change == "label":
+        lines[-1] = with_word(rng, lines[-1], ("0", "16", "1048575"))
+    elif change == "exchange":
+        labels = lines[-1].split()[2:]
+        lines[-1] = " ".join(["proof done", *rng.sample(labels, len(labels))]) + "\n"
+    elif change == "segment":
+        # One is put in place of a segment, or before it.
+        at = rng.choice([*segments, rows[0]])
+        end = at + 1 if at in segments and rng.random() < 0.7 else at
+        lines[at:end] = [rng.choice([part for part in parts if part.startswith(("proof node", "proof adj"))])]
+    elif change == "drop":
+        del lines[rng.choice(rows)]
+    elif change == "repeat":
+        at = rng.choice(rows)
+        lines.insert(at, lines[at])
+    elif change == "less":
+        # The segments are left out, with all rows but those from the first link's end and to the destination.
+        lines = lines[:2] + [lines[at] for at in (rows[0], rows[1], rows[-1])] + lines[-1:]
+    elif change == "back":
+        # The first link's way back and forth again, as segments.
+        start, end, place = lines[1].split()[2:]
+        lines[2:2] = [f"proof adj {end} {start} {place}\n", f"proof adj {start} {end} {place}\n"]
+    else:
+        at = rng.randrange(1, rows[0]) if rng.random() < 0.8 else len(lines) - 1
+        kind = " ".join(lines[at].split()[:2])
+        lines[at] = rng.choice([part for part in parts if part.startswith(kind)])
+    return lines
+
+
+def with_word(rng: random.Random, line: str, others: tuple[str, ...]) -> str:
+    """The line with one of its numbers one higher, one lower, or replaced."""
+    words = line.split()
+    at = rng.randrange(2, len(words))
+    near = [str(int(words[at]) + 1), str(max(int(words[at]) - 1, 0))] if words[at].isdigit() else []
+    words[at] = rng.choice([*near, *others])
+    return " ".join(words) + "\n"
 
 
 def one_higher(certificate: str) -> list[str]:
