@@ -74,7 +74,7 @@ def measure(name, program, plain, work, pdus):
     nodes, links = graph_of(pdus)
     script = "".join(f"lsp {bare(octets).hex()}\n" for octets in pdus) + "commit\n"
     graph = f"{nodes} {len(links)}\n" + "".join(f"{a} {b} {m}\n" for a, b, m in links)
-    mine = instructions(work, [program, "run"], script.encode(), "dijkstra::row_by") / nodes
+    mine = instructions(work, [program, "run"], script.encode(), "dijkstra::row") / nodes
     theirs = instructions(work, [plain], graph.encode(), "search(") / nodes
     print(f"{name}: {nodes} nodes, {len(links)} links: {mine:,.0f} instructions a search, {theirs:,.0f} in C++, ratio {mine / theirs:.2f}")
 
