@@ -51,7 +51,7 @@ both : (test : Answer → Bool) (xs ys : List Item) → count_by (λ (i : Item).
 both test xs ys = sum_by-append (λ (i : Item). pass test i.answer) xs ys
 
 -- the counts of two lists
-counts-append : (xs ys : List Item) → counts_of (xs ++ ys) ≡ counts_sum (counts_of xs) (counts_of ys)
+pub counts-append : (xs ys : List Item) → counts_of (xs ++ ys) ≡ counts_sum (counts_of xs) (counts_of ys)
 counts-append xs ys = counts-one (counts_of (xs ++ ys)) (counts_sum (counts_of xs) (counts_of ys)) (both is_least xs ys) (both is_no_path xs ys) (both is_no_list xs ys) (both is_too_deep xs ys)
 
 -- these are the counts of the audit of the cases at the first m places

@@ -29,7 +29,7 @@ case-at g place lt =
     (cases_lt place (link_count g))
 
 -- it has items
-audit-there : (n : Net) → IsNet n → IsAnswered n → (place : ℕ) → place < case_count n.graph → (items : List Item) × IsAuditAt n place items
+pub audit-there : (n : Net) → IsNet n → IsAnswered n → (place : ℕ) → place < case_count n.graph → (items : List Item) × IsAuditAt n place items
 audit-there n net answered place lt =
     let at = case-at n.graph place lt in
     let answers = answered at.0 at.1 in

@@ -7,7 +7,7 @@ use sr_model::Counts;
 use sr_repair::{Version, case_at, case_count};
 
 /// Nothing is counted.
-pub(crate) fn no_counts() -> Counts
+pub fn no_counts() -> Counts
     ensures { result ≡ no_counts }
 {
     Counts {
@@ -19,7 +19,7 @@ pub(crate) fn no_counts() -> Counts
 }
 
 /// How many answers of the case at this place are of each sort.
-fn counts_at(version: &Version, place: u32) -> Counts
+pub fn counts_at(version: &Version, place: u32) -> Counts
     requires { place < case_count version.now.net.graph }
     ensures { AreCountsAt version.now.net place result }
 {
@@ -28,7 +28,7 @@ fn counts_at(version: &Version, place: u32) -> Counts
 }
 
 /// Both counts together, sort by sort.
-fn counts_sum(so_far: Counts, more: Counts) -> Counts
+pub fn counts_sum(so_far: Counts, more: Counts) -> Counts
     requires { AreCounts (counts_sum so_far more) }
     ensures { result ≡ counts_sum so_far more }
 {

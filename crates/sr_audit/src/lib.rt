@@ -8,6 +8,6 @@ mod report;
 mod tests;
 
 pub use audits::audit;
-pub use counting::counts;
+pub use counting::{counts, counts_at, counts_sum, no_counts};
 pub use report::Report;
 pub use sr_model::{Counts, Item};

@@ -72,7 +72,7 @@ fn ident_of(reach: &Reach) -> Ident
 
 /// The label of an adjacency SID that may be used. One that may be protected isn't taken where there is another, so that
 /// the flag B is as asked (this project's rule).
-fn adj_sid_label(backup: bool, sid: AdjSid) -> Option<u32>
+pub fn adj_sid_label(backup: bool, sid: AdjSid) -> Option<u32>
     ensures { result ≡ adj_sid_label backup sid }
 {
     match sid.sid {
@@ -168,7 +168,7 @@ fn add_announced(
 }
 
 /// All announcements of present nodes, in order of LSP id and place.
-pub(crate) fn announcements(alloc: Global, facts: &Facts) -> Result<Vec<Announcement>, AllocError>
+pub fn announcements(alloc: Global, facts: &Facts) -> Result<Vec<Announcement>, AllocError>
     ensures { IfOk result (λ v. v.items ≡ announcements_of facts.now) }
 {
     // Room for as many as there are links at most, so that it seldom grows.

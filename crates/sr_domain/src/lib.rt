@@ -20,11 +20,15 @@ mod tests;
 mod topology;
 mod two_way;
 
-pub use announced::{Announcement, announced_by, is_present, least_label};
+pub use announced::{
+    Announcement, adj_sid_label, announced_by, announcements, is_present, least_label,
+};
 pub use fault::DomainFault;
 pub use laws::{
     adjacency_labels_are_the_least, nets_are_determined, node_sids_are_the_first_least,
 };
-pub use links::{FoundLink, link_by};
+pub use links::{FoundLink, effective_metric, link_by};
 pub use net::net_of;
+pub use nodes::{NodeSid, first_imposition, node_sid_by};
+pub use risks::{RiskName, numbered_name, unnumbered_name};
 pub use two_way::{holds, keys_of};

@@ -18,7 +18,7 @@ pub struct FoundLink {
 }
 
 /// The metric that is set for the key, otherwise the announced one.
-fn effective_metric(facts: &Facts, announcement: &Announcement) -> u32
+pub fn effective_metric(facts: &Facts, announcement: &Announcement) -> u32
     ensures { result ≡ effective_metric facts.now announcement.now }
 {
     match facts.costs.get(&announcement.key) {

@@ -19,7 +19,7 @@ use std::alloc::{AllocError, Global};
 
 /// The index of a node with its flags P (`keep`) and E (`explicit`).
 #[derive(Clone, Copy, Debug, PartialEq, Eq)]
-pub(crate) struct NodeSid {
+pub struct NodeSid {
     pub index: u32,
     pub keep: bool,
     pub explicit: bool,
@@ -103,7 +103,7 @@ pub(crate) fn srgb_of(
 }
 
 /// The index that the Prefix-SID gives its node.
-fn node_sid_by(sid: PrefixSid) -> Option<NodeSid>
+pub fn node_sid_by(sid: PrefixSid) -> Option<NodeSid>
     ensures { result ≡ node_sid_by sid }
 {
     if sid.algorithm != 0 {
@@ -195,7 +195,7 @@ pub(crate) fn node_sid(facts: &Facts, node: SystemId) -> Option<NodeSid>
 }
 
 /// The first of these depths that says how many labels the node can impose.
-fn first_imposition(msds: &[Msd]) -> Option<u8>
+pub fn first_imposition(msds: &[Msd]) -> Option<u8>
     ensures { result ≡ slice_get (filter_map imposition_by msds.now) 0 }
 {
     for msd in msds {

@@ -92,7 +92,7 @@ pub(crate) fn notes(alloc: Global, facts: &Facts) -> Result<Vec<RiskNote>, Alloc
 }
 
 /// The name of the announcement by its addresses.
-pub(crate) fn numbered_name(announcement: &Announcement) -> Option<RiskName>
+pub fn numbered_name(announcement: &Announcement) -> Option<RiskName>
     ensures { result ≡ numbered_name announcement.now }
 {
     match announcement.key.ident {
@@ -109,7 +109,7 @@ pub(crate) fn numbered_name(announcement: &Announcement) -> Option<RiskName>
 }
 
 /// The name of the announcement by its link identifiers.
-pub(crate) fn unnumbered_name(announcement: &Announcement) -> Option<RiskName>
+pub fn unnumbered_name(announcement: &Announcement) -> Option<RiskName>
     ensures { result ≡ unnumbered_name announcement.now }
 {
     match announcement.ids {

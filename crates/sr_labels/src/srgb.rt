@@ -117,6 +117,14 @@ impl Srgb {
         })
     }
 
+    /// The ranges, in the order in which they are announced.
+    pub fn ranges(&self) -> &[Range]
+        ensures value { result.now ≡ self.now }
+        ensures good { IsSrgb self.now }
+    {
+        &self.ranges
+    }
+
     /// How many labels there are. Indices are counted from 0 to below this number.
     pub fn size(&self) -> u32
         ensures value { result ≡ sizes self.now }
