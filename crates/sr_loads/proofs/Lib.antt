@@ -1,8 +1,9 @@
-pub mod RangeLemmas
+pub mod ListLemmas
 pub mod QueueLemmas
+pub mod PairOrder
+pub mod PacketOrder
 pub mod TallyLemmas
 pub mod BatchLemmas
-pub mod PacketOrder
 pub mod RunLemmas
 pub mod LoadLemmas
 pub mod Uniqueness

@@ -1,15 +1,18 @@
--- Counts that wrap, and tallies of the packets whose numbers were taken.
-use Rattle.std.proofs.Common.{◌≡◌, ◌⊎◌, ⊎_elim, set, ℕ, suc, ◌+◌, ◌-◌, ◌%◌, ◌^◌, ◌<◌, ◌≤◌, ◌==◌, Bool, true, false, cond, List, [], ◌∷◌, ◌++◌, length, replicate, Some, slice_get, slice_index, refl, sym, ap, ◌∙◌, subst, arith}
+-- Counts that wrap, and packets that are added to them.
+use Rattle.std.proofs.Common.{◌≡◌, ◌⊎◌, ⊎_elim, set, ℕ, ◌+◌, ◌%◌, ◌^◌, ◌<◌, ◌≤◌, ◌==◌, Bool, true, false, cond, List, [], ◌∷◌, ◌++◌, length, take, get_or, replicate, slice_index, refl, sym, ap, ◌∙◌, subst, arith}
 use Rattle.std.proofs.Math.Nat.{mod-add-mod, add-mod-mod, mod-eq_of_lt, mod-lt}
-use Rattle.std.specs.List.{AllZip, range_with_len}
 use Rattle.std.proofs.lemmas.Bool.{eqb-true, eqb-false, cases_order}
-use Rattle.std.proofs.lemmas.List.{length-replicate, length-set, get_or-replicate, get_or-set_same, get_or-set_other}
+use Rattle.std.proofs.lemmas.List.{take_more, length-replicate, length-set, get_or-replicate, get_or-set_same, get_or-set_other}
+use Rattle.std.proofs.lemmas.List.FromFn.{map-range_with_len_more}
 use Rattle.sr_model.specs.Graph.{link_count}
 use Rattle.sr_model.specs.Label.{Net}
 use Rattle.sr_loads.specs.declared.packet.Packet.{Packet}
+use Rattle.sr_loads.specs.declared.packet.Pair.{Pair}
+use Rattle.sr_loads.specs.Packets.{packet, packets_between, packets_of}
 use Rattle.sr_loads.specs.Loads.{crossings, all_crossings}
-use Rattle.sr_loads.specs.Tally.{IsRunOf, AddsRun, AddsPacket, IsTally, AddsCounts}
-use Rattle.sr_loads.proofs.RangeLemmas.{range-push}
+use Rattle.sr_loads.specs.Tally.{IsShortRun, AddsRun, AddsPacket, AddsPackets, IsTally, AddsCounts}
+use Rattle.sr_loads.proofs.ListLemmas.{zip_append}
+use Rattle.sr_loads.proofs.PacketOrder.{packets-push}
 
 pub crossings-append : (l : ℕ) (xs ys : List ℕ) → crossings l (xs ++ ys) ≡ crossings l xs + crossings l ys
 crossings-append l [] ys = omega arith
@@ -45,50 +48,88 @@ adds-more xs ys before mid after one two = record {
       ∙ ap (λ (n : ℕ). (slice_index before l + n) % 2 ^ 64) (sym (crossings-append l xs ys));
 }
 
-zip-append : {A B : Type 0} (R : A → B → Type 0) (xs xs' : List A) (ys ys' : List B) → AllZip R xs ys → AllZip R xs' ys' → AllZip R (xs ++ xs') (ys ++ ys')
-zip-append R [] xs' [] ys' p q = q
-zip-append R [] xs' (y ∷ ys) ys' p q = absurd p
-zip-append R (x ∷ xs) xs' [] ys' p q = absurd p
-zip-append R (x ∷ xs) xs' (y ∷ ys) ys' p q = (p.0, zip-append R xs xs' ys ys' p.1 q)
+-- no packet, nothing added
+pub adds-none : (net : Net) (counts : List ℕ) → AddsPackets net [] counts counts
+adds-none net counts = record { runs = []; are = tt; long = refl; each = (adds-nothing counts).each }
 
-module _ (net : Net) (packets : List Packet) where
-  -- nothing taken, nothing counted
-  pub tally-none : IsTally net packets [] (replicate (link_count net.graph) 0)
-  tally-none = record {
-    runs = [];
-    each = tt;
-    long = length-replicate (link_count net.graph) 0;
-    counted = λ l lt. get_or-replicate (link_count net.graph) l 0 0 lt;
-  }
+-- packets behind others
+pub adds-join : (net : Net) (ps qs : List Packet) (before mid after : List ℕ) → AddsPackets net ps before mid → AddsPackets net qs mid after → AddsPackets net (ps ++ qs) before after
+adds-join net ps qs before mid after one two = record {
+  runs = one.runs ++ two.runs;
+  are = zip_append (IsShortRun net) ps qs one.runs two.runs one.are two.are;
+  long = two.long ∙ one.long;
+  each = λ l lt fits.
+      let first : slice_index mid l ≡ (slice_index before l + all_crossings l one.runs) % 2 ^ 64 = one.each l lt fits in
+      let next : slice_index after l ≡ (slice_index mid l + all_crossings l two.runs) % 2 ^ 64 = two.each l (omega (arith, lt, one.long)) (wraps-below _ _ first) in
+      wraps-twice (slice_index before l) (all_crossings l one.runs) (all_crossings l two.runs) (slice_index mid l) (slice_index after l) first next
+      ∙ ap (λ (n : ℕ). (slice_index before l + n) % 2 ^ 64) (sym (all_crossings-append l one.runs two.runs));
+}
 
-  -- one packet more
-  pub tally-push : (taken : List ℕ) (i : ℕ) (links counts after : List ℕ) → IsTally net packets taken counts → IsRunOf net packets i links → AddsRun links counts after → IsTally net packets (taken ++ i ∷ []) after
-  tally-push taken i links counts after tally run adds = record {
-    runs = tally.runs ++ links ∷ [];
-    each = zip-append (IsRunOf net packets) taken (i ∷ []) tally.runs (links ∷ []) tally.each (run, tt);
-    long = adds.long ∙ tally.long;
-    counted = λ l lt.
-        let was = tally.counted l lt in
-        let now : slice_index after l ≡ (slice_index counts l + crossings l links) % 2 ^ 64 = adds.each l (omega (arith, lt, tally.long)) (wraps-below _ _ was) in
-        let more : all_crossings l (tally.runs ++ links ∷ []) ≡ all_crossings l tally.runs + crossings l links = omega (arith, all_crossings-append l tally.runs (links ∷ [])) in
-        now ∙ (ap (λ (n : ℕ). (n + crossings l links) % 2 ^ 64) was ∙ (mod-add-mod (all_crossings l tally.runs) (2 ^ 64) (crossings l links) ∙ ap (λ (n : ℕ). n % 2 ^ 64) (sym more)));
-  }
+adds-one : (net : Net) (p : Packet) (before after : List ℕ) → AddsPacket net p before after → AddsPackets net (p ∷ []) before after
+adds-one net p before after adds = record {
+  runs = adds.0 ∷ [];
+  are = (adds.1, tt);
+  long = adds.2.long;
+  each = λ l lt fits.
+      let sum : crossings l adds.0 ≡ all_crossings l (adds.0 ∷ []) = omega arith in
+      adds.2.each l lt fits ∙ ap (λ (n : ℕ). (slice_index before l + n) % 2 ^ 64) sum;
+}
+
+-- one packet more of a pair
+pub adds-choice : (net : Net) (q : Pair) (k : ℕ) (before mid after : List ℕ) → AddsPackets net (packets_between k q) before mid → AddsPacket net (packet q.from.0 q.to.0 k) mid after → AddsPackets net (packets_between (k + 1) q) before after
+adds-choice net q k before mid after one two =
+    subst (λ (ps : List Packet). AddsPackets net ps before after) (sym (map-range_with_len_more (packet q.from.0 q.to.0) 0 k k (omega arith)))
+    (adds-join net (packets_between k q) (packet q.from.0 q.to.0 k ∷ []) before mid after one (adds-one net (packet q.from.0 q.to.0 k) mid after two))
+
+-- one pair more
+pub adds-pair : (net : Net) (choices : ℕ) (pairs : List Pair) (i : ℕ) (d : Pair) (before mid after : List ℕ) → i < length pairs → AddsPackets net (packets_of choices (take i pairs)) before mid → AddsPackets net (packets_between choices (get_or pairs i d)) mid after → AddsPackets net (packets_of choices (take (i + 1) pairs)) before after
+adds-pair net choices pairs i d before mid after lt one two =
+    let q : Pair = get_or pairs i d in
+    subst (λ (ps : List Packet). AddsPackets net ps before after) (sym (ap (packets_of choices) (take_more pairs i d lt) ∙ packets-push choices (take i pairs) q))
+    (adds-join net (packets_of choices (take i pairs)) (packets_between choices q) before mid after one two)
+
+-- nothing counted
+abbrev pub zeros : Net → List ℕ
+zeros net = replicate (link_count net.graph) 0
+
+zeros-at : (net : Net) (l : ℕ) → l < link_count net.graph → slice_index (zeros net) l ≡ 0
+zeros-at net l lt = get_or-replicate (link_count net.graph) l 0 0 lt
+
+zeros-long : (net : Net) → length (zeros net) ≡ link_count net.graph
+zeros-long net = length-replicate (link_count net.graph) 0
+
+pub tally-long : (net : Net) (packets : List Packet) (counts : List ℕ) → IsTally net packets counts → length counts ≡ link_count net.graph
+tally-long net packets counts tally = tally.long ∙ zeros-long net
+
+from-none : (n : ℕ) → 0 + n ≡ n
+from-none n = omega arith
+
+pub tally-at : (net : Net) (packets : List Packet) (counts : List ℕ) (tally : IsTally net packets counts) (l : ℕ) → l < link_count net.graph → slice_index counts l ≡ all_crossings l tally.runs % 2 ^ 64
+tally-at net packets counts tally l lt =
+    let none = zeros-at net l lt in
+    tally.each l (omega (arith, lt, zeros-long net)) (omega (arith, none))
+    ∙ (ap (λ (n : ℕ). (n + all_crossings l tally.runs) % 2 ^ 64) none ∙ ap (λ (n : ℕ). n % 2 ^ 64) (from-none (all_crossings l tally.runs)))
 
 -- two tallies together
-pub tally-add : (net : Net) (packets : List Packet) (taken more counts other after : List ℕ) → IsTally net packets taken counts → IsTally net packets more other → AddsCounts other counts after → IsTally net packets (taken ++ more) after
-tally-add net packets taken more counts other after one two adds = record {
+pub tally-add : (net : Net) (packets more : List Packet) (counts other after : List ℕ) → IsTally net packets counts → IsTally net more other → AddsCounts other counts after → IsTally net (packets ++ more) after
+tally-add net packets more counts other after one two adds = record {
   runs = one.runs ++ two.runs;
-  each = zip-append (IsRunOf net packets) taken more one.runs two.runs one.each two.each;
+  are = zip_append (IsShortRun net) packets more one.runs two.runs one.are two.are;
   long = adds.long ∙ one.long;
-  counted = λ l lt.
-      let a = one.counted l lt in
-      let b = two.counted l lt in
-      let now : slice_index after l ≡ (slice_index counts l + slice_index other l) % 2 ^ 64 = adds.each l (omega (arith, lt, one.long)) in
+  each = λ l lt fits.
+      let within : l < link_count net.graph = omega (arith, lt, zeros-long net) in
+      let a = tally-at net packets counts one l within in
+      let b = tally-at net more other two l within in
+      let none = zeros-at net l within in
+      let long = tally-long net packets counts one in
+      let now : slice_index after l ≡ (slice_index counts l + slice_index other l) % 2 ^ 64 = adds.each l (omega (arith, within, long)) in
       now ∙ (ap (λ (n : ℕ). (n + slice_index other l) % 2 ^ 64) a
       ∙ (mod-add-mod (all_crossings l one.runs) (2 ^ 64) (slice_index other l)
       ∙ (ap (λ (n : ℕ). (all_crossings l one.runs + n) % 2 ^ 64) b
       ∙ (add-mod-mod (all_crossings l one.runs) (all_crossings l two.runs) (2 ^ 64)
-      ∙ ap (λ (n : ℕ). n % 2 ^ 64) (sym (all_crossings-append l one.runs two.runs))))));
+      ∙ (ap (λ (n : ℕ). n % 2 ^ 64) (sym (all_crossings-append l one.runs two.runs))
+      ∙ (ap (λ (n : ℕ). n % 2 ^ 64) (sym (from-none (all_crossings l (one.runs ++ two.runs))))
+      ∙ ap (λ (n : ℕ). (n + all_crossings l (one.runs ++ two.runs)) % 2 ^ 64) (sym none)))))));
 }
 
 -- whether y is x
@@ -152,18 +193,3 @@ adds-crossing before k x lt at = record {
       by : (b : Bool) → (k == l) ≡ b → mark l k ≡ 0
       by true e = absurd (apart (eqb-true k l e))
       by false e = ap (λ (b : Bool). cond b 1 0) e
-
--- one packet more of a batch
-pub batch-more : (net : Net) (packets : List Packet) (begin number : ℕ) (p : Packet) (counts after : List ℕ) → begin ≤ number → slice_get packets number ≡ Some p → IsTally net packets (range_with_len begin (number - begin)) counts → AddsPacket net p counts after → IsTally net packets (range_with_len begin (number + 1 - begin)) after
-batch-more net packets begin number p counts after le at tally adds =
-    let run : IsRunOf net packets number adds.0 = rw at adds.1 in
-    let pushed = tally-push net packets (range_with_len begin (number - begin)) number adds.0 counts after tally run adds.2 in
-    let next : number + 1 - begin ≡ suc (number - begin) = omega arith in
-    subst (λ (taken : List ℕ). IsTally net packets taken after)
-    (sym (ap (range_with_len begin) next ∙ range-push begin (number - begin) number (omega arith))) pushed
-
--- nothing is counted of a batch before its first packet
-pub tally-begins : (net : Net) (packets : List Packet) (begin : ℕ) (counts : List ℕ) → counts ≡ replicate (link_count net.graph) 0 → IsTally net packets (range_with_len begin (begin - begin)) counts
-tally-begins net packets begin counts is =
-    let none : begin - begin ≡ 0 = omega arith in
-    subst (λ (k : ℕ). IsTally net packets (range_with_len begin k) counts) (sym none) (subst (λ (cs : List ℕ). IsTally net packets [] cs) (sym is) (tally-none net packets))

@@ -1,56 +1,55 @@
-//! Packets in batches.
-ghost use Rattle.std.specs.Prelude.{◌≡◌, ◌+◌, ◌-◌, ◌*◌, ◌<◌, ◌≤◌, length, IfOk};
+//! Pairs in batches.
+ghost use Rattle.std.specs.Prelude.{◌≡◌, ◌*◌, ◌<◌, ◌≤◌, length};
+ghost use Rattle.sr_model.specs.Graph.{link_count};
 ghost use Rattle.sr_spf.specs.Trees.{AreTrees};
-ghost use Rattle.sr_loads.specs.Tally.{GoBetweenPeers, IsBatchTally};
-ghost use Rattle.sr_loads.specs.declared.batch.TheConstants.{BATCH};
-ghost use Rattle.sr_loads.specs.declared.packets.TheConstants.{MOST_PACKETS};
+ghost use Rattle.sr_loads.specs.Packets.{packets_of};
+ghost use Rattle.sr_loads.specs.Tally.{GoBetweenPeers, AddsPackets, batch_pairs};
+ghost use Rattle.sr_loads.specs.declared.batch.TheConstants.{BATCH_PAIRS};
+ghost use Rattle.sr_loads.specs.declared.pairs.TheConstants.{MOST_PAIRS};
 
-use crate::counts::zeros;
-use crate::forwarding::forward;
-use crate::packet::Packet;
+use crate::counted::MOST_CHOICES;
+use crate::forwarding::forward_pair;
+use crate::packet::Pair;
 use sr_labels::Net;
 use sr_spf::Trees;
-use std::alloc::{AllocError, Global};
 
 /// The most packets of a batch (this project's rule).
 const BATCH: usize = 4096;
 
-/// How many batches this many packets make. One is there even where there is no packet.
-pub(crate) fn batch_count(packets: usize) -> u32
-    requires { packets ≤ MOST_PACKETS }
-    ensures { (0 < result) × (packets ≤ result * BATCH) }
+/// The most pairs of a batch, so that there are no more packets between them than that.
+const BATCH_PAIRS: usize = BATCH / MOST_CHOICES as usize;
+
+/// How many batches this many pairs make. One is there even where there is no pair.
+pub(crate) fn batch_count(pairs: usize) -> u32
+    requires { pairs ≤ MOST_PAIRS }
+    ensures { (0 < result) × (pairs ≤ result * BATCH_PAIRS) }
 {
-    (packets / BATCH + 1) as u32
+    (pairs / BATCH_PAIRS + 1) as u32
 }
 
-/// Where a batch that begins here ends: after so many packets, or with the last one.
-fn end_of(begin: usize, count: usize) -> usize
-    ensures { result ≡ count - (count - (begin + BATCH)) }
+/// The pairs of a batch: the next ones, or those that are left.
+pub(crate) fn batch_of(pairs: &[Pair], batch: u32) -> &[Pair]
+    ensures { result.now ≡ batch_pairs pairs.now batch }
 {
-    if count.saturating_sub(begin) < BATCH {
-        count
-    } else {
-        begin + BATCH
-    }
+    let begin = (batch as usize * BATCH_PAIRS).min(pairs.len());
+    let count = BATCH_PAIRS.min(pairs.len() - begin);
+    &pairs[begin..begin + count]
 }
 
-/// Forwards the packets of a batch, and counts the links that they cross.
-pub(crate) fn forward_batch(
-    alloc: Global,
+/// Forwards the packets between these pairs, and counts the links that they cross.
+pub(crate) fn forward_pairs(
     net: &Net,
     trees: &Trees,
-    packets: &[Packet],
-    batch: u32,
-) -> Result<Vec<u64>, AllocError>
+    pairs: &[Pair],
+    choices: u32,
+    counts: &mut Vec<u64>,
+)
     requires trees { AreTrees net.now.graph trees.now }
-    requires packets { GoBetweenPeers net.now packets.now }
-    ensures { IfOk result (λ counts. IsBatchTally net.now packets.now batch counts.items) }
+    requires pairs { GoBetweenPeers net.now pairs.now }
+    requires counts { length counts.old.items ≡ link_count net.now.graph }
+    ensures { AddsPackets net.now (packets_of choices pairs.now) counts.old.items counts.new.items }
 {
-    let begin = batch as usize * BATCH;
-    let end = end_of(begin, packets.len());
-    let mut counts = zeros(alloc, net)?;
-    for number in begin..end {
-        forward(net, trees, packets[number], &mut counts);
+    for pair in pairs {
+        forward_pair(net, trees, *pair, choices, counts);
     }
-    Ok(counts)
 }

@@ -6,13 +6,12 @@ ghost use Rattle.sr_loads.specs.Loads.{IsLoads};
 ghost use Rattle.sr_loads.specs.Queue.{holding, all_parts, KnowsAll};
 ghost use Rattle.sr_loads.specs.Tally.{IsTallyOfAll};
 ghost use Rattle.sr_loads.specs.Forwarders.{Tally as Tallied, GoesOn, IsOneOf};
-ghost use Rattle.sr_loads.specs.declared.packets.TheConstants.{MOST_PACKETS};
+ghost use Rattle.sr_loads.specs.declared.pairs.TheConstants.{MOST_PAIRS};
 ghost use Rattle.sr_loads.specs.declared.counted.TheConstants.{MOST_FORWARDERS, MOST_CHOICES};
 
 use crate::batch::batch_count;
 use crate::counted::Loads;
-use crate::counts::add;
-use crate::packets::packets_of;
+use crate::pairs::pairs_of;
 use crate::queue::{BatchQueue, Hand, Parting, Taking, queue_of};
 use crate::tally::Tally;
 use crate::traffic::Traffic;
@@ -26,25 +25,20 @@ use std::thread::Threads;
 
 /// Goes on from a tally: takes batches until the queue is empty, and forwards their packets. The pass with all parts then
 /// knows that it took each batch that it pushed.
-fn forward_on<'a, R: Wait>(
-    rt: &R,
-    alloc: Global,
-    queue: &BatchQueue,
-    tally: Tally<'a>,
-) -> Result<Tally<'a>, AllocError>
+fn forward_on<'a, R: Wait>(rt: &R, queue: &BatchQueue, tally: Tally<'a>) -> Tally<'a>
     requires queue { IsPassOf queue.now tally.pass }
     requires part { 0 < (view tally.pass).parts }
-    ensures queue { IfOk result (λ s. IsPassOf queue.now s.pass) }
-    ensures on { IfOk result (GoesOn tally.entry) }
-    ensures empty { IfOk result (λ s. KnowsAll (view s.pass) []) }
+    ensures queue { IsPassOf queue.now result.pass }
+    ensures on { GoesOn tally.entry result }
+    ensures empty { KnowsAll (view result.pass) [] }
 {
     let traffic = tally.traffic;
     let mut pass = tally.pass;
     let mut counts = tally.counts;
     for _ in rt.forever() {
         match queue.pop_as::<Taking, R>(rt, &mut pass) {
-            Some(batch) => add(&mut counts, &traffic.forward_batch(alloc, batch)?),
-            None => return Ok(Tally::new(traffic, pass, counts)),
+            Some(batch) => traffic.forward_batch(batch, &mut counts),
+            None => return Tally::new(traffic, pass, counts),
         }
     }
     unreachable!()
@@ -74,27 +68,19 @@ fn tallies_of<'a>(
 }
 
 /// What the forwarders did, together with the caller's tally.
-fn gathered<'a>(
-    queue: &BatchQueue,
-    mine: Tally<'a>,
-    others: Vec<Result<Tally<'a>, AllocError>>,
-) -> Result<Tally<'a>, AllocError>
+fn gathered<'a>(queue: &BatchQueue, mine: Tally<'a>, others: Vec<Tally<'a>>) -> Tally<'a>
     requires queue { IsPassOf queue.now mine.pass }
     requires parts { (0 < (view mine.pass).parts) × ((view mine.pass).parts + vec_len others ≡ all_parts) }
-    requires others { All (λ r. IfOk r
-        (λ (s : Tallied). IsPassOf queue.now s.pass × IsOneOf mine.traffic s)) others.items }
-    ensures queue { IfOk result (λ s. IsPassOf queue.now s.pass × (s.traffic ≡ mine.entry.traffic)) }
-    ensures hand { IfOk result (λ s. ((view s.pass).parts ≡ all_parts)
-        × ((view s.pass).pushed ≡ (view mine.entry.pass).pushed)) }
+    requires others { All (λ (s : Tallied). IsPassOf queue.now s.pass × IsOneOf mine.traffic s) others.items }
+    ensures queue { IsPassOf queue.now result.pass × (result.traffic ≡ mine.entry.traffic) }
+    ensures hand { ((view result.pass).parts ≡ all_parts)
+        × ((view result.pass).pushed ≡ (view mine.entry.pass).pushed) }
 {
     let mut all = mine;
     for other in others {
-        match other {
-            Ok(other) => all = all.with(queue, other),
-            Err(refused) => return Err(refused),
-        }
+        all = all.with(queue, other);
     }
-    Ok(all)
+    all
 }
 
 /// Forwards all packets. All batches are in the queue before a forwarder begins. Each forwarder takes batches until the
@@ -106,16 +92,16 @@ fn forward_all<R: Threads + Wait + Sync>(
     traffic: &Traffic,
     forwarders: u32,
 ) -> Result<Vec<u64>, AllocError>
-    requires few { length traffic.now.packets ≤ MOST_PACKETS }
+    requires few { length traffic.now.pairs ≤ MOST_PAIRS }
     requires forwarders { forwarders ≤ MOST_FORWARDERS }
     ensures { IfOk result (λ counts. IsTallyOfAll traffic.now counts.items) }
 {
     let batches = batch_count(traffic.len());
     let (queue, mut pass) = queue_of(rt, alloc, batches)?;
     let tallies = tallies_of(alloc, traffic, &queue, &mut pass, forwarders.min(batches))?;
-    let others = thread::map_vec(rt, tallies, &|tally| forward_on(rt, alloc, &queue, tally))?;
-    let mine = gathered(&queue, Tally::empty(alloc, traffic, pass)?, others)?;
-    Ok(forward_on(rt, alloc, &queue, mine)?.counts)
+    let others = thread::map_vec(rt, tallies, &|tally| forward_on(rt, &queue, tally))?;
+    let mine = gathered(&queue, Tally::empty(alloc, traffic, pass)?, others);
+    Ok(forward_on(rt, &queue, mine).counts)
 }
 
 /// How often the packets of the net cross each link, no link being closed: one packet for each two nodes between which
@@ -136,8 +122,8 @@ pub fn loads<R: Threads + Wait + Sync>(
 {
     // Tells the proof what each net keeps, as the rules on its labels.
     let _graph = net.graph();
-    let packets = packets_of(alloc, net, trees, choices)?;
-    let traffic = Traffic::new(net, trees, &packets);
+    let pairs = pairs_of(alloc, net, trees)?;
+    let traffic = Traffic::new(net, trees, &pairs, choices);
     let counts = forward_all(rt, alloc, &traffic, forwarders)?;
-    Ok(Loads::new(packets.len() as u64, counts))
+    Ok(Loads::new(pairs.len() as u64 * choices as u64, counts))
 }

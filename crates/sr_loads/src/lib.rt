@@ -8,7 +8,7 @@ mod forwarders;
 mod forwarding;
 mod laws;
 mod packet;
-mod packets;
+mod pairs;
 mod queue;
 mod tally;
 #[cfg(test)]

@@ -2,23 +2,24 @@
 ghost use Rattle.std.specs.Prelude.{◌≡◌, length, replicate, IfOk};
 ghost use Rattle.sr_model.specs.Graph.{link_count};
 ghost use Rattle.sr_spf.specs.Trees.{AreTrees};
-ghost use Rattle.sr_loads.specs.Tally.{GoBetweenPeers, IsBatchTally};
+ghost use Rattle.sr_loads.specs.Tally.{GoBetweenPeers, AddsPackets, batch_packets};
 
-use crate::batch::forward_batch;
+use crate::batch::{batch_of, forward_pairs};
 use crate::counts::zeros;
-use crate::packet::Packet;
+use crate::packet::Pair;
 use sr_labels::Net;
 use sr_spf::Trees;
 use std::alloc::{AllocError, Global};
 use std::marker::Model;
 
-/// The packets of a net, each of which goes between nodes that have a distance, with the net's trees. Forwarders share
-/// it.
+/// The pairs of a net between which packets go, each of which has a distance, and how many choice numbers they have, with
+/// the net's trees. Forwarders share it.
 #[derive(Drop)]
 pub(crate) struct Traffic<'a> {
     net: &'a Net,
     trees: &'a Trees,
-    packets: &'a [Packet],
+    pairs: &'a [Pair],
+    choices: u32,
 }
 
 impl<'a> Model for Traffic<'a> {
@@ -27,30 +28,36 @@ impl<'a> Model for Traffic<'a> {
 
     ghost Value = { Traffic };
 
-    ghost view = { λ t. record { net = t.net.now; packets = t.packets.now } };
+    ghost view = { λ t. record { net = t.net.now; pairs = t.pairs.now; choices = t.choices } };
 
-    ghost invariant = { λ t. AreTrees t.net.now.graph t.trees.now × GoBetweenPeers t.net.now t.packets.now };
+    ghost invariant = { λ t. AreTrees t.net.now.graph t.trees.now × GoBetweenPeers t.net.now t.pairs.now };
 }
 
 impl<'a> Traffic<'a> {
-    /// The traffic of these packets.
-    pub(crate) fn new(net: &'a Net, trees: &'a Trees, packets: &'a [Packet]) -> Traffic<'a>
+    /// The traffic between these pairs, with this many choice numbers.
+    pub(crate) fn new(
+        net: &'a Net,
+        trees: &'a Trees,
+        pairs: &'a [Pair],
+        choices: u32,
+    ) -> Traffic<'a>
         requires trees { AreTrees net.now.graph trees.now }
-        requires packets { GoBetweenPeers net.now packets.now }
-        ensures { result ≡ record { net = net.now; packets = packets.now } }
+        requires pairs { GoBetweenPeers net.now pairs.now }
+        ensures { result ≡ record { net = net.now; pairs = pairs.now; choices = choices } }
     {
         Traffic {
             net,
             trees,
-            packets,
+            pairs,
+            choices,
         }
     }
 
-    /// How many packets there are.
+    /// How many pairs there are.
     pub(crate) fn len(&self) -> usize
-        ensures { result ≡ length self.now.packets }
+        ensures { result ≡ length self.now.pairs }
     {
-        self.packets.len()
+        self.pairs.len()
     }
 
     /// Nothing counted for each link of the net.
@@ -61,9 +68,11 @@ impl<'a> Traffic<'a> {
     }
 
     /// Forwards the packets of a batch, and counts the links that they cross.
-    pub(crate) fn forward_batch(&self, alloc: Global, batch: u32) -> Result<Vec<u64>, AllocError>
-        ensures { IfOk result (λ counts. IsBatchTally self.now.net self.now.packets batch counts.items) }
+    pub(crate) fn forward_batch(&self, batch: u32, counts: &mut Vec<u64>)
+        requires { length counts.old.items ≡ link_count self.now.net.graph }
+        ensures { AddsPackets self.now.net (batch_packets self.now batch) counts.old.items counts.new.items }
     {
-        forward_batch(alloc, self.net, self.trees, self.packets, batch)
+        let pairs = batch_of(self.pairs, batch);
+        forward_pairs(self.net, self.trees, pairs, self.choices, counts);
     }
 }

@@ -1,7 +1,6 @@
-use Rattle.std.proofs.Common.{◌∙◌, ◌∷◌, ◌++◌, All, IfOk, List, ℕ, Result, append-nil, ap, length, subst, arith}
+use Rattle.std.proofs.Common.{◌∙◌, ◌∷◌, ◌++◌, All, List, ℕ, append-nil, ap, length, subst, arith}
 use Rattle.std.proofs.lemmas.List.Elements.{All-head, All-tail}
 use Rattle.crossbeam_queue.specs.Passes.{view, IsPassOf}
-use Rattle.std.specs.declared.alloc.AllocError.{AllocError}
 use Rattle.sr_loads.specs.Forwarders.{Tally, IsOneOf}
 use Rattle.sr_loads.proofs.forwarders.gathered.Goals as goal
 
@@ -10,9 +9,9 @@ loop-other-preserved c =
     let was = c.loop-other.invariant in
     let mine = view c.loop-other.all.pass in
     let rest = c.next.new.self.rest.items in
-    let IsGood : Result Tally AllocError → Type 0 = λ r. IfOk r (λ (s : Tally). IsPassOf c.args.queue.now s.pass × IsOneOf c.args.mine.traffic s) in
+    let IsGood : Tally → Type 0 = λ s. IsPassOf c.args.queue.now s.pass × IsOneOf c.args.mine.traffic s in
     let all : All IsGood (c.in-Some.other ∷ rest) = subst (All IsGood) c.in-Some.ensures.steps.0 was.others in
-    let one = subst IsGood c.in-Ok.is (All-head IsGood c.in-Some.other rest all) in
+    let one = All-head IsGood c.in-Some.other rest all in
     let long = ap length c.in-Some.ensures.steps.0 in
     let hand = c.with-all.ensures.hand in
     let parts = ap (λ v. v.parts) hand in

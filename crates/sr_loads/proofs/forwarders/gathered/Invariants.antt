@@ -1,4 +1,4 @@
-use Rattle.std.proofs.Common.{◌≡◌, ◌+◌, ◌<◌, All, IfOk, length}
+use Rattle.std.proofs.Common.{◌≡◌, ◌+◌, ◌<◌, All, length}
 use Rattle.crossbeam_queue.specs.Passes.{view, IsPassOf}
 use Rattle.sr_loads.specs.Queue.{all_parts}
 use Rattle.sr_loads.specs.Forwarders.{Tally, IsOneOf}
@@ -12,5 +12,5 @@ invariant-loop-other l = record {
   parts : (view l.all.pass).parts + length l.other-iterator.rest.items ≡ all_parts;
   some : 0 < (view l.all.pass).parts;
   pushed : (view l.all.pass).pushed ≡ (view l.fn.mine.pass).pushed;
-  others : All (λ r. IfOk r (λ (s : Tally). IsPassOf l.queue s.pass × IsOneOf l.fn.mine.traffic s)) l.other-iterator.rest.items;
+  others : All (λ (s : Tally). IsPassOf l.queue s.pass × IsOneOf l.fn.mine.traffic s) l.other-iterator.rest.items;
 }

@@ -20,8 +20,8 @@ count-requires c =
     let hop = hops.each _ c.chosen_hop-link.result c.chosen_hop-link.ensures in
     omega (arith, hop.shortest.0.0, c.loop-turn.invariant.run.adds.long, c.requires.counts)
 
-pub link-requires : goal.link-requires
-link-requires c =
+pub edge-requires : goal.edge-requires
+edge-requires c =
     let hops = c.requires.trees.hops c.loop-turn.node.0 c.args.packet.to.0 c.loop-turn.invariant.run.within c.requires.packet.peers.to in
     let hop = hops.each _ c.chosen_hop-link.result c.chosen_hop-link.ensures in
     rw c.graph-graph.ensures.value hop.shortest.0.0
@@ -29,8 +29,8 @@ link-requires c =
 pub loop-turn-preserved : goal.loop-turn-preserved
 loop-turn-preserved c =
     let away : c.loop-turn.node.0 ≢ c.args.packet.to.0 = (λ e. let ne = c.if-node-packet.false in omega (arith, e, ne)) in
-    let end : c.link.result.to.0 ≡ head c.args.net.now.graph c.chosen_hop-link.result.0 =
-    ap (λ k. k.to.0) c.link.ensures.link ∙ ap (λ (g : Graph). head g c.chosen_hop-link.result.0) c.graph-graph.ensures.value in
+    let end : c.edge.result.to.0 ≡ head c.args.net.now.graph c.chosen_hop-link.result.0 =
+    c.edge.ensures.to ∙ ap (λ (g : Graph). head g c.chosen_hop-link.result.0) c.graph-graph.ensures.value in
     rw end
     (forwarded-more c.args.net.now c.graph-graph.ensures.net c.args.packet c.requires.packet c.args.counts.now.items c.loop-turn.turn c.loop-turn.counts.items c.loop-turn.node.0 c.loop-turn.invariant
     (hops_at c.args.trees.now c.loop-turn.node.0 c.args.packet.to.0) c.chosen_hop-link.result c.count.new.counts.items away
