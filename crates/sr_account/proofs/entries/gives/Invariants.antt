@@ -1,0 +1,9 @@
+-- none so far gives the label
+use Rattle.std.proofs.Common.{◌≡◌, ℕ, ◌<◌, Some}
+use Rattle.std.specs.Prelude.{slice_get}
+use Rattle.sr_subtlv.specs.declared.adj_sid.AdjSid.{AdjSid}
+use Rattle.sr_account.specs.Reasons.{GivesLabel}
+use Rattle.sr_account.proofs.entries.gives.Given as goal
+
+abbrev pub invariant-loop-sid : goal.invariant-loop-sid
+invariant-loop-sid l = (j : ℕ) (other : AdjSid) → j < l.sid-index → slice_get l.sids j ≡ Some other → GivesLabel l.backup other l.label → ⊥

@@ -1,0 +1,5 @@
+use Rattle.sr_account.proofs.SourceLaw.{put-given}
+use Rattle.sr_account.proofs.sources.put.Goals as goal
+
+pub returns-in-Reach : goal.returns-in-Reach
+returns-in-Reach c = put-given c.args.facts.now c.args.graph.now c.args.node c.args.part.now c.in-Some.link.0 c.args.sources.now c.source_of.result c.requires.named c.requires.long c.in-Some.ensures (c.in-Reach.reach, c.in-Reach.is, c.source_of.ensures)
