@@ -3,5 +3,7 @@
 #![tactic(auto)]
 
 mod lines;
+mod wanted;
 
 pub use lines::put_case;
+pub use wanted::{Wanted, put_wanted};

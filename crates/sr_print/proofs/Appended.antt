@@ -13,6 +13,10 @@ three_pieces old one two three a b c p q r = two_pieces old two three (a ++ b) c
 pub begins-longer : (old one two a : List ℕ) → one ≡ old ++ a → BeginsWith one two → BeginsWith old two
 begins-longer old one two a p b = (a ++ b.0, b.1 ∙ ap (λ xs. xs ++ b.0) p ∙ append_assoc old a b.0)
 
+-- also behind two pieces
+pub begins-behind : (old one two a b : List ℕ) → one ≡ old ++ a ++ b → BeginsWith one two → BeginsWith old two
+begins-behind old one two a b p begins = begins-longer old one two (a ++ b) (p ∙ append_assoc old a b) begins
+
 pub on_err : {T E P : Type 0} (r : Result T E) → P → OnErr r P
 on_err (Ok t) p = tt
 on_err (Err e) p = p

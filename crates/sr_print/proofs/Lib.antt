@@ -1,8 +1,11 @@
 pub mod Appended
+pub mod Begun
 pub mod Certified
 pub mod Items
 pub mod Labelled
+pub mod Letters
 pub mod Members
+pub mod Opposite
 pub mod Places
 pub mod Routes
 pub mod Texts

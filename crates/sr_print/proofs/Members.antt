@@ -1,12 +1,9 @@
--- The nodes of a set, and the links of a load, one by one.
+-- The nodes of a set, and lines of numbers, one by one.
 use Rattle.std.proofs.Common.{◌≡◌, ℕ, zero, suc, ◌+◌, Bool, true, false, cond, List, [], ◌∷◌, ◌++◌, refl, arith, ap, sym, ◌∙◌, append-nil}
 use Rattle.std.specs.List.{filter, flat_map, range_with_len}
-use Rattle.std.specs.Prelude.{slice_index}
 use Rattle.std.proofs.lemmas.List.Elements.{filter-append}
 use Rattle.std.proofs.lemmas.Grind.{flat_map-append}
 use Rattle.sr_model.specs.Graph.{Graph, system_at, has}
-use Rattle.sr_model.specs.Label.{Net}
-use Rattle.sr_print.specs.Loads.{load_line, load_lines}
 use Rattle.sr_print.specs.Printed.{node_word}
 use Rattle.sr_print.specs.Spaces.{node_words}
 
@@ -34,9 +31,8 @@ members-more g set v =
     let more : filter (has set) (range_with_len 0 (v + 1)) ≡ before ++ cond (has set v) (v ∷ []) [] = ap (filter (has set)) (range-next v) ∙ filter-append (has set) (range_with_len 0 v) (v ∷ []) in
     sym (ap (flat_map word) more ∙ flat_map-append word before (cond (has set v) (v ∷ []) []) ∙ ap (λ t. flat_map word before ++ t) (words-one g (has set v) v))
 
--- one link more has one line more
-pub loads-more : (n : Net) (counts : List ℕ) (l : ℕ) → load_lines n counts l ++ load_line n l (slice_index counts l) ≡ load_lines n counts (l + 1)
-loads-more n counts l =
-    let line = λ (k : ℕ). load_line n k (slice_index counts k) in
-    let before = flat_map line (range_with_len 0 l) in
-    sym (ap (flat_map line) (range-next l) ∙ flat_map-append line (range_with_len 0 l) (l ∷ []) ∙ ap (λ t. before ++ t) (append-nil (line l)))
+-- one number more has one line more
+pub lines-more : (line : ℕ → List ℕ) (k : ℕ) → flat_map line (range_with_len 0 k) ++ line k ≡ flat_map line (range_with_len 0 (k + 1))
+lines-more line k =
+    let before = flat_map line (range_with_len 0 k) in
+    sym (ap (flat_map line) (range-next k) ∙ flat_map-append line (range_with_len 0 k) (k ∷ []) ∙ ap (λ t. before ++ t) (append-nil (line k)))

@@ -6,6 +6,7 @@ use Rattle.std.proofs.lemmas.Option.{slice_get-get_or}
 use Rattle.sr_model.specs.declared.link.LinkNo.{LinkNo}
 use Rattle.sr_model.specs.declared.entry.Entry.{Entry}
 use Rattle.sr_model.specs.declared.entry.Entry.TheVariants.{Own, Null, Adj, Node}
+use Rattle.sr_model.specs.declared.audit.Item.{Item}
 use Rattle.sr_model.specs.declared.case.Case.{Case}
 use Rattle.sr_model.specs.declared.repair.Segment.{Segment}
 use Rattle.sr_model.specs.declared.repair.Segment.TheVariants.{Node as NodeSegment, Adj as AdjSegment}
@@ -21,8 +22,12 @@ use Rattle.sr_fib.specs.Entries.{numbers}
 use Rattle.sr_adjprot.specs.declared.answer.AdjAnswer.{AdjAnswer}
 use Rattle.sr_adjprot.specs.declared.answer.AdjAnswer.TheVariants.{Unprotected, NoIndex, Steer, Repair, Uncovered}
 use Rattle.sr_adjprot.specs.Active.{IsAdjAnswer, adj_case}
+use Rattle.sr_insight.specs.declared.group.Group.{Group}
+use Rattle.sr_insight.specs.declared.grouping.Grouping.{Grouping}
+use Rattle.sr_insight.specs.Groups.{AreGroups}
 use Rattle.sr_print.specs.Adjacencies.{IsActiveWithin}
 use Rattle.sr_print.specs.Forwarding.{IsEntryWithin}
+use Rattle.sr_print.specs.Insight.{AreGroupsWithin}
 use Rattle.sr_print.specs.Links.{AreLinks}
 use Rattle.sr_print.specs.Repairs.{IsSegment, AreSegments, IsAnswerWithin}
 
@@ -78,3 +83,7 @@ active-within n eligible l NoIndex is = tt
 active-within n eligible l (Steer label cost) is = tt
 active-within n eligible l (Repair list labels) is = answer-within n (adj_case l) (head n.graph l.0) (Least list) is.1.answer_is
 active-within n eligible l (Uncovered answer) is = is.2
+
+-- the groups of an audit are those of kinds, nodes or links of the graph
+pub groups-within : (grouping : Grouping) (g : Graph) (items : List Item) (groups : List Group) → AreGroups grouping g items groups → AreGroupsWithin grouping g groups
+groups-within grouping g items groups are = λ k d lt. (are.each k (get_or groups k d) (slice_get-get_or groups k d lt)).0

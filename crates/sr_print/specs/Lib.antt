@@ -10,4 +10,6 @@ pub mod Adjacencies
 pub mod Certificates
 pub mod Work
 pub mod Loads
+pub mod Account
+pub mod Insight
 pub mod Told

@@ -13,6 +13,11 @@ use Rattle.sr_model.specs.Label.{Net}
 use Rattle.sr_repair.specs.Version.{NumberedNet}
 use Rattle.sr_adjprot.specs.declared.answer.AdjAnswer.{AdjAnswer}
 use Rattle.sr_adjprot.specs.declared.answer.BackupLabel.{BackupLabel}
+use Rattle.sr_account.specs.declared.aside.Aside.{Aside}
+use Rattle.sr_account.specs.declared.sources.LinkSource.{LinkSource}
+use Rattle.sr_insight.specs.declared.group.Group.{Group}
+use Rattle.sr_insight.specs.declared.grouping.Grouping.{Grouping}
+use Rattle.sr_insight.specs.declared.stack_count.StackCount.{StackCount}
 use Rattle.sr_cert.specs.declared.certificate.Certificate.{Certificate}
 use Rattle.sr_cert.specs.declared.clause.Verdict.{Verdict}
 use Rattle.sr_loads.specs.Loads.{LinkLoads}
@@ -24,6 +29,8 @@ use Rattle.sr_print.specs.Repairs.{repair_line, uncovered_walk_line, item_lines,
 use Rattle.sr_print.specs.Adjacencies.{adjrepair_line, adjbackup_line}
 use Rattle.sr_print.specs.Loads.{loads_text}
 use Rattle.sr_print.specs.Certificates.{certificate_lines, prove_uncovered_line, proof_line, verdict_line}
+use Rattle.sr_print.specs.Account.{nodes_text, links_text, asides_text}
+use Rattle.sr_print.specs.Insight.{coverage_lines, stack_lines, repairs_line}
 use Rattle.sr_print.specs.Refused.{refused_line}
 use Rattle.sr_print.specs.Work.{hold_line, watch_line, report_lines, joined_line}
 
@@ -43,7 +50,10 @@ pub record Shown : Type 0 where
 -- why there is no repair of which there could be one; how many lines of a certificate are kept; what is decided of it;
 -- how many answers of each sort the audit of a version has; that audit; the version of a hold; the watchers of a watch,
 -- the rounds of each, and the version that it began with; the reports of background work; what is shown; the other
--- label of a link that may be protected, with what is done under it, where there is one; or why the line is refused
+-- label of a link that may be protected, with what is done under it, where there is one; the nodes of a net; its links,
+-- with what is announced of each; what isn't used of the facts; how much of the audit of a version is covered, in groups;
+-- how many labels its repairs push, with its counts; the answers of a case for all that it affects; or why the line is
+-- refused
 pub data Told : Type 0 where
   Nothing : Told
   Staged : ℕ → Told
@@ -69,6 +79,12 @@ pub data Told : Type 0 where
   Joined : List RoundReport → Told
   Show : Shown → Told
   AdjBackup : Net → LinkNo → Option BackupLabel → Told
+  Nodes : Net → Told
+  Links : Net → List LinkSource → Told
+  Asides : List Aside → Told
+  Coverage : NumberedNet → Grouping → List Group → Counts → Told
+  Stacks : ℕ → List StackCount → Counts → Told
+  Repairs : Net → List Item → Told
   Refused : Refusal → Told
 
 -- how it is spelled; the number of the line stands in a refusal alone
@@ -98,6 +114,13 @@ spelled number (Watch watchers rounds version) = watch_line watchers rounds vers
 spelled number (Joined reports) = report_lines reports ++ joined_line (length reports)
 spelled number (Show shown) = show_line shown.version shown.nodes shown.links shown.depth shown.staged
 spelled number (AdjBackup net link found) = adjbackup_line net link found
+spelled number (Nodes net) = nodes_text net
+spelled number (Links net sources) = links_text net sources
+spelled number (Asides asides) = asides_text asides
+spelled number (Coverage version grouping groups counts) =
+    coverage_lines version.net grouping groups ++ summary_line version.number counts
+spelled number (Stacks version stacks counts) = stack_lines stacks ++ summary_line version counts
+spelled number (Repairs net items) = item_lines net items ++ repairs_line (counts_of items)
 spelled number (Refused reason) = refused_line number reason
 
 -- whether it is a refusal
@@ -126,4 +149,10 @@ is_refusal (Watch watchers rounds version) = false
 is_refusal (Joined reports) = false
 is_refusal (Show shown) = false
 is_refusal (AdjBackup net link found) = false
+is_refusal (Nodes net) = false
+is_refusal (Links net sources) = false
+is_refusal (Asides asides) = false
+is_refusal (Coverage version grouping groups counts) = false
+is_refusal (Stacks version stacks counts) = false
+is_refusal (Repairs net items) = false
 is_refusal (Refused reason) = true

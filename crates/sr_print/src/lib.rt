@@ -2,11 +2,16 @@
 //! part of its line may stand there, and what stood before stays.
 #![tactic(auto)]
 
+mod account;
+mod address;
 mod adjacency;
 mod answers;
+mod aside;
 mod audit;
 mod certificate;
+mod flags;
 mod forwarding;
+mod insight;
 mod line;
 mod link;
 mod load;
@@ -22,11 +27,14 @@ mod walk;
 mod way;
 mod work;
 
+pub use account::{put_links, put_nodes};
 pub use adjacency::{put_adjbackup, put_adjrepair};
 pub use answers::put_answers;
+pub use aside::put_asides;
 pub use audit::put_summary;
 pub use certificate::{put_certificate, put_proof, put_unproved, put_verdict};
 pub use forwarding::{put_label, put_next};
+pub use insight::{put_coverage, put_repair_counts, put_stacks};
 pub use line::{put_dist, put_dropped, put_show, put_staged, put_version};
 pub use load::put_loads;
 pub use names::Names;

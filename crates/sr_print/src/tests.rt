@@ -5,21 +5,29 @@ ghost use Rattle.sr_model.specs.Graph.{node_count};
 ghost use Rattle.sr_model.specs.Rule.{AreAnnounced};
 ghost use Rattle.sr_graph.specs.Draft.{IsDraft};
 ghost use Rattle.sr_cert.specs.Verdict.{IsWithinNet};
+ghost use Rattle.sr_insight.specs.Groups.{group_count};
 
+use crate::account::{put_groups, put_ident};
+use crate::flags::put_sid_flags;
 use crate::refusal::Refusal;
 use crate::{
-    put_certificate, put_dist, put_dropped, put_hold, put_joined, put_proof, put_refused,
-    put_report, put_show, put_staged, put_summary, put_unproved, put_verdict, put_version,
+    put_asides, put_certificate, put_coverage, put_dist, put_dropped, put_hold, put_joined,
+    put_links, put_nodes, put_proof, put_refused, put_repair_counts, put_report, put_show,
+    put_stacks, put_staged, put_summary, put_unproved, put_verdict, put_version,
     put_walk_uncovered, put_watch,
 };
+use sr_account::{Aside, LinkSource, Matter, Place, Reason};
 use sr_cert::{Certificate, Clause, Verdict};
 use sr_graph::{Draft, DraftLink, Graph};
+use sr_insight::{Group, Grouping, StackCount};
 use sr_labels::{Net, NodeLabels, Srgb, first_clash};
+use sr_lsp::LspId;
 use sr_model::{
     Answer, Case, Counts, DomainRule, FAR, Ident, Kind, LinkKey, LinkNo, NodeNo, Range,
     RoundReport, Segment, SystemId, WatchRound,
 };
 use sr_seq::Seq;
+use sr_subtlv::Sid;
 use std::alloc::{AllocError, Global};
 use std::test::Fail;
 
@@ -237,15 +245,27 @@ fn ring(alloc: Global) -> Result<Draft, AllocError>
     })
 }
 
-/// What a node announces that has this index, and the labels 16000 to 16099.
+/// What a node announces that has this index, and the labels 16000 to 16099 and 900: the flag P from index 1 on, the flag
+/// E from index 2 on, and from index 3 on how many labels it can impose.
 fn node(alloc: Global, index: u32) -> Result<NodeLabels, Fail> {
     let ranges = vec![in alloc;
         Range {
             first: 16000,
             size: 100
         },
+        Range {
+            first: 900,
+            size: 1
+        },
     ]?;
-    Ok(NodeLabels::new(Srgb::new(ranges)?, Some(index), false, false, None))
+    let imposes = if index > 2 { Some(10) } else { None };
+    Ok(NodeLabels::new(
+        Srgb::new(ranges)?,
+        Some(index),
+        index > 0,
+        index > 1,
+        imposes,
+    ))
 }
 
 /// What the nodes announce, each of which has its number as its index.
@@ -323,6 +343,216 @@ fn certificates_are_printed(rt: HostRuntime) -> Result<(), Fail> {
         proof row 0 3 2 1\n\
         proof row 1 - 1 0\n\
         proof done 16003 16002\n";
+    assert_eq!(rt; out.as_slice(), text.as_bytes());
+    Ok(())
+}
+
+#[test]
+fn nodes_are_printed(rt: HostRuntime) -> Result<(), Fail> {
+    let alloc = rt.alloc();
+    let mut graph = Graph::build(alloc, ring(alloc)?)?;
+    graph.mark(alloc, &[id(4)])?;
+    let net = net_of(alloc, graph)?.ok_or("labels clash")?;
+    let mut out = Vec::new(alloc);
+    put_nodes(&net, &mut out)?;
+    let text = "node 0000.0000.0001 index 0 flags none srgb 16000-16099,900-900 msd none links 2\n\
+        node 0000.0000.0002 index 1 flags P srgb 16000-16099,900-900 msd none links 2\n\
+        node 0000.0000.0003 index 2 flags PE srgb 16000-16099,900-900 msd none links 2\n\
+        node 0000.0000.0004 index 3 flags PEO srgb 16000-16099,900-900 msd 10 links 2\n\
+        nodes 4\n";
+    assert_eq!(rt; out.as_slice(), text.as_bytes());
+    Ok(())
+}
+
+#[test]
+fn links_are_printed(rt: HostRuntime) -> Result<(), Fail> {
+    let alloc = rt.alloc();
+    let net = net_of(alloc, Graph::build(alloc, ring(alloc)?)?)?.ok_or("labels clash")?;
+    let source = LinkSource {
+        metric: 7,
+        flags: Some(0x30),
+    };
+    let sources = vec![in alloc; source; net.graph().link_count() as usize]?;
+    let mut out = Vec::new(alloc);
+    put_links(&net, &sources, &mut out)?;
+    let text =
+        "link 0000.0000.0001>0000.0000.0002#1 back 0000.0000.0002>0000.0000.0001#1 metric 1 announced 7 label none flags VL ident none groups none\n\
+        link 0000.0000.0001>0000.0000.0004#1 back 0000.0000.0004>0000.0000.0001#1 metric 1 announced 7 label none flags VL ident none groups none\n\
+        link 0000.0000.0002>0000.0000.0001#1 back 0000.0000.0001>0000.0000.0002#1 metric 1 announced 7 label none flags VL ident none groups none\n\
+        link 0000.0000.0002>0000.0000.0003#1 back 0000.0000.0003>0000.0000.0002#1 metric 1 announced 7 label none flags VL ident none groups none\n\
+        link 0000.0000.0003>0000.0000.0002#1 back 0000.0000.0002>0000.0000.0003#1 metric 1 announced 7 label none flags VL ident none groups none\n\
+        link 0000.0000.0003>0000.0000.0004#1 back 0000.0000.0004>0000.0000.0003#1 metric 1 announced 7 label none flags VL ident none groups none\n\
+        link 0000.0000.0004>0000.0000.0001#1 back 0000.0000.0001>0000.0000.0004#1 metric 1 announced 7 label none flags VL ident none groups none\n\
+        link 0000.0000.0004>0000.0000.0003#1 back 0000.0000.0003>0000.0000.0004#1 metric 1 announced 7 label none flags VL ident none groups none\n\
+        links 8\n";
+    assert_eq!(rt; out.as_slice(), text.as_bytes());
+    Ok(())
+}
+
+#[test]
+fn parts_of_links_are_printed(rt: HostRuntime) -> Result<(), AllocError> {
+    let mut out = Vec::new(rt.alloc());
+    put_sid_flags(Some(0xfc), &mut out)?;
+    put_sid_flags(Some(0x43), &mut out)?;
+    put_sid_flags(Some(0x03), &mut out)?;
+    put_sid_flags(None, &mut out)?;
+    put_ident(Ident::Addr(0xc0a8_0001, 0x0a00_00ff), &mut out)?;
+    put_ident(Ident::Link(4_294_967_295, 0), &mut out)?;
+    put_groups(&[3, 700], &mut out)?;
+    let text =
+        " flags FBVLSP flags B flags none flags none ident addr 192.168.0.1 10.0.0.255 ident ids 4294967295 0 groups 3 700";
+    assert_eq!(rt; out.as_slice(), text.as_bytes());
+    Ok(())
+}
+
+/// Something at the first part of an LSP that isn't used, with its neighbour or SID.
+fn aside(sid: Option<usize>, matter: Matter, reason: Reason) -> Aside {
+    Aside {
+        place: Place {
+            id: LspId {
+                system: id(1),
+                pseudonode: 0x0a,
+                fragment: 0xf0,
+            },
+            part: 8,
+            sid,
+        },
+        matter,
+        reason,
+    }
+}
+
+#[test]
+fn asides_are_printed(rt: HostRuntime) -> Result<(), AllocError> {
+    let alloc = rt.alloc();
+    let asides = vec![in alloc;
+        aside(
+            None,
+            Matter::Reach {
+                neighbour: id(2),
+                pseudonode: 0xff,
+            },
+            Reason::Pseudonode,
+        ),
+        aside(
+            None,
+            Matter::Prefix {
+                prefix: 0xc000_0200,
+                length: 24,
+            },
+            Reason::NotHost,
+        ),
+        aside(None, Matter::Name, Reason::HostName),
+        aside(
+            None,
+            Matter::Risk {
+                neighbour: id(3),
+                pseudonode: 0,
+            },
+            Reason::LinkUnused,
+        ),
+        aside(
+            None,
+            Matter::Capability {
+                router: 0x0a00_0001
+            },
+            Reason::Silent
+        ),
+        aside(Some(0), Matter::AdjSid(Sid::Label(24_001)), Reason::Backup),
+        aside(Some(1), Matter::PrefixSid(Sid::Index(17)), Reason::NotLeast),
+    ]?;
+    let mut out = Vec::new(alloc);
+    put_asides(&asides, &mut out)?;
+    let text = "aside 0000.0000.0001.0a-f0 part 9 reach 0000.0000.0002.ff pseudonode\n\
+        aside 0000.0000.0001.0a-f0 part 9 prefix 192.0.2.0/24 length\n\
+        aside 0000.0000.0001.0a-f0 part 9 name hostname\n\
+        aside 0000.0000.0001.0a-f0 part 9 risk 0000.0000.0003.00 unused\n\
+        aside 0000.0000.0001.0a-f0 part 9 capability 10.0.0.1 silent\n\
+        aside 0000.0000.0001.0a-f0 part 9 sid 1 adjsid label 24001 backup\n\
+        aside 0000.0000.0001.0a-f0 part 9 sid 2 prefixsid index 17 notleast\n\
+        asides 7\n";
+    assert_eq!(rt; out.as_slice(), text.as_bytes());
+    Ok(())
+}
+
+/// Appends how much is covered of groups 1 and 0, for each way to group but kinds: of the first two thirds, of the other
+/// all, since it is empty.
+fn put_groups_of(net: &Net, grouping: Grouping, out: &mut Vec<u8>) -> Result<(), AllocError>
+    requires { 1 < group_count grouping net.now.graph }
+{
+    let some = Counts {
+        covered: 2,
+        nopath: 0,
+        nolist: 1,
+        toodeep: 0,
+    };
+    let none = Counts {
+        covered: 0,
+        nopath: 0,
+        nolist: 0,
+        toodeep: 0,
+    };
+    let groups = [
+        Group {
+            number: 1,
+            counts: some,
+        },
+        Group {
+            number: 0,
+            counts: none,
+        },
+    ];
+    put_coverage(net, grouping, &groups, out)
+}
+
+/// Appends the same for each way to group, where the net has two nodes and two links.
+fn put_all_groups(net: &Net, out: &mut Vec<u8>) -> Result<(), AllocError> {
+    if net.graph().node_count() > 1 && net.graph().link_count() > 1 {
+        put_groups_of(net, Grouping::Kind, out)?;
+        put_groups_of(net, Grouping::Node, out)?;
+        put_groups_of(net, Grouping::Link, out)?;
+        put_groups_of(net, Grouping::Destination, out)?;
+    }
+    Ok(())
+}
+
+#[test]
+fn groups_are_printed(rt: HostRuntime) -> Result<(), Fail> {
+    let alloc = rt.alloc();
+    let net = net_of(alloc, Graph::build(alloc, ring(alloc)?)?)?.ok_or("labels clash")?;
+    let mut out = Vec::new(alloc);
+    put_all_groups(&net, &mut out)?;
+    let text = "coverage kind node 6666 covered 2 nopath 0 nolist 1 toodeep 0\n\
+        coverage kind link 10000 covered 0 nopath 0 nolist 0 toodeep 0\n\
+        coverage node 0000.0000.0002 6666 covered 2 nopath 0 nolist 1 toodeep 0\n\
+        coverage node 0000.0000.0001 10000 covered 0 nopath 0 nolist 0 toodeep 0\n\
+        coverage link 0000.0000.0001>0000.0000.0004#1 6666 covered 2 nopath 0 nolist 1 toodeep 0\n\
+        coverage link 0000.0000.0001>0000.0000.0002#1 10000 covered 0 nopath 0 nolist 0 toodeep 0\n\
+        coverage destination 0000.0000.0002 6666 covered 2 nopath 0 nolist 1 toodeep 0\n\
+        coverage destination 0000.0000.0001 10000 covered 0 nopath 0 nolist 0 toodeep 0\n";
+    assert_eq!(rt; out.as_slice(), text.as_bytes());
+    Ok(())
+}
+
+#[test]
+fn stacks_and_counts_are_printed(rt: HostRuntime) -> Result<(), AllocError> {
+    let stacks = [
+        StackCount {
+            kind: Kind::Link,
+            labels: 0,
+            repairs: 12,
+        },
+        StackCount {
+            kind: Kind::Risk,
+            labels: 3,
+            repairs: 1,
+        },
+    ];
+    let mut out = Vec::new(rt.alloc());
+    put_stacks(&stacks, &mut out)?;
+    put_repair_counts(COUNTS, &mut out)?;
+    let text =
+        "labels link 0 repairs 12\nlabels risk 3 repairs 1\nrepairs covered 40 nopath 0 nolist 1 toodeep 2\n";
     assert_eq!(rt; out.as_slice(), text.as_bytes());
     Ok(())
 }

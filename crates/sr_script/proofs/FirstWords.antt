@@ -11,7 +11,7 @@ use Rattle.sr_script.specs.declared.name.EndNames.{EndNames}
 use Rattle.sr_script.specs.declared.name.LinkName.{LinkName}
 use Rattle.sr_script.specs.declared.name.RepairName.{RepairName}
 use Rattle.sr_script.specs.declared.command.Command.{Command}
-use Rattle.sr_script.specs.declared.command.Command.TheVariants.{Lsp, Cost, Down, Up, Depth, Commit, DropStaged, Dist, Next, Label, Spaces, Repair, AdjRepair, AdjBackup, Walk, Load, Prove, ProofDone, Audit, Hold, Watch, Join, Show}
+use Rattle.sr_script.specs.declared.command.Command.TheVariants.{Lsp, Cost, Down, Up, Depth, Commit, DropStaged, Dist, Next, Label, Spaces, Repair, AdjRepair, AdjBackup, Walk, Load, Prove, ProofDone, Audit, Hold, Watch, Join, Show, Nodes, Links, Aside, FailsNode}
 
 -- two nodes of an example
 abbrev pub example_ends : EndNames
@@ -51,6 +51,10 @@ example_commands =
     ∷ Join
     ∷ Show
     ∷ AdjBackup example_link
+    ∷ Nodes
+    ∷ Links
+    ∷ Aside
+    ∷ FailsNode 0
     ∷ []
 
 -- one of the commands begins with the word

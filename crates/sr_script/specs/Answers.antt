@@ -4,10 +4,11 @@ use Rattle.std.specs.declared.result.Result.{Result}
 use Rattle.std.specs.declared.result.Result.TheVariants.{Ok, Err}
 use Rattle.hex.specs.Hex.{decode_of}
 use Rattle.sr_script.specs.Words.{word_at}
-use Rattle.sr_script.specs.Says.{SaysCommand, first_word, kind_word}
+use Rattle.sr_script.specs.Says.{SaysCommand, first_word, kind_word, grouping_word}
 use Rattle.sr_script.specs.Number.{number_in}
 use Rattle.sr_script.specs.declared.name.TheConstants.{MOST_LINK_NUMBER}
 use Rattle.sr_model.specs.declared.case.Kind.{Kind}
+use Rattle.sr_insight.specs.declared.grouping.Grouping.{Grouping}
 use Rattle.sr_model.specs.SystemText.{system_read}
 use Rattle.sr_script.specs.LineSays.{BeginsCommand}
 use Rattle.sr_script.specs.declared.command.Command.{Command}
@@ -17,6 +18,10 @@ use Rattle.sr_script.specs.declared.line.LineFault.TheVariants.{UnknownWord, Bad
 -- the word is for no kind of failure
 abbrev pub NamesNoKind : List ℕ → Type 0
 NamesNoKind word = (kind : Kind) → word ≢ kind_word kind
+
+-- an audit isn't grouped by what the word says
+abbrev pub NamesNoGrouping : List ℕ → Type 0
+NamesNoGrouping word = (grouping : Grouping) → word ≢ grouping_word grouping
 
 -- one of the two words from place i on is no system id
 abbrev pub NamesNoEnds : List (List ℕ) → ℕ → Type 0

@@ -3,6 +3,8 @@ use Rattle.std.specs.Prelude.{◌≡◌, ℕ, ◌+◌, ◌≤◌, List, [], ◌�
 use Rattle.hex.specs.Hex.{decode_of}
 use Rattle.sr_model.specs.declared.case.Kind.{Kind}
 use Rattle.sr_model.specs.declared.case.Kind.TheVariants.{Link, Node, Risk}
+use Rattle.sr_insight.specs.declared.grouping.Grouping.{Grouping}
+use Rattle.sr_insight.specs.declared.grouping.Grouping.TheVariants as by
 use Rattle.sr_model.specs.SystemText.{system_read}
 use Rattle.sr_script.specs.Number.{number_in, cell_read}
 use Rattle.sr_script.specs.Words.{word_at}
@@ -13,13 +15,20 @@ use Rattle.sr_script.specs.declared.name.EndNames.{EndNames}
 use Rattle.sr_script.specs.declared.name.LinkName.{LinkName}
 use Rattle.sr_script.specs.declared.name.RepairName.{RepairName}
 use Rattle.sr_script.specs.declared.command.Command.{Command}
-use Rattle.sr_script.specs.declared.command.Command.TheVariants.{Lsp, Cost, Down, Up, Depth, Commit, DropStaged, Dist, Next, Label, Spaces, Repair, AdjRepair, AdjBackup, Walk, WalkRepair, Load, Prove, ProofOpen, ProofVia, ProofNode, ProofAdj, ProofRow, ProofDone, Audit, AuditFull, Hold, Watch, Join, Show}
+use Rattle.sr_script.specs.declared.command.Command.TheVariants.{Lsp, Cost, Down, Up, Depth, Commit, DropStaged, Dist, Next, Label, Spaces, Repair, AdjRepair, AdjBackup, Walk, WalkRepair, Load, Prove, ProofOpen, ProofVia, ProofNode, ProofAdj, ProofRow, ProofDone, Audit, AuditFull, AuditBy, AuditLabels, Hold, Watch, Join, Show, Nodes, Links, Aside, RepairCase, FailsNode}
 
 -- the word for a kind of failure
 abbrev pub kind_word : Kind → List ℕ
 kind_word Link = codes "link"
 kind_word Node = codes "node"
 kind_word Risk = codes "risk"
+
+-- the word for what an audit is grouped by
+abbrev pub grouping_word : Grouping → List ℕ
+grouping_word by.Kind = codes "kind"
+grouping_word by.Node = codes "node"
+grouping_word by.Link = codes "link"
+grouping_word by.Destination = codes "destination"
 
 -- what a word behind the first gives: itself, a system id, a number of a range, a kind of failure, octets, or a cell of
 -- a row
@@ -94,6 +103,13 @@ form (Watch watchers rounds) = (codes "watch", Number 1 MOST_WATCHERS watchers �
 form Join = (codes "join", [])
 form Show = (codes "show", [])
 form (AdjBackup link) = (codes "adjbackup", link_arguments link)
+form Nodes = (codes "nodes", [])
+form Links = (codes "links", [])
+form Aside = (codes "aside", [])
+form (AuditBy grouping) = (codes "audit", Itself (codes "by") ∷ Itself (grouping_word grouping) ∷ [])
+form AuditLabels = (codes "audit", Itself (codes "labels") ∷ [])
+form (RepairCase kind link) = (codes "repair", Failure kind ∷ link_arguments link)
+form (FailsNode node) = (codes "fails", Itself (codes "node") ∷ System node ∷ [])
 
 -- the word with which a command begins
 abbrev pub first_word : Command → List ℕ

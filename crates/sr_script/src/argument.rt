@@ -4,12 +4,13 @@ ghost use Rattle.std.specs.Prelude.{◌≡◌, ◌+◌, ◌<◌, ◌≤◌, IfSo
 ghost use Rattle.sr_model.specs.SystemText.{system_read};
 ghost use Rattle.sr_script.specs.Words.{word_at};
 ghost use Rattle.sr_script.specs.Number.{number_in as number_within};
-ghost use Rattle.sr_script.specs.Says.{AreGiven, kind_word, ends_arguments, link_arguments, repair_arguments};
-ghost use Rattle.sr_script.specs.Answers.{NamesNoKind, NamesNoEnds, NamesNoLink, NamesNoRepair};
+ghost use Rattle.sr_script.specs.Says.{AreGiven, kind_word, ends_arguments, grouping_word, link_arguments, repair_arguments};
+ghost use Rattle.sr_script.specs.Answers.{NamesNoKind, NamesNoGrouping, NamesNoEnds, NamesNoLink, NamesNoRepair};
 
 use crate::name::{EndNames, LinkName, MOST_LINK_NUMBER, RepairName};
 use crate::number::number_in;
 use crate::words::{KEPT, Words};
+use sr_insight::Grouping;
 use sr_model::{Kind, SystemId};
 
 /// The system id at a place.
@@ -30,7 +31,7 @@ pub(crate) fn number_argument(words: &Words<'_>, place: usize, low: u32, high: u
 }
 
 /// The kind of failure at a place.
-fn kind_argument(words: &Words<'_>, place: usize) -> Option<Kind>
+pub(crate) fn kind_argument(words: &Words<'_>, place: usize) -> Option<Kind>
     requires { place < KEPT }
     ensures { MatchOption result
         (NamesNoKind (word_at words.now place))
@@ -43,6 +44,27 @@ fn kind_argument(words: &Words<'_>, place: usize) -> Option<Kind>
         Some(Kind::Node)
     } else if word == b"risk".as_slice() {
         Some(Kind::Risk)
+    } else {
+        None
+    }
+}
+
+/// What the word at a place groups an audit by.
+pub(crate) fn grouping_argument(words: &Words<'_>, place: usize) -> Option<Grouping>
+    requires { place < KEPT }
+    ensures { MatchOption result
+        (NamesNoGrouping (word_at words.now place))
+        (λ grouping. word_at words.now place ≡ grouping_word grouping) }
+{
+    let word = words.get(place);
+    if word == b"kind".as_slice() {
+        Some(Grouping::Kind)
+    } else if word == b"node".as_slice() {
+        Some(Grouping::Node)
+    } else if word == b"link".as_slice() {
+        Some(Grouping::Link)
+    } else if word == b"destination".as_slice() {
+        Some(Grouping::Destination)
     } else {
         None
     }

@@ -1,7 +1,8 @@
 //! What a script asks for.
 
 use crate::name::{EndNames, LinkName, RepairName};
-use sr_model::{MOST_NODES, SystemId};
+use sr_insight::Grouping;
+use sr_model::{Kind, MOST_NODES, SystemId};
 use sr_seq::Seq;
 
 /// The greatest depth: how many segments a repair list may have at most.
@@ -100,4 +101,18 @@ pub enum Command {
     /// `adjbackup A B n`: asks for another announced adjacency label of the link, which is protected, and what is done
     /// with a packet under it when the link fails.
     AdjBackup { link: LinkName },
+    /// `nodes`: asks for the accepted nodes, with their labels.
+    Nodes,
+    /// `links`: asks for the accepted links, with what is announced of each.
+    Links,
+    /// `aside`: asks what of the accepted facts isn't used, and why.
+    Aside,
+    /// `audit by GROUPING`: asks how much of the audit is covered, in groups.
+    AuditBy { grouping: Grouping },
+    /// `audit labels`: asks how many labels the repairs of the audit push.
+    AuditLabels,
+    /// `repair KIND A B n`: asks for the answers of a failure for all affected destinations.
+    RepairCase { kind: Kind, link: LinkName },
+    /// `fails node F`: asks for the repairs on which packets stay when a node fails.
+    FailsNode { node: SystemId },
 }

@@ -4,13 +4,14 @@
 //! reader and its line in `read_command` here. A reader of more than eight words takes them from the text, as
 //! `read_list` does.
 
-ghost use Rattle.std.specs.Prelude.{◌≡◌, ◌≢◌, ◌↔◌, IsTrue, [], codes};
+ghost use Rattle.std.specs.Prelude.{◌≡◌, ◌≢◌, ◌↔◌, IsTrue, [], codes, length};
 ghost use Rattle.sr_script.specs.Words.{word_at};
 ghost use Rattle.sr_script.specs.Says.{first_word, arguments};
 ghost use Rattle.sr_script.specs.Answers.{IsCommandOf, IsReading, IsOnly};
 
 use crate::argument::{
-    ends_argument, link_argument, number_argument, repair_argument, system_argument,
+    ends_argument, grouping_argument, kind_argument, link_argument, number_argument,
+    repair_argument, system_argument,
 };
 use crate::command::{
     Command, MOST_CHOICE, MOST_DEPTH, MOST_EACH, MOST_LABEL, MOST_ROUNDS, MOST_WATCHERS,
@@ -68,6 +69,10 @@ pub(crate) fn read_command(words: &Words<'_>) -> Result<Command, LineFault>
         b"join" => read_lone(words, Command::Join),
         b"show" => read_lone(words, Command::Show),
         b"adjbackup" => read_adjbackup(words),
+        b"nodes" => read_lone(words, Command::Nodes),
+        b"links" => read_lone(words, Command::Links),
+        b"aside" => read_lone(words, Command::Aside),
+        b"fails" => read_fails(words),
     }
     Err(LineFault::UnknownWord)
 }
@@ -184,16 +189,23 @@ fn read_spaces(words: &Words<'_>) -> Option<Command>
     Some(Command::Spaces { repair })
 }
 
-/// `repair KIND A B n D`
+/// `repair KIND A B n D`, or `repair KIND A B n`
 fn read_repair(words: &Words<'_>) -> Option<Command>
     requires { word_at words.now 0 ≡ codes "repair" }
     ensures { IsCommandOf words.now result }
 {
-    if words.len() != 6 {
-        return None;
+    match words.len() {
+        5 => {
+            let kind = kind_argument(words, 1)?;
+            let link = link_argument(words, 2)?;
+            Some(Command::RepairCase { kind, link })
+        }
+        6 => {
+            let repair = repair_argument(words, 1)?;
+            Some(Command::Repair { repair })
+        }
+        _ => None,
     }
-    let repair = repair_argument(words, 1)?;
-    Some(Command::Repair { repair })
 }
 
 /// `adjrepair A B n`
@@ -253,7 +265,20 @@ fn read_prove(words: &Words<'_>) -> Option<Command>
     Some(Command::Prove { repair })
 }
 
-/// `audit`, or `audit full`
+/// `audit by GROUPING`
+fn read_audit_by(words: &Words<'_>) -> Option<Command>
+    requires first { word_at words.now 0 ≡ codes "audit" }
+    requires count { length words.now ≡ 3 }
+    ensures { IsCommandOf words.now result }
+{
+    if words.get(1) != b"by".as_slice() {
+        return None;
+    }
+    let grouping = grouping_argument(words, 2)?;
+    Some(Command::AuditBy { grouping })
+}
+
+/// `audit`, `audit full`, `audit labels`, or `audit by GROUPING`
 fn read_audit(words: &Words<'_>) -> Option<Command>
     requires { word_at words.now 0 ≡ codes "audit" }
     ensures { IsCommandOf words.now result }
@@ -261,8 +286,22 @@ fn read_audit(words: &Words<'_>) -> Option<Command>
     match words.len() {
         1 => Some(Command::Audit),
         2 if words.get(1) == b"full".as_slice() => Some(Command::AuditFull),
+        2 if words.get(1) == b"labels".as_slice() => Some(Command::AuditLabels),
+        3 => read_audit_by(words),
         _ => None,
     }
+}
+
+/// `fails node F`
+fn read_fails(words: &Words<'_>) -> Option<Command>
+    requires { word_at words.now 0 ≡ codes "fails" }
+    ensures { IsCommandOf words.now result }
+{
+    if words.len() != 3 || words.get(1) != b"node".as_slice() {
+        return None;
+    }
+    let node = system_argument(words, 2)?;
+    Some(Command::FailsNode { node })
 }
 
 /// `watch T R`
