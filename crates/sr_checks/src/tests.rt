@@ -1,5 +1,7 @@
 //! Whole runs of the program, over the sources and sinks in memory.
+ghost use Rattle.std.specs.Prelude.{◌≡◌, ◌<◌};
 
+mod accounts;
 mod active;
 mod audits;
 mod background;
@@ -11,6 +13,7 @@ mod domains;
 mod edits;
 mod field;
 mod flooded;
+mod groups;
 mod limits;
 mod loads;
 mod made;
@@ -21,22 +24,27 @@ mod rings;
 mod routers;
 mod versions;
 
+use accounts::ACCOUNTS;
 use active::ACTIVE;
 use audits::AUDITS;
 use cases::{CASES, Case};
 use certificates::CERTIFICATES;
 use edits::EDITS;
 use field::FIELD;
+use groups::GROUPS;
 use loads::LOADS;
 use nodes::NODES;
 use pairs::PAIRS;
 use rings::RINGS;
 use sr_base::{Runtime, Sink, Source, SteadySink, SteadySource};
-use sr_run::tilfa;
+use sr_run::{Ended, tilfa};
+use sr_spf::Steps;
 use sr_store::Usage;
-use sr_watch::OpenGate;
+use sr_watch::{Gate, OpenGate};
 use std::alloc::{AllocError, AllocGlobal, Global};
+use std::marker::Brand;
 use std::sync::Arc;
+use std::sync::ledger::{Blank, Ledger};
 
 /// The command words that are these, split at spaces.
 fn words(alloc: Global, text: &str) -> Result<Vec<String>, AllocError> {
@@ -45,6 +53,39 @@ fn words(alloc: Global, text: &str) -> Result<Vec<String>, AllocError> {
         words.push(String::from_str(alloc, word)?)?;
     }
     Ok(words)
+}
+
+/// Runs the program with a counter of searches that begins at 0, and gives its status.
+fn run_counted<L: Ledger>(
+    rt: &(impl AllocGlobal + Runtime + 'static),
+    words: &[String],
+    source: &mut impl Source,
+    sink: &mut impl Sink,
+    gate: &Arc<impl Gate + 'static>,
+    usage: &mut Usage,
+    blank: Blank,
+) -> u8
+    requires name { blank.name ≡ L.name }
+    requires parts { (blank.parts ≡ L.parts) × (0 < L.parts) }
+{
+    let steps = Steps::<L>::new(blank);
+    let Ended {
+        status,
+        steps: _counted,
+    } = tilfa(rt, words, source, sink, gate, usage, steps);
+    status
+}
+
+/// Runs the program at this gate with this usage, and gives its status.
+fn run_at<R: AllocGlobal + Runtime + 'static, S: Source, K: Sink, G: Gate + 'static>(
+    rt: &R,
+    words: &[String],
+    source: &mut S,
+    sink: &mut K,
+    gate: &Arc<G>,
+    usage: &mut Usage,
+) -> u8 {
+    run_counted::<Brand>(rt, words, source, sink, gate, usage, Blank::new(1))
 }
 
 /// Runs the program at an open gate, and gives its status.
@@ -59,7 +100,7 @@ fn run<R: AllocGlobal + Runtime + 'static, S: Source, K: Sink>(
         Err(_) => return Err(AllocError),
     };
     let mut usage = Usage::new();
-    Ok(tilfa(rt, words, source, sink, &gate, &mut usage))
+    Ok(run_at(rt, words, source, sink, &gate, &mut usage))
 }
 
 /// Whether the script is answered as the case says, with its status.
@@ -139,6 +180,22 @@ fn certificates_are_answered(rt: HostRuntime) -> Result<(), AllocError> {
 #[test]
 fn loads_are_answered(rt: HostRuntime) -> Result<(), AllocError> {
     for case in &LOADS {
+        assert!(rt; agrees(&rt, case)?, "{}", case.name);
+    }
+    Ok(())
+}
+
+#[test]
+fn accounts_are_answered(rt: HostRuntime) -> Result<(), AllocError> {
+    for case in &ACCOUNTS {
+        assert!(rt; agrees(&rt, case)?, "{}", case.name);
+    }
+    Ok(())
+}
+
+#[test]
+fn groups_are_answered(rt: HostRuntime) -> Result<(), AllocError> {
+    for case in &GROUPS {
         assert!(rt; agrees(&rt, case)?, "{}", case.name);
     }
     Ok(())

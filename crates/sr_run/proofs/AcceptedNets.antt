@@ -17,4 +17,5 @@ nets-kept P each = record {
   held = λ domain version is h. h;
   watched = λ domain version watchers rounds is h. h;
   joined = λ domain h. h;
+  asked = λ domain h. h;
 }

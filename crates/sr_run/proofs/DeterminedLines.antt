@@ -1,5 +1,5 @@
 -- A line has one answer, and one next state.
-use Rattle.std.proofs.Common.{◌≡◌, ℕ, ◌+◌, ⊎_elim, List, [], ◌∷◌, length, All, Option, Some, None, refl, sym, ap, subst, ◌∙◌, inl, inr}
+use Rattle.std.proofs.Common.{◌≡◌, ℕ, ◌+◌, ⊎_elim, Bool, List, [], ◌∷◌, length, All, Option, Some, None, refl, sym, ap, subst, ◌∙◌, inl, inr}
 use Rattle.std.proofs.lemmas.List.Elements.{All-head}
 use Rattle.sr_model.specs.declared.name.LinkKey.{LinkKey}
 use Rattle.sr_model.specs.Key.{pair_of}
@@ -8,8 +8,9 @@ use Rattle.sr_model.specs.Rule.{IsNet}
 use Rattle.sr_lsdb.specs.Edit.{Edit}
 use Rattle.sr_lsdb.specs.Edit.Edit.{SetCost, TakeDown, BringUp, SetDepth}
 use Rattle.sr_script.specs.declared.name.LinkName.{LinkName}
+use Rattle.sr_script.specs.declared.name.RepairName.{RepairName}
 use Rattle.sr_script.specs.declared.command.Command.{Command}
-use Rattle.sr_script.specs.declared.command.Command.TheVariants.{Lsp, Cost, Down, Up, Depth, Commit, DropStaged, Dist, Next, Label, Spaces, Repair, AdjRepair, AdjBackup, Prove, ProofOpen, ProofVia, ProofNode, ProofAdj, ProofRow, ProofDone, Walk, WalkRepair, Load, Audit, AuditFull, Hold, Watch, Join, Show}
+use Rattle.sr_script.specs.declared.command.Command.TheVariants.{Lsp, Cost, Down, Up, Depth, Commit, DropStaged, Dist, Next, Label, Spaces, Repair, AdjRepair, AdjBackup, Prove, ProofOpen, ProofVia, ProofNode, ProofAdj, ProofRow, ProofDone, Walk, WalkRepair, Load, Audit, AuditFull, Hold, Watch, Join, Show, Nodes, Links, Aside, AuditBy, AuditLabels, RepairCase, FailsNode}
 use Rattle.sr_script.specs.declared.line.Line.{Line}
 use Rattle.sr_script.specs.declared.line.Line.TheVariants.{Nothing as NoWord, Word}
 use Rattle.sr_script.specs.declared.line.LineFault.{LineFault}
@@ -27,8 +28,10 @@ use Rattle.sr_run.specs.Domain.Background.{AtRest, OfHold, OfWatch}
 use Rattle.sr_run.specs.Edits.{Refuses, EditsNamed}
 use Rattle.sr_run.specs.Questions.{TellsDistance, TellsNextHops, TellsLookup, TellsWalk, TellsLoads}
 use Rattle.sr_run.specs.Failures.{TellsSpaces, TellsRepair, TellsAdjRepair, TellsAdjBackup, TellsRepairWalk, TellsSummary, TellsAudit}
+use Rattle.sr_run.specs.Account.{TellsNodes, TellsLinks, TellsAsides}
+use Rattle.sr_run.specs.Insight.{TellsCoverage, TellsStacks, TellsCaseRepairs, TellsNodeRepairs}
 use Rattle.sr_run.specs.Certificates.{Drafting, DraftsOf, TellsProof, OpensDraft, KeepsLink, KeepsNode, KeepsRow, DecidesDraft}
-use Rattle.sr_run.specs.Session.{TellsOf, Asks, WritesDraft, Tells, TellsLine, IsRefusedAs}
+use Rattle.sr_run.specs.Session.{TellsOf, Asks, AsksProof, WritesDraft, Tells, TellsLine, IsRefusedAs, after_question}
 use Rattle.sr_run.specs.Background.{BeginsWork, JoinsWork, watch_from}
 use Rattle.sr_run.specs.Laws.{AreNets, JoinsMoved, LinesHaveOneAnswer}
 use Rattle.sr_script.proofs.LineLemmas.{one-thing, faults-agree, said-agrees}
@@ -37,6 +40,7 @@ use Rattle.sr_run.proofs.DeterminedEdits.{staged-one, announces-one, link-edited
 use Rattle.sr_run.proofs.DeterminedQuestions.{distance-alike, hops-alike, lookup-alike, walk-alike, loads-alike}
 use Rattle.sr_run.proofs.DeterminedReports.{due-one, joins-unmoved}
 use Rattle.sr_run.proofs.DeterminedCertificates.{LeaveOne, proof-alike, still-one, opened-one, link-kept-one, node-kept-one, row-kept-one, decided-one}
+use Rattle.sr_run.proofs.DeterminedInsight.{nodes-alike, links-alike, asides-alike, coverage-alike, stacks-alike, case-repairs-alike, node-repairs-alike}
 use Rattle.sr_run.proofs.DeterminedFailures.{spaces-alike, repair-alike, adjrepair-alike, adjbackup-alike, repair-walk-alike, summary-alike, audit-alike}
 
 -- no line is refused because memory ran out
@@ -74,6 +78,12 @@ module _ (old : Domain) (nets : AreNets old) (a b : Told) (new next : Domain) wh
 
   asked-one : (tells : NumberedNet → Told → Type 0) → ((version : NumberedNet) → IsNet version.net → tells version a → tells version b → AreAlike a b) → Asks tells old a new → Asks tells old b next → AreOne a b new next
   asked-one tells one p q = record { told = told-alike old.nets nets tells one p.0 q.0; state = p.1 ∙ sym q.1 }
+
+  -- a question for a certificate, which is counted unless it is refused
+  proof-asked-one : (repair : RepairName) → AsksProof repair old a new → AsksProof repair old b next → AreOne a b new next
+  proof-asked-one repair p q =
+      let told : AreAlike a b = told-alike old.nets nets (TellsProof repair) (λ version net. proof-alike version net a b repair) p.0 q.0 in
+      record { told = told; state = p.1 ∙ ap (λ (refused : Bool). after_question refused old) told.refusal ∙ sym q.1 }
 
   -- a line of a certificate
   draft-left-one : (last : List Net) → All IsNet last → (drafts : NumberedNet → Drafting) → ((version : NumberedNet) → IsNet version.net → (x y : Option CertDraft) → drafts version old.draft a x → drafts version old.draft b y → LeaveOne a b x y)
@@ -134,7 +144,7 @@ module _ (old : Domain) (nets : AreNets old) (a b : Told) (new next : Domain) wh
   said-one line (Spaces repair) says p q = has-one line (asked-one (TellsSpaces repair) (λ version net. spaces-alike version net a b repair) p q)
   said-one line (Repair repair) says p q = has-one line (asked-one (TellsRepair repair) (λ version net. repair-alike version net a b repair) p q)
   said-one line (AdjRepair link) says p q = has-one line (asked-one (TellsAdjRepair link old.editing.accepted) (λ version net. adjrepair-alike version net a b link old.editing.accepted) p q)
-  said-one line (Prove repair) says p q = has-one line (asked-one (TellsProof repair) (λ version net. proof-alike version net a b repair) p q)
+  said-one line (Prove repair) says p q = has-one line (proof-asked-one repair p q)
   said-one line (ProofOpen repair) says p q = has-one line (drafted-one (OpensDraft repair) (λ version net x y. opened-one a b x y version net old.draft repair) p q)
   said-one line (ProofVia link) says p q = has-one line (drafted-one (KeepsLink Via link) (λ version net x y. link-kept-one a b x y version net old.draft Via link) p q)
   said-one line (ProofNode node) says p q = has-one line (drafted-one (KeepsNode node) (λ version net x y. node-kept-one a b x y version net old.draft node) p q)
@@ -151,6 +161,13 @@ module _ (old : Domain) (nets : AreNets old) (a b : Told) (new next : Domain) wh
   said-one line Join says p q = joined-one line says p q
   said-one line Show says p q = has-one line (record { told = alike a b _ _ p.0 q.0 refl; state = p.1 ∙ sym q.1 })
   said-one line (AdjBackup link) says p q = has-one line (asked-one (TellsAdjBackup link old.editing.accepted) (λ version net. adjbackup-alike version net a b link old.editing.accepted) p q)
+  said-one line Nodes says p q = has-one line (asked-one TellsNodes (λ version net. nodes-alike version net a b) p q)
+  said-one line Links says p q = has-one line (asked-one (TellsLinks old.editing.accepted) (λ version net. links-alike version net a b old.editing.accepted) p q)
+  said-one line Aside says p q = has-one line (asked-one (TellsAsides old.editing.accepted) (λ version net. asides-alike version net a b old.editing.accepted) p q)
+  said-one line (AuditBy grouping) says p q = has-one line (asked-one (TellsCoverage grouping) (λ version net. coverage-alike version net a b grouping) p q)
+  said-one line AuditLabels says p q = has-one line (asked-one TellsStacks (λ version net. stacks-alike version net a b) p q)
+  said-one line (RepairCase kind link) says p q = has-one line (asked-one (TellsCaseRepairs kind link) (λ version net. case-repairs-alike version net a b kind link) p q)
+  said-one line (FailsNode node) says p q = has-one line (asked-one (TellsNodeRepairs node) (λ version net. node-repairs-alike version net a b node) p q)
 
   -- a line has one fault that is told
   faults-one : (line : List ℕ) (fault also : LineFault) (reason other : Refusal) → IsLineFault line fault → IsLineFault line also → IsRefusedAs fault reason → IsRefusedAs also other → Refuses old a new reason → Refuses old b next other → AreOne a b new next

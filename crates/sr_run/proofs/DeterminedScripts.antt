@@ -39,6 +39,7 @@ counted-kept = record {
       let same : watch_from watchers rounds version ≡ watch = cc in
       omega (arith, last-number domain.nets version is, ap (λ (w : BegunWatch). w.from) same);
   joined = λ domain h none watch runs. absurd (rests-not_watch watch runs);
+  asked = λ domain h. h;
 }
 
 -- the commits that were accepted during watches are never fewer
@@ -59,6 +60,7 @@ commits-kept least = record {
   held = λ domain version is h. h;
   watched = λ domain version watchers rounds is h. h;
   joined = λ domain h. h;
+  asked = λ domain h. h;
 }
 
 -- lines have one answer after the other

@@ -70,11 +70,11 @@ end-there Idle old is can = ([], record { refused = false; new = old; is = (refl
 end-there (Holds version) old is can =
     let there = reported old.work can in
     let usage = usage_joined old.work old.usage in
-    (report_lines there.0 ++ joined_line (length there.0), record { refused = false; new = session old.state Idle usage; is = (refl, ends-joined old (session old.state Idle usage) there.0 (ap is_running is) (joined old there.0 usage there.1 refl)) })
+    (report_lines there.0 ++ joined_line (length there.0), record { refused = false; new = session old.state Idle usage old.searches; is = (refl, ends-joined old (session old.state Idle usage old.searches) there.0 (ap is_running is) (joined old there.0 usage there.1 refl)) })
 end-there (Watches watched) old is can =
     let there = reported old.work can in
     let usage = usage_joined old.work old.usage in
-    (report_lines there.0 ++ joined_line (length there.0), record { refused = false; new = session old.state Idle usage; is = (refl, ends-joined old (session old.state Idle usage) there.0 (ap is_running is) (joined old there.0 usage there.1 refl)) })
+    (report_lines there.0 ++ joined_line (length there.0), record { refused = false; new = session old.state Idle usage old.searches; is = (refl, ends-joined old (session old.state Idle usage old.searches) there.0 (ap is_running is) (joined old there.0 usage there.1 refl)) })
 
 -- from each state of a session the end of a script has an answer
 pub end-has_answer : (old : Session) → CanReport old.work → (tail : List ℕ) × HasSome (AtEnd SessionEnds old) tail

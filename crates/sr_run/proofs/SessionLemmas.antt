@@ -1,4 +1,4 @@
--- From what a session keeps of a domain, of its work and of its usage, to what is told of the domain.
+-- From what a session keeps of a domain, of its work, of its usage and of its counter, to what is told of the domain.
 use Rattle.std.proofs.Common.{◌≡◌, ℕ, zero, suc, ◌+◌, ◌-◌, ◌*◌, ◌^◌, min, ◌<◌, ◌≤◌, ◌++◌, Bool, true, false, not, List, [], ◌∷◌, length, length-append, map, All, slice_get, Option, Some, None, IfSome, MatchResult, refl, sym, subst, ap, ◌∙◌, inl, inr, arith}
 use Rattle.std.proofs.Math.Nat.{mul-le-mul_left, mul-le-mul_right}
 use Rattle.std.specs.declared.alloc.AllocError.{AllocError}
@@ -9,8 +9,9 @@ use Rattle.sr_model.specs.Label.{Net}
 use Rattle.sr_lsdb.specs.Editing.{Editing, with_accepted}
 use Rattle.sr_domain.specs.Net.{IsNetOf}
 use Rattle.sr_repair.specs.Version.{NumberedNet, version_of}
+use Rattle.sr_script.specs.declared.name.RepairName.{RepairName}
 use Rattle.sr_script.specs.declared.command.Command.{Command}
-use Rattle.sr_script.specs.declared.command.Command.TheVariants.{Commit as CommitWord, Hold as HoldWord, Watch as WatchWord, Join as JoinWord}
+use Rattle.sr_script.specs.declared.command.Command.TheVariants.{Commit as CommitWord, Prove as ProveWord, Hold as HoldWord, Watch as WatchWord, Join as JoinWord}
 use Rattle.sr_print.specs.declared.refusal.Refusal.{Refusal}
 use Rattle.sr_print.specs.declared.refusal.Refusal.TheVariants as refusal
 use Rattle.sr_print.specs.Told.{Told, spelled, is_refusal}
@@ -32,21 +33,24 @@ use Rattle.sr_run.specs.declared.stop.Stop.{Stop}
 use Rattle.sr_run.specs.declared.stop.Stop.TheVariants.{Refused as Refusing, Memory}
 use Rattle.sr_run.specs.declared.session.Reply.{Reply}
 use Rattle.sr_run.specs.declared.session.Reply.TheVariants.{Text, Audit}
-use Rattle.sr_run.specs.Domain.{Domain, Background, BegunWatch, WatchTotals, last_version, number_of, versions_since, with_net, with_hold, with_watch, with_joined, with_commit_during, with_watch_begun}
+use Rattle.sr_run.specs.Domain.{Domain, Background, BegunWatch, WatchTotals, last_version, number_of, versions_since, with_net, with_hold, with_watch, with_joined, with_asked, with_commit_during, with_watch_begun}
 use Rattle.sr_run.specs.Domain.Background.{AtRest, OfHold, OfWatch}
 use Rattle.sr_run.specs.Background.{BeginsHold, BeginsWatch, BeginsWork, AreDue, JoinsReporting, JoinsWork, EndsWork, watch_from}
 use Rattle.sr_run.specs.Edits.{Refuses, Commits}
-use Rattle.sr_run.specs.Usage.{unused}
-use Rattle.sr_run.specs.Session.{Tells, EndsScript}
+use Rattle.sr_run.specs.Usage.{Lent, unused}
+use Rattle.sr_run.specs.Searches.{IsCommitWork, CountsCommitWork}
+use Rattle.sr_run.specs.Certificates.{TellsProof}
+use Rattle.sr_run.specs.Session.{AsksProof, Tells, TellsOf, EndsScript, after_question}
 use Rattle.sr_run.specs.State.{State, Session, IsShown, IsWorkOf, IsWatchOf, ShowsWatches, CanReport, HasAudit, IsKeptWork, IsNextVersion, is_running, turns_due, state_of, with_next_version}
-use Rattle.sr_run.specs.Handlers.{PutsTold, PutsJoined, Carries, Moves, RepliesTo, SessionReplies, SessionTells, StepsAs, SessionEnds, IsOfDomain, IsHindrance, IsNoRefusal, IsPublished, IsReply, MayBegin, CommitsVersion}
-use Rattle.sr_run.proofs.StepLemmas.{Stays, quiet-stays}
+use Rattle.sr_run.specs.Handlers.{PutsTold, PutsJoined, Carries, Moves, RepliesTo, SessionReplies, SessionTells, StepsAs, SessionEnds, IsOfDomain, IsHindrance, IsNoRefusal, IsPublished, IsReply, MayBegin, CommitsVersion, CountsCommit, CountsProof}
+use Rattle.sr_run.proofs.StepLemmas.{Stays, quiet-stays, stays-itself}
+use Rattle.sr_run.proofs.SearchLemmas.{counts-still, counts-stays, counts-accepted, counts-asked}
 use Rattle.sr_run.proofs.VersionLemmas.{since-more, since-last, last-number}
 use Rattle.sr_run.proofs.HandlerLemmas.{accepted-next}
 
 -- a session of these parts
-abbrev pub session : State → Work → Usage → Session
-session state work usage = record { state = state; work = work; usage = usage }
+abbrev pub session : State → Work → Usage → ℕ → Session
+session state work usage searches = record { state = state; work = work; usage = usage; searches = searches }
 
 -- ---- commands that leave the work alone
 
@@ -54,48 +58,93 @@ work-stays : (old new : Domain) (work : Work) → Stays old new → IsWorkOf old
 work-stays old new work s is =
     subst (λ (nets : List Net). IsWorkOf nets new.background work) (sym s.nets) (subst (λ (b : Background). IsWorkOf old.nets b work) (sym s.background) is)
 
-still-shown : (lent : Usage) (old new : State) (work : Work) (usage : Usage) (domain next : Domain) → IsShown lent (session old work usage) domain → state_of next ≡ new → Stays domain next → IsShown lent (session new work usage) next
-still-shown lent old new work usage domain next like is s = record {
+still-shown : (lent : Lent) (old new : State) (work : Work) (usage : Usage) (searches : ℕ) (domain next : Domain) → IsShown lent (session old work usage searches) domain → state_of next ≡ new → Stays domain next
+    → IsShown lent (session new work usage searches) next
+still-shown lent old new work usage searches domain next like is s = record {
   state = is;
   work = work-stays domain next work s like.work;
   usage = λ fresh. subst (λ (t : WatchTotals). ShowsWatches t work usage) (sym s.totals) (like.usage fresh);
+  searches = counts-stays domain next lent.searches searches s like.searches;
 }
 
 -- what is told of the domain alone
-pub lifted : (command : Command) (old new : State) (work : Work) (usage : Usage) (told : Told) → IsOfDomain command → CanReport work
-    → Moves (λ domain t next. Tells domain command t next) old new told → SessionTells (λ domain t next. Tells domain command t next) (session old work usage) (session new work usage) told
-lifted command old new work usage told quiet can m = record {
+pub lifted : (command : Command) (old new : State) (work : Work) (usage : Usage) (searches : ℕ) (told : Told) → IsOfDomain command → CanReport work
+    → Moves (λ domain t next. Tells domain command t next) old new told → SessionTells (λ domain t next. Tells domain command t next) (session old work usage searches) (session new work usage searches) told
+lifted command old new work usage searches told quiet can m = record {
   reports = can;
   steps = λ lent domain like.
       let next = m domain like.state in
-      (next.0, still-shown lent old new work usage domain next.0 like next.1 (quiet-stays domain command told next.0 quiet next.2), next.2);
+      (next.0, still-shown lent old new work usage searches domain next.0 like next.1 (quiet-stays domain command told next.0 quiet next.2), next.2);
 }
 
 -- a command that leaves the work alone
-pub replies-lifted : (command : Command) (old new : State) (work : Work) (usage : Usage) (before after : List ℕ) (result : Result Reply Stop) → IsOfDomain command → CanReport work
-    → RepliesTo command old new before after result → SessionReplies command (session old work usage) (session new work usage) before after result
-replies-lifted command old new work usage before after (Ok Text) quiet can r =
-    record { told = r.told; is = lifted command old new work usage r.told quiet can r.is; accepted = r.accepted; appended = r.appended }
-replies-lifted command old new work usage before after (Ok Audit) quiet can r = (r.0, r.1, ap (λ (s : State). session s work usage) r.2, r.3, can)
-replies-lifted command old new work usage before after (Err (Refusing reason)) quiet can r = lifted command old new work usage (Refused reason) quiet can r
-replies-lifted command old new work usage before after (Err (Memory error)) quiet can r = tt
+pub replies-lifted : (command : Command) (old new : State) (work : Work) (usage : Usage) (searches : ℕ) (before after : List ℕ) (result : Result Reply Stop) → IsOfDomain command → CanReport work
+    → RepliesTo command old new before after result → SessionReplies command (session old work usage searches) (session new work usage searches) before after result
+replies-lifted command old new work usage searches before after (Ok Text) quiet can r =
+    record { told = r.told; is = lifted command old new work usage searches r.told quiet can r.is; accepted = r.accepted; appended = r.appended }
+replies-lifted command old new work usage searches before after (Ok Audit) quiet can r = (r.0, r.1, ap (λ (s : State). session s work usage searches) r.2, r.3, can)
+replies-lifted command old new work usage searches before after (Err (Refusing reason)) quiet can r = lifted command old new work usage searches (Refused reason) quiet can r
+replies-lifted command old new work usage searches before after (Err (Memory error)) quiet can r = tt
+
+-- ---- `prove`
+
+module _ (repair : RepairName) (state : State) (work : Work) (usage : Usage) (searches now : ℕ) (told : Told) (can : CanReport work) (is : TellsOf (TellsProof repair) state.current told) where
+  told-shown : (lent : Lent) (domain : Domain) → IsShown lent (session state work usage searches) domain → TellsOf (TellsProof repair) (last_version domain.nets) told
+  told-shown lent domain like = subst (λ (s : State). TellsOf (TellsProof repair) s.current told) (sym like.state) is
+
+  -- a certificate was asked for, for which at most one search was made
+  proof-answered : is_refusal told ≡ false → now ≤ searches + 1 → SessionTells (AsksProof repair) (session state work usage searches) (session state work usage now) told
+  proof-answered accepted more = record {
+    reports = can;
+    steps = λ lent domain like. (
+      with_asked domain,
+      record { state = like.state; work = like.work; usage = like.usage; searches = counts-asked domain lent.searches searches now more like.searches },
+      (told-shown lent domain like, ap (λ (refused : Bool). after_question refused domain) (sym accepted)),
+    );
+  }
+
+  -- or that was refused, and none was made
+  proof-refused : is_refusal told ≡ true → now ≡ searches → SessionTells (AsksProof repair) (session state work usage searches) (session state work usage now) told
+  proof-refused refused same = record {
+    reports = can;
+    steps = λ lent domain like. (
+      domain,
+      subst (λ (n : ℕ). IsShown lent (session state work usage n) domain) (sym same) like,
+      (told-shown lent domain like, ap (λ (refused : Bool). after_question refused domain) (sym refused)),
+    );
+  }
+
+-- what was told to a question for a certificate
+pub proof-told : (repair : RepairName) (old : Session) (state : State) (work : Work) (usage : Usage) (searches now : ℕ) (before after : List ℕ) (result : Result (Unit {0}) Stop) → session state work usage searches ≡ old → CanReport work
+    → Carries (TellsOf (TellsProof repair) state.current) before after result → CountsProof searches now result → Carries (SessionTells (AsksProof repair) old (session state work usage now)) before after result
+proof-told repair old state work usage searches now before after (Ok done) same can c counts = record {
+  told = c.told;
+  is = subst (λ (s : Session). SessionTells (AsksProof repair) s (session state work usage now) c.told) same
+      (proof-answered repair state work usage searches now c.told can c.is c.accepted counts.1);
+  accepted = c.accepted;
+  appended = c.appended;
+}
+proof-told repair old state work usage searches now before after (Err (Refusing reason)) same can c counts =
+    subst (λ (s : Session). SessionTells (AsksProof repair) s (session state work usage now) (Refused reason)) same
+    (proof-refused repair state work usage searches now (Refused reason) can c refl counts)
+proof-told repair old state work usage searches now before after (Err (Memory error)) same can c counts = tt
 
 -- ---- `commit`
 
 -- a refused commit keeps all but the edits
 rejected-stays : (domain : Domain) (reason : Refusal) (next : Domain) → Commits domain (Refused reason) next → Stays domain next
-rejected-stays domain reason next (inl full) = subst (Stays domain) (sym full.1.1) (record { nets = refl; background = refl; totals = refl })
-rejected-stays domain reason next (inr (room, inl rejects)) = subst (Stays domain) (sym rejects.dropped) (record { nets = refl; background = refl; totals = refl })
+rejected-stays domain reason next (inl full) = subst (Stays domain) (sym full.1.1) (stays-itself domain)
+rejected-stays domain reason next (inr (room, inl rejects)) = subst (Stays domain) (sym rejects.dropped) (record { nets = refl; background = refl; totals = refl; asked = refl })
 rejected-stays domain reason next (inr (room, inr accepts)) =
     let e : Refused reason ≡ Version (version_of (length domain.nets + 1) accepts.net) = accepts.told_is in absurd (cc)
 
-pub commit-rejected : (old new : State) (work : Work) (usage : Usage) (reason : Refusal) → CanReport work → Moves Commits old new (Refused reason)
-    → SessionTells Commits (session old work usage) (session new work usage) (Refused reason)
-commit-rejected old new work usage reason can m = record {
+pub commit-rejected : (old new : State) (work : Work) (usage : Usage) (searches : ℕ) (reason : Refusal) → CanReport work → Moves Commits old new (Refused reason)
+    → SessionTells Commits (session old work usage searches) (session new work usage searches) (Refused reason)
+commit-rejected old new work usage searches reason can m = record {
   reports = can;
   steps = λ lent domain like.
       let next = m domain like.state in
-      (next.0, still-shown lent old new work usage domain next.0 like next.1 (rejected-stays domain reason next.0 next.2), next.2);
+      (next.0, still-shown lent old new work usage searches domain next.0 like next.1 (rejected-stays domain reason next.0 next.2), next.2);
 }
 
 -- what is published can still be reported
@@ -146,9 +195,9 @@ usage-published nets (OfWatch begun) totals (Watches watched) usage version w s 
   enough = s.enough;
 }
 
-pub commit-accepted : (old : State) (work : Work) (usage : Usage) (version : NumberedNet) → IsNextVersion old version → number_of old.current < MOST_VERSIONS → CanReport work
-    → SessionTells Commits (session old work usage) (session (with_next_version old version) (after_publishing work version) (usage_published work usage)) (Version version)
-commit-accepted old work usage version next room can = record {
+pub commit-accepted : (old : State) (work : Work) (usage : Usage) (searches count : ℕ) (version : NumberedNet) → IsNextVersion old version → number_of old.current < MOST_VERSIONS → CanReport work → IsCommitWork old.current version.net count
+    → SessionTells Commits (session old work usage searches) (session (with_next_version old version) (after_publishing work version) (usage_published work usage) (searches + count)) (Version version)
+commit-accepted old work usage searches count version next room can within = record {
   reports = can-published work version can;
   steps = λ lent domain like.
       let a = accepted-next old version room next domain like.state in (
@@ -157,6 +206,7 @@ commit-accepted old work usage version next room can = record {
           state = a.0;
           work = work-published domain.nets domain.background work version.net version a.2 like.work;
           usage = λ fresh. usage-published domain.nets domain.background domain.totals work usage version like.work (like.usage fresh);
+          searches = counts-accepted domain version.net lent.searches searches count like.searches (subst (λ (s : State). IsCommitWork s.current version.net count) (sym like.state) within);
         },
         a.1,
       );
@@ -201,11 +251,11 @@ hindered-here refuses begins nets (Some version) (OfWatch begun) Idle reason w h
 hindered-here refuses begins nets (Some version) (OfWatch begun) (Holds held) reason w h r = absurd w
 hindered-here refuses begins nets (Some version) (OfWatch begun) (Watches watched) reason w h r = subst refuses h r
 
-current-shown : (lent : Usage) (s : Session) (domain : Domain) → IsShown lent s domain → last_version domain.nets ≡ s.state.current
+current-shown : (lent : Lent) (s : Session) (domain : Domain) → IsShown lent s domain → last_version domain.nets ≡ s.state.current
 current-shown lent s domain like = ap (λ (x : State). x.current) like.state
 
 module _ (old : Session) (reason : Refusal) (can : CanReport old.work) (h : IsHindrance old.state.current old.work reason) where
-  hindered : (lent : Usage) (domain : Domain) → IsShown lent old domain → (refuses : Refusal → Type 0) (begins : NumberedNet → Type 0) → refuses reason → BeginsWork refuses begins (last_version domain.nets) domain.background
+  hindered : (lent : Lent) (domain : Domain) → IsShown lent old domain → (refuses : Refusal → Type 0) (begins : NumberedNet → Type 0) → refuses reason → BeginsWork refuses begins (last_version domain.nets) domain.background
   hindered lent domain like refuses begins r =
       hindered-here refuses begins domain.nets (last_version domain.nets) domain.background old.work reason like.work
       (subst (λ (o : Option NumberedNet). IsHindrance o old.work reason) (sym (current-shown lent old domain like)) h) r
@@ -219,7 +269,7 @@ module _ (old : Session) (reason : Refusal) (can : CanReport old.work) (h : IsHi
   watch-hindered watchers rounds = record { reports = can; steps = λ lent domain like. (domain, like, hindered lent domain like (Refuses domain (Refused reason) domain) _ (refl, refl)) }
 
 -- a hold begins
-pub hold-begun : (old : Session) (version : NumberedNet) → MayBegin old version → SessionTells BeginsHold old (session old.state (Holds version) old.usage) (Hold version.number)
+pub hold-begun : (old : Session) (version : NumberedNet) → MayBegin old version → SessionTells BeginsHold old (session old.state (Holds version) old.usage old.searches) (Hold version.number)
 hold-begun old version may = record {
   reports = may.audit;
   steps = λ lent domain like.
@@ -232,6 +282,7 @@ hold-begun old version may = record {
           usage = λ fresh.
               let s = subst (λ (w : Work). ShowsWatches domain.totals w old.usage) may.idle (like.usage fresh) in
               record { places = s.places; published = s.published; given = s.given; given_is = s.given_is; few = s.few; turns = s.turns; turns_are = s.turns_are; enough = s.enough };
+          searches = counts-still domain (with_hold domain version) lent.searches old.searches refl refl like.searches;
         },
         begins-here (Refuses domain (Hold version.number) (with_hold domain version)) _ (last_version domain.nets) domain.background version last rest (refl, refl),
       );
@@ -262,7 +313,7 @@ usage-begun totals usage watchers rounds given version le few s =
 
 -- a watch begins
 pub watch-begun : (old : Session) (version : NumberedNet) (watchers rounds : ℕ) (work : Work) (usage : Usage) → rounds ≤ 16 → MayBegin old version → StartsWatch watchers rounds version work old.usage usage
-    → SessionTells (BeginsWatch watchers rounds) old (session old.state work usage) (Watch watchers rounds version.number)
+    → SessionTells (BeginsWatch watchers rounds) old (session old.state work usage old.searches) (Watch watchers rounds version.number)
 watch-begun old version watchers rounds work usage few may starts =
     let running : Work = Watches (record { watchers = watchers; rounds = rounds; given = starts.given; versions = version ∷ [] }) in
     record {
@@ -280,6 +331,7 @@ watch-begun old version watchers rounds work usage few may starts =
                   subst (λ (u : Usage). ShowsWatches (with_watch_begun domain.totals (watch_from watchers rounds version)) work u) (sym starts.counts)
                   (subst (λ (w : Work). ShowsWatches (with_watch_begun domain.totals (watch_from watchers rounds version)) w (opened old.usage watchers starts.given)) (sym starts.work_is)
                   (usage-begun domain.totals old.usage watchers rounds starts.given version starts.few few s));
+              searches = counts-still domain (with_watch domain (watch_from watchers rounds version)) lent.searches old.searches refl refl like.searches;
             },
             begins-here (Refuses domain (Watch watchers rounds version.number) (with_watch domain (watch_from watchers rounds version))) _ (last_version domain.nets) domain.background version last rest (refl, refl),
           );
@@ -319,7 +371,7 @@ usage-joined totals (Watches watched) usage s = record {
 
 -- what runs is joined
 pub joined : (old : Session) (reports : List RoundReport) (usage : Usage) → AreReportsOf old.work reports → usage ≡ usage_joined old.work old.usage
-    → StepsAs (λ domain next. JoinsReporting domain reports next) old (session old.state Idle usage)
+    → StepsAs (λ domain next. JoinsReporting domain reports next) old (session old.state Idle usage old.searches)
 joined old reports usage are is = record {
   reports = tt;
   steps = λ lent domain like. (
@@ -328,6 +380,7 @@ joined old reports usage are is = record {
       state = like.state;
       work = tt;
       usage = λ fresh. subst (λ (u : Usage). ShowsWatches domain.totals Idle u) (sym is) (usage-joined domain.totals old.work old.usage (like.usage fresh));
+      searches = counts-still domain (with_joined domain) lent.searches old.searches refl refl like.searches;
     },
     (due-joined domain.nets domain.background old.work reports like.work are, refl),
   );
@@ -382,24 +435,24 @@ ends-resting old can runs = record {
 -- ---- as the session's functions have it: `here` is what the session keeps as its parts
 
 pub hold-told : (old here : Session) (version : NumberedNet) (work : Work) (number : ℕ) → here ≡ old → MayBegin old version → work ≡ Holds version → number ≡ version.number
-    → SessionTells BeginsHold old (session here.state work here.usage) (Hold number)
+    → SessionTells BeginsHold old (session here.state work here.usage here.searches) (Hold number)
 hold-told old here version work number same may is counted =
-    subst (λ (s : Session). SessionTells BeginsHold old (session s.state work s.usage) (Hold number)) (sym same)
-    (subst (λ (w : Work). SessionTells BeginsHold old (session old.state w old.usage) (Hold number)) (sym is)
-    (subst (λ (n : ℕ). SessionTells BeginsHold old (session old.state (Holds version) old.usage) (Hold n)) (sym counted) (hold-begun old version may)))
+    subst (λ (s : Session). SessionTells BeginsHold old (session s.state work s.usage s.searches) (Hold number)) (sym same)
+    (subst (λ (w : Work). SessionTells BeginsHold old (session old.state w old.usage old.searches) (Hold number)) (sym is)
+    (subst (λ (n : ℕ). SessionTells BeginsHold old (session old.state (Holds version) old.usage old.searches) (Hold n)) (sym counted) (hold-begun old version may)))
 
 pub watch-told : (old here : Session) (version : NumberedNet) (watchers rounds : ℕ) (work : Work) (usage : Usage) (number : ℕ) → here ≡ old → rounds ≤ 16 → MayBegin old version
-    → StartsWatch watchers rounds version work here.usage usage → number ≡ version.number → SessionTells (BeginsWatch watchers rounds) old (session here.state work usage) (Watch watchers rounds number)
+    → StartsWatch watchers rounds version work here.usage usage → number ≡ version.number → SessionTells (BeginsWatch watchers rounds) old (session here.state work usage here.searches) (Watch watchers rounds number)
 watch-told old here version watchers rounds work usage number same few may starts counted =
-    subst (λ (n : ℕ). SessionTells (BeginsWatch watchers rounds) old (session here.state work usage) (Watch watchers rounds n)) (sym counted)
-    (subst (λ (s : Session). SessionTells (BeginsWatch watchers rounds) old (session s.state work usage) (Watch watchers rounds version.number)) (sym same)
+    subst (λ (n : ℕ). SessionTells (BeginsWatch watchers rounds) old (session here.state work usage here.searches) (Watch watchers rounds n)) (sym counted)
+    (subst (λ (s : Session). SessionTells (BeginsWatch watchers rounds) old (session s.state work usage s.searches) (Watch watchers rounds version.number)) (sym same)
     (watch-begun old version watchers rounds work usage few may (subst (λ (s : Session). StartsWatch watchers rounds version work s.usage usage) same starts)))
 
 pub joined-puts : (old here : Session) (reports : List RoundReport) (usage : Usage) (before after : List ℕ) → here ≡ old → AreReportsOf here.work reports → usage ≡ usage_joined here.work here.usage
-    → ((number : ℕ) → after ≡ before ++ spelled number (Joined reports)) → PutsJoined old (session here.state Idle usage) before after
+    → ((number : ℕ) → after ≡ before ++ spelled number (Joined reports)) → PutsJoined old (session here.state Idle usage here.searches) before after
 joined-puts old here reports usage before after same are is text =
-    let j : StepsAs (λ domain next. JoinsReporting domain reports next) here (session here.state Idle usage) = joined here reports usage are is in
-    record { reports = reports; joins = subst (λ (s : Session). StepsAs (λ domain next. JoinsReporting domain reports next) s (session here.state Idle usage)) same j; appended = text }
+    let j : StepsAs (λ domain next. JoinsReporting domain reports next) here (session here.state Idle usage here.searches) = joined here reports usage are is in
+    record { reports = reports; joins = subst (λ (s : Session). StepsAs (λ domain next. JoinsReporting domain reports next) s (session here.state Idle usage here.searches)) same j; appended = text }
 
 pub hold-refused : (old here : Session) (reason : Refusal) → here ≡ old → CanReport here.work → IsHindrance old.state.current old.work reason → SessionTells BeginsHold old here (Refused reason)
 hold-refused old here reason same can h =
@@ -417,26 +470,33 @@ told-replies command old new before after (Err (Refusing reason)) result c r = s
 told-replies command old new before after (Err (Memory error)) result c r = subst (SessionReplies command old new before after) (sym r) tt
 
 -- a commit that was accepted and published
-pub commit-told : (old : Session) (here new : State) (work after_work : Work) (usage counted : Usage) (before after : List ℕ) → session here work usage ≡ old → CanReport work
-    → CommitsVersion here new before after (Ok tt) → IsPublished new.current work usage after_work counted → PutsTold (SessionTells Commits old (session new after_work counted)) before after
-commit-told old here new work after_work usage counted before after same can committed published =
+pub commit-told : (old : Session) (here new : State) (work after_work : Work) (usage counted : Usage) (searches now : ℕ) (before after : List ℕ) → session here work usage searches ≡ old → CanReport work
+    → CommitsVersion here new before after (Ok tt) → CountsCommit here new searches now (Ok tt) → IsPublished new.current work usage after_work counted
+    → PutsTold (SessionTells Commits old (session new after_work counted now)) before after
+commit-told old here new work after_work usage counted searches now before after same can committed counts published =
     let version = committed.0 in
     let some : new.current ≡ Some version = ap (λ (s : State). s.current) committed.2 in
     let p : IsPublished (Some version) work usage after_work counted = subst (λ (o : Option NumberedNet). IsPublished o work usage after_work counted) some published in
-    let tells : SessionTells Commits old (session (with_next_version here version) (after_publishing work version) (usage_published work usage)) (Version version) =
-    subst (λ (s : Session). SessionTells Commits s (session (with_next_version here version) (after_publishing work version) (usage_published work usage)) (Version version)) same (commit-accepted here work usage version committed.1 committed.3 can) in
+    let within : CountsCommitWork here.current version.net searches now =
+    subst (λ (o : Option NumberedNet). IfSome o (λ v. CountsCommitWork here.current v.net searches now)) some counts in
+    let tells : SessionTells Commits old (session (with_next_version here version) (after_publishing work version) (usage_published work usage) (searches + within.0)) (Version version) =
+    subst (λ (s : Session). SessionTells Commits s (session (with_next_version here version) (after_publishing work version) (usage_published work usage) (searches + within.0)) (Version version)) same
+    (commit-accepted here work usage searches within.0 version committed.1 committed.3 can within.2) in
     record {
       told = Version version;
-      is = subst (λ (s : State). SessionTells Commits old (session s after_work counted) (Version version)) (sym committed.2)
-          (subst (λ (w : Work). SessionTells Commits old (session (with_next_version here version) w counted) (Version version)) (sym p.0)
-          (subst (λ (u : Usage). SessionTells Commits old (session (with_next_version here version) (after_publishing work version) u) (Version version)) (sym p.1) tells));
+      is = subst (λ (s : State). SessionTells Commits old (session s after_work counted now) (Version version)) (sym committed.2)
+          (subst (λ (w : Work). SessionTells Commits old (session (with_next_version here version) w counted now) (Version version)) (sym p.0)
+          (subst (λ (u : Usage). SessionTells Commits old (session (with_next_version here version) (after_publishing work version) u now) (Version version)) (sym p.1)
+          (subst (λ (n : ℕ). SessionTells Commits old (session (with_next_version here version) (after_publishing work version) (usage_published work usage) n) (Version version)) (sym within.1) tells)));
       accepted = refl;
       appended = committed.4;
     }
 
-pub commit-refused : (old : Session) (here new : State) (work : Work) (usage : Usage) (reason : Refusal) → session here work usage ≡ old → CanReport work → Moves Commits here new (Refused reason)
-    → SessionTells Commits old (session new work usage) (Refused reason)
-commit-refused old here new work usage reason same can m = subst (λ (s : Session). SessionTells Commits s (session new work usage) (Refused reason)) same (commit-rejected here new work usage reason can m)
+pub commit-refused : (old : Session) (here new : State) (work : Work) (usage : Usage) (searches now : ℕ) (reason : Refusal) → session here work usage searches ≡ old → CanReport work → Moves Commits here new (Refused reason) → now ≡ searches
+    → SessionTells Commits old (session new work usage now) (Refused reason)
+commit-refused old here new work usage searches now reason same can m still =
+    subst (λ (n : ℕ). SessionTells Commits old (session new work usage n) (Refused reason)) (sym still)
+    (subst (λ (s : Session). SessionTells Commits s (session new work usage searches) (Refused reason)) same (commit-rejected here new work usage searches reason can m))
 
 -- ---- what a session keeps of its work
 
@@ -491,10 +551,10 @@ commit-keeps here new before after (Refusing reason) h = h.0
 commit-keeps here new before after (Memory error) h = h
 
 -- and is told so
-pub commit-stopped : (old : Session) (here new : State) (work : Work) (usage : Usage) (before after : List ℕ) (stop : Stop) → session here work usage ≡ old → CanReport work
-    → CommitsVersion here new before after (Err stop) → Carries (SessionTells Commits old (session new work usage)) before after (Err stop)
-commit-stopped old here new work usage before after (Refusing reason) same can h = commit-refused old here new work usage reason same can h.1
-commit-stopped old here new work usage before after (Memory error) same can h = tt
+pub commit-stopped : (old : Session) (here new : State) (work : Work) (usage : Usage) (searches now : ℕ) (before after : List ℕ) (stop : Stop) → session here work usage searches ≡ old → CanReport work
+    → CommitsVersion here new before after (Err stop) → CountsCommit here new searches now (Err stop) → Carries (SessionTells Commits old (session new work usage now)) before after (Err stop)
+commit-stopped old here new work usage searches now before after (Refusing reason) same can h counts = commit-refused old here new work usage searches now reason same can h.1 counts
+commit-stopped old here new work usage searches now before after (Memory error) same can h counts = tt
 
 pub not-true : (b : Bool) → true ≡ not b → b ≡ false
 not-true true e = cc
@@ -505,12 +565,13 @@ not-false true e = refl
 not-false false e = cc
 
 -- a command that is none of these leaves background work alone
-pub of-domain : (command : Command) → (command ≡ CommitWord → ⊥) → (command ≡ HoldWord → ⊥) → ((t : ℕ) → (r : ℕ) → command ≡ WatchWord t r → ⊥) → (command ≡ JoinWord → ⊥) → IsOfDomain command
-of-domain CommitWord a b w j = a refl
-of-domain HoldWord a b w j = b refl
-of-domain (WatchWord t r) a b w j = w t r refl
-of-domain JoinWord a b w j = j refl
-of-domain command a b w j = tt
+pub of-domain : (command : Command) → (command ≡ CommitWord → ⊥) → ((repair : RepairName) → command ≡ ProveWord repair → ⊥) → (command ≡ HoldWord → ⊥) → ((t : ℕ) → (r : ℕ) → command ≡ WatchWord t r → ⊥) → (command ≡ JoinWord → ⊥) → IsOfDomain command
+of-domain CommitWord a p b w j = a refl
+of-domain (ProveWord repair) a p b w j = p repair refl
+of-domain HoldWord a p b w j = b refl
+of-domain (WatchWord t r) a p b w j = w t r refl
+of-domain JoinWord a p b w j = j refl
+of-domain command a p b w j = tt
 
 -- the last version of a session that committed was published, or the work was given up
 pub kept-either : (here new : State) (current : Option NumberedNet) (work after_work : Work) (usage counted : Usage) (before after : List ℕ) (result : Result (Unit {0}) AllocError) → current ≡ new.current

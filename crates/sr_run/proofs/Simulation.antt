@@ -3,10 +3,10 @@ use Rattle.std.proofs.Common.{◌≡◌, ℕ, Bool, List}
 use Rattle.std.proofs.lemmas.List.Elements.{All-nil}
 use Rattle.sr_repair.specs.Delivery.{EachRepairDelivers}
 use Rattle.sr_repair.proofs.DeliveryLemmas.{repair_delivers}
-use Rattle.sr_store.specs.declared.usage.Usage.{Usage}
 use Rattle.sr_engine.specs.Replies.{Replies, Answered, Script}
 use Rattle.sr_run.specs.Domain.{Domain, opening_domain}
 use Rattle.sr_run.specs.State.{IsShown}
+use Rattle.sr_run.specs.Usage.{Lent}
 use Rattle.sr_run.specs.Session.{Answers, conduct}
 use Rattle.sr_run.specs.Handlers.{session_conduct}
 use Rattle.sr_run.specs.Program.{EachDelivers}
@@ -14,7 +14,7 @@ use Rattle.sr_run.proofs.Likeness.{Follows}
 use Rattle.sr_run.proofs.StepLemmas.{ends-keep, replies-keep}
 use Rattle.sr_run.proofs.AcceptedNets.{nets-kept}
 
-pub session-follows : (lent : Usage) → Follows session_conduct conduct (IsShown lent)
+pub session-follows : (lent : Lent) → Follows session_conduct conduct (IsShown lent)
 session-follows lent = record {
   step = λ s s' t number line out refused h like. let next = h.steps lent t like in (next.0, next.2, next.1);
   last = λ s s' t out h like. let next = h.steps lent t like in (next.0, next.2, next.1);

@@ -1,5 +1,5 @@
 -- What is kept of a domain by the answers to lines.
-use Rattle.std.proofs.Common.{◌≡◌, ℕ, ◌+◌, Bool, List, [], ◌∷◌, refl, sym, subst, inl, inr, Option, Some, None}
+use Rattle.std.proofs.Common.{◌≡◌, ℕ, ◌+◌, Bool, true, false, List, [], ◌∷◌, refl, sym, subst, inl, inr, Option, Some, None}
 use Rattle.sr_model.specs.declared.name.LinkKey.{LinkKey}
 use Rattle.sr_model.specs.Key.{pair_of}
 use Rattle.sr_model.specs.Label.{Net}
@@ -7,18 +7,18 @@ use Rattle.sr_lsdb.specs.Edit.{Edit}
 use Rattle.sr_lsdb.specs.Edit.Edit.{Announce, SetCost, TakeDown, BringUp, SetDepth}
 use Rattle.sr_script.specs.declared.name.LinkName.{LinkName}
 use Rattle.sr_script.specs.declared.command.Command.{Command}
-use Rattle.sr_script.specs.declared.command.Command.TheVariants.{Lsp, Cost, Down, Up, Depth, Commit, DropStaged, ProofOpen, ProofVia, ProofNode, ProofAdj, ProofRow, ProofDone, Hold, Watch, Join}
+use Rattle.sr_script.specs.declared.command.Command.TheVariants.{Lsp, Cost, Down, Up, Depth, Commit, DropStaged, Prove, ProofOpen, ProofVia, ProofNode, ProofAdj, ProofRow, ProofDone, Hold, Watch, Join}
 use Rattle.sr_domain.specs.Net.{IsNetOf}
-use Rattle.sr_print.specs.Told.{Told}
+use Rattle.sr_print.specs.Told.{Told, is_refusal}
 use Rattle.sr_print.specs.Told.Told.{Hold as HoldTold, Watch as WatchTold}
 use Rattle.sr_engine.specs.Replies.{Replies}
 use Rattle.sr_repair.specs.Version.{NumberedNet}
 use Rattle.sr_cert.specs.Draft.{CertDraft}
-use Rattle.sr_run.specs.Domain.{Domain, Background, last_version, with_staged, with_dropped, with_draft, with_net, with_hold, with_watch, with_joined}
+use Rattle.sr_run.specs.Domain.{Domain, Background, last_version, with_staged, with_dropped, with_draft, with_net, with_hold, with_watch, with_joined, with_asked}
 use Rattle.sr_run.specs.Domain.Background.{AtRest, OfHold, OfWatch}
 use Rattle.sr_run.specs.Background.{BeginsWork, EndsWork, watch_from}
 use Rattle.sr_run.specs.Edits.{Refuses, StagesEdit, EditsNamed, Announces, Commits}
-use Rattle.sr_run.specs.Session.{Answers, EndsScript, Tells, TellsLine}
+use Rattle.sr_run.specs.Session.{Answers, EndsScript, Tells, TellsLine, after_question}
 use Rattle.sr_run.specs.Handlers.{IsOfDomain}
 use Rattle.sr_run.proofs.NameLemmas.{announced-then}
 
@@ -39,7 +39,7 @@ module _ (Q : Domain → Type 0) (staged : (domain : Domain) (edit : Edit) → Q
   pdu-keeps octets old told new (inr (lsp, reads, inl stale)) h = subst Q (sym stale.3.1) h
   pdu-keeps octets old told new (inr (lsp, reads, inr taken)) h = staged-keeps (Announce lsp) old told new taken.1 h
 
-  -- is kept by each command that leaves background work alone; the last clause serves all that no other names: they change nothing
+  -- is kept by each command that leaves background work alone and searches for nothing; the last clause serves all that no other names: they change nothing
   pub quiet-keeps : (old : Domain) (command : Command) (told : Told) (new : Domain) → IsOfDomain command → Tells old command told new → Q old → Q new
   quiet-keeps old (Lsp octets) told new quiet t h = pdu-keeps octets old told new t h
   quiet-keeps old (Cost link metric) told new quiet t h = link-keeps (λ key. SetCost key metric) link (last_version old.nets) old told new t h
@@ -48,6 +48,7 @@ module _ (Q : Domain → Type 0) (staged : (domain : Domain) (edit : Edit) → Q
   quiet-keeps old (Depth depth) told new quiet t h = staged-keeps (SetDepth depth) old told new t h
   quiet-keeps old Commit told new quiet t h = absurd quiet
   quiet-keeps old DropStaged told new quiet t h = subst Q (sym t.1) (dropped old h)
+  quiet-keeps old (Prove repair) told new quiet t h = absurd quiet
   quiet-keeps old (ProofOpen repair) told new quiet t h = subst Q (sym t.2) (drafted old t.0 h)
   quiet-keeps old (ProofVia link) told new quiet t h = subst Q (sym t.2) (drafted old t.0 h)
   quiet-keeps old (ProofNode node) told new quiet t h = subst Q (sym t.2) (drafted old t.0 h)
@@ -59,21 +60,22 @@ module _ (Q : Domain → Type 0) (staged : (domain : Domain) (edit : Edit) → Q
   quiet-keeps old Join told new quiet t h = absurd quiet
   quiet-keeps old command told new quiet t h = subst Q (sym t.1) h
 
--- the nets, what runs and the totals stay
+-- the nets, what runs, the totals and the questions for certificates stay
 pub record Stays (old new : Domain) : Type 0 where
   pub nets : new.nets ≡ old.nets
   pub background : new.background ≡ old.background
   pub totals : new.totals ≡ old.totals
+  pub asked : new.asked ≡ old.asked
 
-stays-itself : (domain : Domain) → Stays domain domain
-stays-itself domain = record { nets = refl; background = refl; totals = refl }
+pub stays-itself : (domain : Domain) → Stays domain domain
+stays-itself domain = record { nets = refl; background = refl; totals = refl; asked = refl }
 
 pub quiet-stays : (old : Domain) (command : Command) (told : Told) (new : Domain) → IsOfDomain command → Tells old command told new → Stays old new
 quiet-stays old command told new quiet t =
     quiet-keeps (Stays old)
-    (λ domain edit s. record { nets = s.nets; background = s.background; totals = s.totals })
-    (λ domain s. record { nets = s.nets; background = s.background; totals = s.totals })
-    (λ domain draft s. record { nets = s.nets; background = s.background; totals = s.totals })
+    (λ domain edit s. record { nets = s.nets; background = s.background; totals = s.totals; asked = s.asked })
+    (λ domain s. record { nets = s.nets; background = s.background; totals = s.totals; asked = s.asked })
+    (λ domain draft s. record { nets = s.nets; background = s.background; totals = s.totals; asked = s.asked })
     old command told new quiet t (stays-itself old)
 
 -- what each step of a domain keeps is kept by each answer
@@ -85,8 +87,13 @@ pub record IsKept (Q : Domain → Type 0) : Type 0 where
   pub held : (domain : Domain) (version : NumberedNet) → last_version domain.nets ≡ Some version → Q domain → Q (with_hold domain version)
   pub watched : (domain : Domain) (version : NumberedNet) (watchers rounds : ℕ) → last_version domain.nets ≡ Some version → Q domain → Q (with_watch domain (watch_from watchers rounds version))
   pub joined : (domain : Domain) → Q domain → Q (with_joined domain)
+  pub asked : (domain : Domain) → Q domain → Q (with_asked domain)
 
 module _ (Q : Domain → Type 0) (kept : IsKept Q) where
+  question-keeps : (refused : Bool) (old : Domain) → Q old → Q (after_question refused old)
+  question-keeps true old h = h
+  question-keeps false old h = kept.asked old h
+
   commit-keeps : (old : Domain) (told : Told) (new : Domain) → Commits old told new → Q old → Q new
   commit-keeps old told new (inl full) h = subst Q (sym full.1.1) h
   commit-keeps old told new (inr (room, inl rejects)) h = subst Q (sym rejects.dropped) (kept.dropped old h)
@@ -118,6 +125,7 @@ module _ (Q : Domain → Type 0) (kept : IsKept Q) where
   tells-keep old (Depth depth) told new t h = quietly old (Depth depth) told new tt t h
   tells-keep old Commit told new t h = commit-keeps old told new t h
   tells-keep old DropStaged told new t h = quietly old DropStaged told new tt t h
+  tells-keep old (Prove repair) told new t h = subst Q (sym t.1) (question-keeps (is_refusal told) old h)
   tells-keep old (ProofOpen repair) told new t h = quietly old (ProofOpen repair) told new tt t h
   tells-keep old (ProofVia link) told new t h = quietly old (ProofVia link) told new tt t h
   tells-keep old (ProofNode node) told new t h = quietly old (ProofNode node) told new tt t h

@@ -1,12 +1,12 @@
 -- At the end of a script the usage shows what its watches took.
-use Rattle.std.proofs.Common.{◌≡◌, ℕ, ◌+◌, ◌*◌, ◌^◌, ◌<◌, ◌≤◌, Bool, List, [], ◌∷◌, ◌++◌, length, length-append, Option, Some, None, refl, sym, ap, subst, ◌∙◌, inl, inr, arith}
+use Rattle.std.proofs.Common.{◌≡◌, ℕ, ◌+◌, ◌*◌, ◌^◌, ◌<◌, ◌≤◌, Bool, true, false, List, [], ◌∷◌, ◌++◌, length, length-append, Option, Some, None, refl, sym, ap, subst, ◌∙◌, inl, inr, arith}
 use Rattle.std.proofs.Math.Nat.{mul-le-mul_right}
 use Rattle.std.specs.List.{flat_map}
 use Rattle.sr_model.specs.Label.{Net}
 use Rattle.sr_repair.specs.Version.{NumberedNet}
 use Rattle.sr_script.specs.declared.command.Command.{Command}
-use Rattle.sr_script.specs.declared.command.Command.TheVariants.{Commit, Hold, Watch, Join}
-use Rattle.sr_print.specs.Told.{Told}
+use Rattle.sr_script.specs.declared.command.Command.TheVariants.{Commit, Prove, Hold, Watch, Join}
+use Rattle.sr_print.specs.Told.{Told, is_refusal}
 use Rattle.sr_print.specs.Told.Told.{Hold as HoldTold, Watch as WatchTold}
 use Rattle.sr_store.specs.declared.usage.Usage.{Usage}
 use Rattle.sr_work.specs.declared.work.Work.{Work}
@@ -17,8 +17,8 @@ use Rattle.sr_run.specs.Domain.{Domain, Background, WatchTotals, opening_domain,
 use Rattle.sr_run.specs.Domain.Background.{AtRest, OfHold, OfWatch}
 use Rattle.sr_run.specs.Background.{BeginsWork, EndsWork, watch_from}
 use Rattle.sr_run.specs.Edits.{Refuses, Commits}
-use Rattle.sr_run.specs.Usage.{ServesWatches, unused}
-use Rattle.sr_run.specs.Session.{Answers, Tells, TellsLine, conduct}
+use Rattle.sr_run.specs.Usage.{Lent, ServesWatches, unused}
+use Rattle.sr_run.specs.Session.{Answers, Tells, TellsLine, conduct, after_question}
 use Rattle.sr_run.specs.State.{Session, IsShown, IsWorkOf, ShowsWatches, session_before}
 use Rattle.sr_run.specs.Handlers.{IsAsked}
 use Rattle.sr_run.proofs.StepLemmas.{Stays, quiet-stays}
@@ -28,8 +28,13 @@ use Rattle.sr_run.proofs.LineLemmas.{said-well}
 none-shown : ShowsWatches no_watches Idle unused
 none-shown = record { places = omega arith; published = omega arith; given = 0; given_is = omega arith; few = omega arith; turns = 0; turns_are = omega arith; enough = omega arith }
 
-pub shown-first : (lent : Usage) → IsShown lent (session_before lent) opening_domain
-shown-first lent = record { state = refl; work = tt; usage = λ fresh. subst (ShowsWatches no_watches Idle) (sym fresh) none-shown }
+pub shown-first : (lent : Lent) → IsShown lent (session_before lent.usage lent.searches) opening_domain
+shown-first lent = record {
+  state = refl;
+  work = tt;
+  usage = λ fresh. subst (ShowsWatches no_watches Idle) (sym fresh) none-shown;
+  searches = record { commits = 0; within = refl; most = omega arith };
+}
 
 -- ---- how far the totals go
 
@@ -77,12 +82,19 @@ watch-sums watchers rounds old told new (Some version) AtRest few short b =
 watch-sums watchers rounds old told new (Some version) (OfHold held) few short b = sums-same old new (ap (λ (d : Domain). d.totals) b.1)
 watch-sums watchers rounds old told new (Some version) (OfWatch watch) few short b = sums-same old new (ap (λ (d : Domain). d.totals) b.1)
 
--- the last clause serves all commands that leave background work alone
+-- a question for a certificate leaves the totals
+question-totals : (refused : Bool) (old : Domain) → (after_question refused old).totals ≡ old.totals
+question-totals true old = refl
+question-totals false old = refl
+
+-- the last clause serves all commands that leave background work alone and search for nothing
 tells-sums : (old : Domain) (command : Command) (told : Told) (new : Domain) → IsAsked command → Tells old command told new → sums new ≤ sums old + 200
 tells-sums old Commit told new asked t = commit-sums old told new t
 tells-sums old Hold told new asked t = hold-sums old told new (last_version old.nets) old.background t
 tells-sums old (Watch watchers rounds) told new asked t = watch-sums watchers rounds old told new (last_version old.nets) old.background asked.1 asked.2 t
 tells-sums old Join told new asked t = sums-same old new (ap (λ (d : Domain). d.totals) t.1.1)
+tells-sums old (Prove repair) told new asked t =
+    sums-same old new (ap (λ (d : Domain). d.totals) t.1 ∙ question-totals (is_refusal told) old)
 tells-sums old command told new asked t = sums-same old new (quiet-stays old command told new tt t).totals
 
 line-sums : (old : Domain) (line : List ℕ) (told : Told) (new : Domain) → TellsLine old line told new → sums new ≤ sums old + 200

@@ -38,7 +38,7 @@ audit-moved state version items some audit domain same =
     (domain, same, (subst (λ (o : Option NumberedNet). TellsOf TellsAudit o (AuditTold version items)) (sym (ap (λ (s : State). s.current) same ∙ some)) (items, audit, refl), refl))
 
 audit-told : (s : Session) (version : NumberedNet) (items : List Item) → CanReport s.work → s.state.current ≡ Some version → IsAudit version.net items → SessionTells (λ domain t next. Tells domain AuditFull t next) s s (AuditTold version items)
-audit-told s version items can some audit = lifted AuditFull s.state s.state s.work s.usage (AuditTold version items) tt can (audit-moved s.state version items some audit)
+audit-told s version items can some audit = lifted AuditFull s.state s.state s.work s.usage s.searches (AuditTold version items) tt can (audit-moved s.state version items some audit)
 
 gives-whole : (number : ℕ) (state : Session) (current : Option NumberedNet) (before after : Written) (put : Result (Unit {0}) SinkFault) (result : Result Bool SinkFault)
     → CanReport state.work → state.state.current ≡ current → WritesAudit current before after put → IsNoRefusal put result → Gives (GivesCommand AuditFull number state) before after result state

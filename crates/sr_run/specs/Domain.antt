@@ -26,14 +26,15 @@ pub record WatchTotals : Type 0 where
   pub commits : ℕ
 
 -- the accepted and the tentative facts with how many edits are staged; the nets of the accepted commits, the last one
--- first; the certificate that is being written, where one is open; what runs in the background; and what was asked of
--- all watches
+-- first; the certificate that is being written, where one is open; what runs in the background; what was asked of all
+-- watches; and how many certificates were asked for by `prove`
 pub record Domain : Type 0 where
   pub editing : Editing
   pub nets : List Net
   pub draft : Option CertDraft
   pub background : Background
   pub totals : WatchTotals
+  pub asked : ℕ
 
 -- before the first watch
 abbrev pub no_watches : WatchTotals
@@ -41,7 +42,14 @@ no_watches = record { places = 0; rounds = 0; commits = 0 }
 
 -- before the first line
 abbrev pub opening_domain : Domain
-opening_domain = record { editing = no_edits; nets = []; draft = None; background = AtRest; totals = no_watches }
+opening_domain = record {
+  editing = no_edits;
+  nets = [];
+  draft = None;
+  background = AtRest;
+  totals = no_watches;
+  asked = 0;
+}
 
 -- the version of the last of these nets: its number is how many there are
 abbrev pub last_version : List Net → Option NumberedNet
@@ -107,3 +115,7 @@ with_watch domain watch = record domain { background = OfWatch watch; totals = w
 -- after what runs is joined
 abbrev pub with_joined : Domain → Domain
 with_joined domain = record domain { background = AtRest }
+
+-- after a certificate was asked for
+abbrev pub with_asked : Domain → Domain
+with_asked domain = record domain { asked = domain.asked + 1 }

@@ -1,11 +1,13 @@
 -- What the session's functions say: what was appended is told, or why they stopped is.
-use Rattle.std.specs.Prelude.{◌≡◌, ℕ, ◌<◌, ◌≤◌, ◌⊎◌, Bool, true, false, List, ◌++◌, Option, Some, None, is_some, MatchResult}
+use Rattle.std.specs.Prelude.{◌≡◌, ℕ, ◌+◌, ◌<◌, ◌≤◌, ◌⊎◌, Bool, true, false, List, ◌++◌, Option, Some, None, is_some, IfSome, MatchResult}
+use Rattle.std.specs.declared.alloc.AllocError.{AllocError}
 use Rattle.std.specs.declared.result.Result.{Result}
 use Rattle.std.specs.declared.result.Result.TheVariants.{Ok, Err}
 use Rattle.sr_model.specs.declared.case.Case.{Case}
 use Rattle.sr_model.specs.Case.{IsAffected}
 use Rattle.sr_model.specs.declared.link.LinkNo.{LinkNo}
 use Rattle.sr_model.specs.declared.name.LinkKey.{LinkKey}
+use Rattle.sr_model.specs.declared.rule.DomainRule.{DomainRule}
 use Rattle.sr_model.specs.Label.{Net}
 use Rattle.sr_model.specs.Key.{pair_of}
 use Rattle.sr_lsdb.specs.Edit.{Edit}
@@ -18,7 +20,7 @@ use Rattle.sr_script.specs.declared.name.RepairName.{RepairName}
 use Rattle.sr_script.specs.declared.command.Command.{Command}
 use Rattle.sr_model.specs.declared.link.TheConstants.{MOST_METRIC}
 use Rattle.sr_script.specs.declared.command.TheConstants.{MOST_DEPTH, MOST_WATCHERS, MOST_ROUNDS, MOST_WORKERS, MOST_EACH}
-use Rattle.sr_script.specs.declared.command.Command.TheVariants.{Cost, Depth, Load, Prove, ProofOpen, ProofVia, ProofNode, ProofAdj, ProofRow, ProofDone, Commit, AuditFull, Hold, Watch, Join}
+use Rattle.sr_script.specs.declared.command.Command.TheVariants.{Cost, Depth, Load, Prove, ProofOpen, ProofVia, ProofNode, ProofAdj, ProofRow, ProofDone, Commit, AuditFull, Hold, Watch, Join, Nodes, Links, Aside, AuditBy, AuditLabels, RepairCase, FailsNode}
 use Rattle.sr_print.specs.declared.refusal.Refusal.{Refusal}
 use Rattle.sr_print.specs.declared.refusal.Refusal.TheVariants as refusal
 use Rattle.sr_print.specs.Told.{Told, spelled, is_refusal}
@@ -53,7 +55,9 @@ use Rattle.sr_run.specs.Edits.{Commits}
 use Rattle.sr_run.specs.Background.{JoinsReporting}
 use Rattle.sr_run.specs.Names.{IsNamedNode, NamesNode, OfEnds, OfAnnounced, OfNamedLink, OfFailure, OfAffected, IsLinkOf, key_meant}
 use Rattle.sr_run.specs.Session.{Tells, Answers, EndsScript, IsRefusedAs}
+use Rattle.sr_run.specs.Searches.{CountsCommitWork}
 use Rattle.sr_run.specs.State.{State, Session, IsShown, CanReport, HasAudit, IsNextVersion, session_before, state_of, with_next_version}
+use Rattle.sr_run.specs.Usage.{Lent}
 
 -- what is told was appended, and it is no refusal: so it is spelled whatever the line's number
 pub record PutsTold (tells : Told → Type 0) (before after : List ℕ) : Type 0 where
@@ -87,7 +91,7 @@ CarriesOut command old new before after result =
 -- this step that the second one shows
 pub record StepsAs (step : Domain → Domain → Type 0) (old new : Session) : Type 0 where
   pub reports : CanReport new.work
-  pub steps : (lent : Usage) (domain : Domain) → IsShown lent old domain
+  pub steps : (lent : Lent) (domain : Domain) → IsShown lent old domain
       → (next : Domain) × IsShown lent new next × step domain next
 
 -- this is told, and the second session is the one after it
@@ -115,33 +119,45 @@ IsAsked (Load workers each) = (0 < workers) × (workers ≤ MOST_WORKERS) × (0 
 IsAsked (Watch watchers rounds) = (0 < watchers) × (watchers ≤ MOST_WATCHERS) × (rounds ≤ MOST_ROUNDS)
 IsAsked _ = Unit {0}
 
--- the command neither begins nor joins background work, nor publishes to it
+-- the command neither begins nor joins background work, nor publishes to it, and searches for no distances
 abbrev pub IsOfDomain : Command → Type 0
 IsOfDomain Commit = ⊥
+IsOfDomain (Prove repair) = ⊥
 IsOfDomain Hold = ⊥
 IsOfDomain (Watch watchers rounds) = ⊥
 IsOfDomain Join = ⊥
 IsOfDomain _ = Unit {0}
 
--- the command leaves background work alone, and its answer is appended at once
+-- such a command whose answer is appended at once
 abbrev pub IsOfText : Command → Type 0
 IsOfText AuditFull = ⊥
 IsOfText Commit = ⊥
+IsOfText (Prove repair) = ⊥
 IsOfText Hold = ⊥
 IsOfText (Watch watchers rounds) = ⊥
 IsOfText Join = ⊥
 IsOfText _ = Unit {0}
 
 -- such a command that has nothing to do with certificates
+abbrev pub IsUncertified : Command → Type 0
+IsUncertified (ProofOpen repair) = ⊥
+IsUncertified (ProofVia link) = ⊥
+IsUncertified (ProofNode node) = ⊥
+IsUncertified (ProofAdj link) = ⊥
+IsUncertified (ProofRow cells) = ⊥
+IsUncertified (ProofDone labels) = ⊥
+IsUncertified command = IsOfText command
+
+-- such a command that doesn't ask where the net comes from, or of an audit as a whole
 abbrev pub IsPlain : Command → Type 0
-IsPlain (Prove repair) = ⊥
-IsPlain (ProofOpen repair) = ⊥
-IsPlain (ProofVia link) = ⊥
-IsPlain (ProofNode node) = ⊥
-IsPlain (ProofAdj link) = ⊥
-IsPlain (ProofRow cells) = ⊥
-IsPlain (ProofDone labels) = ⊥
-IsPlain command = IsOfText command
+IsPlain Nodes = ⊥
+IsPlain Links = ⊥
+IsPlain Aside = ⊥
+IsPlain (AuditBy grouping) = ⊥
+IsPlain AuditLabels = ⊥
+IsPlain (RepairCase kind link) = ⊥
+IsPlain (FailsNode node) = ⊥
+IsPlain command = IsUncertified command
 
 -- the two systems are these nodes
 abbrev pub AreEnds : Net → EndNames → ℕ → ℕ → Type 0
@@ -287,6 +303,28 @@ CommitsVersion old new before after (Err (Refused reason)) =
     (new.current ≡ old.current) × Moves Commits old new (RefusedTold reason)
 CommitsVersion old new before after (Err (Memory error)) = new.current ≡ old.current
 
+-- what the counter of searches says of the making of the version after this one: it grew by what its net may take, and
+-- not at all where a rule is broken; where memory ran out it didn't fall
+abbrev pub CountsMaking : Option NumberedNet → ℕ → ℕ → Result (Result NumberedNet DomainRule) AllocError → Type 0
+CountsMaking current before after (Ok (Ok version)) = CountsCommitWork current version.net before after
+CountsMaking current before after (Ok (Err rule)) = after ≡ before
+CountsMaking current before after (Err error) = before ≤ after
+
+-- what the counter of searches says of a commit: it grew by what an accepted net may take, and not at all where the
+-- commit was refused; where memory ran out it didn't fall
+abbrev pub CountsCommit : State → State → ℕ → ℕ → Result (Unit {0}) Stop → Type 0
+CountsCommit old new before after (Ok done) =
+    IfSome new.current (λ version. CountsCommitWork old.current version.net before after)
+CountsCommit old new before after (Err (Refused reason)) = after ≡ before
+CountsCommit old new before after (Err (Memory error)) = before ≤ after
+
+-- what it says of a question for a certificate: it grew by one at most, and not at all where the line was refused;
+-- where memory ran out it didn't fall
+abbrev pub CountsProof : ℕ → ℕ → Result (Unit {0}) Stop → Type 0
+CountsProof before after (Ok done) = (before ≤ after) × (after ≤ before + 1)
+CountsProof before after (Err (Refused reason)) = after ≡ before
+CountsProof before after (Err (Memory error)) = before ≤ after
+
 -- an answer that was written is no refusal, or there was the fault
 abbrev pub IsNoRefusal : Result (Unit {0}) SinkFault → Result Bool SinkFault → Type 0
 IsNoRefusal written result = MatchResult written (λ _. result ≡ Ok false) (λ fault. result ≡ Err fault)
@@ -321,9 +359,10 @@ pub record PutsJoined (old new : Session) (before after : List ℕ) : Type 0 whe
   pub joins : StepsAs (λ domain next. JoinsReporting domain reports next) old new
   pub appended : (number : ℕ) → after ≡ before ++ spelled number (Joined reports)
 
--- the run of a script with a usage that was lent: how it ended, and that the session's usage was given back
-pub record RunsLent (old new : Devices) (used usage : Usage) (end : End) : Type 0 where
+-- the run of a script with what was lent: how it ended, and that the session's usage and its counter were given back
+pub record RunsLent (old new : Devices) (lent back : Lent) (end : End) : Type 0 where
   pub final : Session
-  pub ran : Ran session_conduct (session_before used) old new end final
+  pub ran : Ran session_conduct (session_before lent.usage lent.searches) old new end final
   pub counts : CountsShow old new end
-  pub usage_is : usage ≡ final.usage
+  pub usage_is : back.usage ≡ final.usage
+  pub searches_are : back.searches ≡ final.searches

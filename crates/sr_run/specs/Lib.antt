@@ -5,8 +5,11 @@ pub mod Background
 pub mod Questions
 pub mod Failures
 pub mod Certificates
+pub mod Account
+pub mod Insight
 pub mod Session
 pub mod Usage
+pub mod Searches
 pub mod Program
 pub mod State
 pub mod Handlers

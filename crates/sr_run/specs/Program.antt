@@ -17,10 +17,11 @@ use Rattle.sr_words.specs.Tasks.{Asked, IsTaskOf, BeginWithMake}
 use Rattle.sr_store.specs.declared.usage.Usage.{Usage}
 use Rattle.sr_run.specs.Domain.{Domain, opening_domain}
 use Rattle.sr_run.specs.Session.{Answers, conduct}
-use Rattle.sr_run.specs.Usage.{unused, ServesWatches}
+use Rattle.sr_run.specs.Usage.{Lent, unused, ServesWatches}
+use Rattle.sr_run.specs.Searches.{CountsSearches}
 
--- an execution of the program: the devices before and after it, the bytes that it took, those that it wrote, and the
--- usage of stores before and after it
+-- an execution of the program: the devices before and after it, the bytes that it took, those that it wrote, the usage
+-- of stores before and after it, and what the counter of searches stood at before and after it
 pub record Execution : Type 0 where
   pub old : Devices
   pub new : Devices
@@ -28,6 +29,8 @@ pub record Execution : Type 0 where
   pub out : List ℕ
   pub used : Usage
   pub usage : Usage
+  pub counted : ℕ
+  pub count : ℕ
 
 -- the count of failed reads stayed
 abbrev pub ReadsWell : Execution → Type 0
@@ -50,7 +53,8 @@ abbrev pub EachDelivers : Domain → Type 0
 EachDelivers domain = All EachRepairDelivers domain.nets
 
 -- the script was read to its end, both counts of faults stayed, all of it was answered, every repair of each accepted
--- net has a stack and delivers under it, and the usage, unless it was used before, shows what the watches took
+-- net has a stack and delivers under it, the usage, unless it was used before, shows what the watches took, and no more
+-- searches were counted than the commits and the questions for certificates may take
 pub record AnswersScript (run : Execution) (refused : Bool) : Type 0 where
   pub at_end : IsAtEnd run.new.left
   pub few : length run.taken ≤ most_bytes
@@ -58,6 +62,7 @@ pub record AnswersScript (run : Execution) (refused : Bool) : Type 0 where
   pub script : Script conduct opening_domain run.taken run.out refused final
   pub delivers : EachDelivers final
   pub serves : run.used ≡ unused → ServesWatches final.totals run.usage
+  pub searches : CountsSearches final run.counted run.count
   pub reads : ReadsWell run
   pub writes : WritesWell run
 
@@ -80,12 +85,13 @@ EndShows run Memory = BeginsToAnswer run × ReadsWell run × WritesWell run
 EndShows run TooMuch =
     (most_bytes < length run.taken) × AnswersLines run (script_of run.taken) × ReadsWell run × WritesWell run
 
--- nothing was taken, the count of failed reads and the usage stayed, and the ending says how much of the script was
--- written
+-- nothing was taken, the count of failed reads, the usage and the counter of searches stayed, and the ending says how
+-- much of the script was written
 pub record MakesScript (nodes start : ℕ) (run : Execution) (end : End) : Type 0 where
   pub taken : run.taken ≡ []
   pub reads : ReadsWell run
   pub usage : run.usage ≡ run.used
+  pub searches : run.count ≡ run.counted
   pub shows : MakingShows (made_script nodes start) run.out run.old.write_faults run.new.write_faults end
 
 -- what the ending of a task says of the run, which answers a script or makes one
@@ -93,13 +99,14 @@ abbrev pub TaskShows : AskedTask → Execution → End → Type 0
 TaskShows task.Run run end = EndShows run end
 TaskShows (task.Make nodes start) run end = MakesScript nodes start run end
 
--- nothing was taken and nothing written, and both counts of faults and the usage stayed
+-- nothing was taken and nothing written, and both counts of faults, the usage and the counter of searches stayed
 pub record DoesNothing (run : Execution) : Type 0 where
   pub taken : run.taken ≡ []
   pub out : run.out ≡ []
   pub reads : ReadsWell run
   pub writes : WritesWell run
   pub usage : run.usage ≡ run.used
+  pub searches : run.count ≡ run.counted
 
 -- the words ask for this task, and the status tells how it ended: 0 or 1 where it was done, by whether a line was
 -- refused, 3 where a read failed, 4 where a write failed, 5 where memory ran out, 6 where there are too many
@@ -120,16 +127,28 @@ StatusShows words run status =
     ⊎ (IsTaskOf words None × (status ≡ 2) × DoesNothing run)
     ⊎ (BeginWithMake words × (status ≡ status_of Memory) × DoesNothing run)
 
+-- an execution that took and wrote these bytes, was lent this and gave that back
+abbrev pub execution_of : Devices → Devices → List ℕ → List ℕ → Lent → Lent → Execution
+execution_of old new taken out lent back = record {
+  old = old;
+  new = new;
+  taken = taken;
+  out = out;
+  used = lent.usage;
+  usage = back.usage;
+  counted = lent.searches;
+  count = back.searches;
+}
+
 -- these bytes were taken from the source, none past the first one too many, those were appended to the sink, and
--- the status says what they are, and what the usage shows
-pub record RunsTo (words : List (String Global)) (old new : Devices) (used usage : Usage) (status : ℕ) : Type 0 where
+-- the status says what they are, and what the usage and the counter of searches show
+pub record RunsTo (words : List (String Global)) (old new : Devices) (lent back : Lent) (status : ℕ) : Type 0 where
   pub taken : List ℕ
   pub took : Consumes old.left new.left taken
   pub few : length taken ≤ most_bytes + 1
   pub out : List ℕ
   pub appended : Appends old.held new.held out
-  pub shows : StatusShows words
-      (record { old = old; new = new; taken = taken; out = out; used = used; usage = usage }) status
+  pub shows : StatusShows words (execution_of old new taken out lent back) status
 
 -- where the words ask for `run`, and the source tells what it has left: a script that isn't too long is answered
 -- to its end, or memory runs out, unless a count of faults rose or stands at its last value

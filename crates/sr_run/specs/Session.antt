@@ -1,10 +1,11 @@
 -- What is told to each line of a script, and the state after it.
-use Rattle.std.specs.Prelude.{◌≡◌, ℕ, ◌⊎◌, Bool, List, Option, Some, None}
+use Rattle.std.specs.Prelude.{◌≡◌, ℕ, ◌⊎◌, Bool, true, false, List, Option, Some, None}
 use Rattle.sr_model.specs.Key.{pair_of}
 use Rattle.sr_model.specs.Graph.{node_count, link_count}
 use Rattle.sr_lsdb.specs.Edit.Edit.{SetCost, TakeDown, BringUp, SetDepth}
+use Rattle.sr_script.specs.declared.name.RepairName.{RepairName}
 use Rattle.sr_script.specs.declared.command.Command.{Command}
-use Rattle.sr_script.specs.declared.command.Command.TheVariants.{Lsp, Cost, Down, Up, Depth, Commit, DropStaged, Dist, Next, Label, Spaces, Repair, AdjRepair, AdjBackup, Prove, ProofOpen, ProofVia, ProofNode, ProofAdj, ProofRow, ProofDone, Walk, WalkRepair, Load, Audit, AuditFull, Hold, Watch, Join, Show}
+use Rattle.sr_script.specs.declared.command.Command.TheVariants.{Lsp, Cost, Down, Up, Depth, Commit, DropStaged, Dist, Next, Label, Spaces, Repair, AdjRepair, AdjBackup, Prove, ProofOpen, ProofVia, ProofNode, ProofAdj, ProofRow, ProofDone, Walk, WalkRepair, Load, Audit, AuditFull, Hold, Watch, Join, Show, Nodes, Links, Aside, AuditBy, AuditLabels, RepairCase, FailsNode}
 use Rattle.sr_script.specs.declared.line.Line.TheVariants.{Nothing as NoWord, Word}
 use Rattle.sr_script.specs.declared.line.LineFault.{LineFault}
 use Rattle.sr_script.specs.declared.line.LineFault.TheVariants as fault
@@ -17,11 +18,13 @@ use Rattle.sr_repair.specs.Version.{NumberedNet}
 use Rattle.sr_engine.specs.Replies.{Conduct}
 use Rattle.sr_cert.specs.declared.draft.CertLine.TheVariants.{Via, AdjSegment}
 use Rattle.sr_cert.specs.Draft.{CertDraft}
-use Rattle.sr_run.specs.Domain.{Domain, last_version, number_of, with_draft}
+use Rattle.sr_run.specs.Domain.{Domain, last_version, number_of, with_draft, with_asked}
 use Rattle.sr_run.specs.Edits.{Refuses, Announces, EditsLink, StagesEdit, DropsStaged, Commits}
 use Rattle.sr_run.specs.Background.{BeginsHold, BeginsWatch, JoinsWork, EndsWork}
 use Rattle.sr_run.specs.Questions.{TellsDistance, TellsNextHops, TellsLookup, TellsWalk, TellsLoads}
 use Rattle.sr_run.specs.Failures.{TellsSpaces, TellsRepair, TellsAdjRepair, TellsAdjBackup, TellsRepairWalk, TellsSummary, TellsAudit}
+use Rattle.sr_run.specs.Account.{TellsNodes, TellsLinks, TellsAsides}
+use Rattle.sr_run.specs.Insight.{TellsCoverage, TellsStacks, TellsCaseRepairs, TellsNodeRepairs}
 use Rattle.sr_run.specs.Certificates.{Drafting, DraftsOf, TellsProof, OpensDraft, KeepsLink, KeepsNode, KeepsRow, DecidesDraft}
 
 -- this is told of the version, or there is none, which is refused
@@ -32,6 +35,16 @@ TellsOf tells (Some version) told = tells version told
 -- a question about the last version, which changes nothing
 abbrev pub Asks : (NumberedNet → Told → Type 0) → Domain → Told → Domain → Type 0
 Asks tells old told new = TellsOf tells (last_version old.nets) told × (new ≡ old)
+
+-- after a question for a certificate: where it is refused nothing changes
+abbrev pub after_question : Bool → Domain → Domain
+after_question true old = old
+after_question false old = with_asked old
+
+-- `prove`: a question about the last version, which is counted
+abbrev pub AsksProof : RepairName → Domain → Told → Domain → Type 0
+AsksProof repair old told new =
+    TellsOf (TellsProof repair) (last_version old.nets) told × (new ≡ after_question (is_refusal told) old)
 
 -- a line of a certificate about the last version, which changes the open certificate alone
 abbrev pub WritesDraft : (NumberedNet → Drafting) → Domain → Told → Domain → Type 0
@@ -78,7 +91,7 @@ Tells old (Label node label) told new = Asks (TellsLookup node label) old told n
 Tells old (Spaces repair) told new = Asks (TellsSpaces repair) old told new
 Tells old (Repair repair) told new = Asks (TellsRepair repair) old told new
 Tells old (AdjRepair link) told new = Asks (TellsAdjRepair link old.editing.accepted) old told new
-Tells old (Prove repair) told new = Asks (TellsProof repair) old told new
+Tells old (Prove repair) told new = AsksProof repair old told new
 Tells old (ProofOpen repair) told new = WritesDraft (OpensDraft repair) old told new
 Tells old (ProofVia link) told new = WritesDraft (KeepsLink Via link) old told new
 Tells old (ProofNode node) told new = WritesDraft (KeepsNode node) old told new
@@ -95,6 +108,13 @@ Tells old (Watch watchers rounds) told new = BeginsWatch watchers rounds old tol
 Tells old Join told new = JoinsWork old told new
 Tells old Show told new = Shows old told new
 Tells old (AdjBackup link) told new = Asks (TellsAdjBackup link old.editing.accepted) old told new
+Tells old Nodes told new = Asks TellsNodes old told new
+Tells old Links told new = Asks (TellsLinks old.editing.accepted) old told new
+Tells old Aside told new = Asks (TellsAsides old.editing.accepted) old told new
+Tells old (AuditBy grouping) told new = Asks (TellsCoverage grouping) old told new
+Tells old AuditLabels told new = Asks TellsStacks old told new
+Tells old (RepairCase kind link) told new = Asks (TellsCaseRepairs kind link) old told new
+Tells old (FailsNode node) told new = Asks (TellsNodeRepairs node) old told new
 
 -- a line with this fault is refused for this reason; running out of memory ends the run
 abbrev pub IsRefusedAs : LineFault → Refusal → Type 0

@@ -17,7 +17,8 @@ use Rattle.sr_work.specs.declared.work.Work.TheVariants.{Idle, Holds, Watches}
 use Rattle.sr_run.specs.declared.commit.TheConstants.{MOST_VERSIONS}
 use Rattle.sr_run.specs.Domain.{Domain, opening_domain, Background, BegunWatch, WatchTotals, last_version, number_of, versions_since}
 use Rattle.sr_run.specs.Domain.Background.{AtRest, OfHold, OfWatch}
-use Rattle.sr_run.specs.Usage.{unused}
+use Rattle.sr_run.specs.Usage.{Lent, unused}
+use Rattle.sr_run.specs.Searches.{CountsSearches}
 
 -- the accepted and the tentative facts with how many edits are staged, the version of the last accepted commit, and the
 -- certificate that is open, where one is
@@ -54,11 +55,13 @@ pub record IsNextVersion (state : State) (version : NumberedNet) : Type 0 where
   pub counted : version.number ≡ number_of state.current + 1
   pub net : IsNetOf state.editing.tentative version.net
 
--- a session between two lines: its state, the work that runs beside it, and the usage of the work's stores
+-- a session between two lines: its state, the work that runs beside it, the usage of the work's stores, and what the
+-- counter of searches stands at
 pub record Session : Type 0 where
   pub state : State
   pub work : Work
   pub usage : Usage
+  pub searches : ℕ
 
 -- whether work runs
 abbrev pub is_running : Work → Bool
@@ -66,9 +69,10 @@ is_running Idle = false
 is_running (Holds version) = true
 is_running (Watches watched) = true
 
--- a session before its first line
-abbrev pub session_before : Usage → Session
-session_before usage = record { state = state_of opening_domain; work = Idle; usage = usage }
+-- a session before its first line, with this usage and a counter that stands at this
+abbrev pub session_before : Usage → ℕ → Session
+session_before usage searches =
+    record { state = state_of opening_domain; work = Idle; usage = usage; searches = searches }
 
 -- the version has an audit
 abbrev pub HasAudit : NumberedNet → Type 0
@@ -122,8 +126,9 @@ pub record ShowsWatches (totals : WatchTotals) (work : Work) (usage : Usage) : T
   pub turns_are : usage.turns ≡ counted turns
   pub enough : totals.rounds ≤ turns + turns_due work + MOST_ROUNDS * (totals.places - given)
 
--- the session, which was lent this usage, shows the domain
-pub record IsShown (lent : Usage) (session : Session) (domain : Domain) : Type 0 where
+-- the session, which was lent this, shows the domain
+pub record IsShown (lent : Lent) (session : Session) (domain : Domain) : Type 0 where
   pub state : state_of domain ≡ session.state
   pub work : IsWorkOf domain.nets domain.background session.work
-  pub usage : lent ≡ unused → ShowsWatches domain.totals session.work session.usage
+  pub usage : lent.usage ≡ unused → ShowsWatches domain.totals session.work session.usage
+  pub searches : CountsSearches domain lent.searches session.searches

@@ -1,8 +1,17 @@
--- What the usage of stores shows of the watches of a script.
-use Rattle.std.specs.Prelude.{◌≡◌, ◌+◌, ◌-◌, ◌*◌, ◌≤◌}
+-- What is lent to a run, and what the usage of stores shows of the watches of a script.
+use Rattle.std.specs.Prelude.{◌≡◌, ℕ, ◌+◌, ◌-◌, ◌*◌, ◌≤◌}
 use Rattle.sr_script.specs.declared.command.TheConstants.{MOST_ROUNDS}
 use Rattle.sr_store.specs.declared.usage.Usage.{Usage}
 use Rattle.sr_run.specs.Domain.{WatchTotals}
+
+-- what a run is lent, and gives back: the usage of stores, and a counter of searches by what it stands at
+pub record Lent : Type 0 where
+  pub usage : Usage
+  pub searches : ℕ
+
+-- this usage, and a counter that stands at this
+abbrev pub lent_of : Usage → ℕ → Lent
+lent_of usage searches = record { usage = usage; searches = searches }
 
 -- nothing was asked of a store yet
 abbrev pub unused : Usage

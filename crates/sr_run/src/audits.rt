@@ -20,7 +20,11 @@ use sr_repair::{Version, case_count};
 use std::alloc::{AllocError, Global};
 
 /// Appends how many answers of each sort the audit of the version of this number has.
-fn put_audit_counts(number: u32, counts: Counts, out: &mut Vec<u8>) -> Result<(), AllocError>
+pub(crate) fn put_audit_counts(
+    number: u32,
+    counts: Counts,
+    out: &mut Vec<u8>,
+) -> Result<(), AllocError>
     ensures { OnOk result (out.new.items ≡ out.old.items ++ summary_line number counts) }
 {
     put_summary(

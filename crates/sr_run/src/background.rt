@@ -1,4 +1,5 @@
-//! A script's session: the domain's session, and the work that runs beside it. `hold`, `watch`, `join` and `commit`.
+//! A script's session: the domain's session, the work that runs beside it, and the counter of searches. `hold`, `watch`,
+//! `join`, `commit` and `prove`.
 ghost use Rattle.std.specs.Prelude.{◌≡◌, ◌<◌, ◌≤◌, ◌++◌, ℕ, IfSome, MatchResult, OnOk};
 ghost use Rattle.std.specs.Arc.{arc_value};
 ghost use Rattle.sr_engine.specs.Replies.{AtEnd, Gives, ToHead};
@@ -10,10 +11,12 @@ ghost use Rattle.sr_script.specs.declared.command.TheConstants.{MOST_ROUNDS, MOS
 ghost use Rattle.sr_work.specs.Works.{MayFollow};
 ghost use Rattle.sr_run.specs.Background.{BeginsHold, BeginsWatch};
 ghost use Rattle.sr_run.specs.Edits.{Commits};
+ghost use Rattle.sr_run.specs.Session.{AsksProof};
 ghost use Rattle.sr_run.specs.State.{is_running, session_before};
 ghost use Rattle.sr_run.specs.Handlers.{Carries, GivesCommand, IsAsked, IsPublished, MayBegin, MayNotBegin, PutsJoined, RefusesLine, SessionAnswers, SessionEnds, SessionReplies, SessionTells};
 
 use crate::audits::put_audit;
+use crate::certificates::prove;
 use crate::current::{CurrentVersion, has_audit};
 use crate::session::{DomainSession, Reply, accepted, refusal_of_fault, replied, write_refusal};
 use crate::stop::Stop;
@@ -22,7 +25,8 @@ use sr_engine::Answers;
 use sr_model::RoundReport;
 use sr_print::{Refusal, put_hold, put_joined, put_report, put_watch};
 use sr_repair::Version;
-use sr_script::{Command, Line, LineFault, read_line};
+use sr_script::{Command, Line, LineFault, RepairName, read_line};
+use sr_spf::Steps;
 use sr_store::Usage;
 use sr_watch::Gate;
 use sr_work::Work;
@@ -30,26 +34,28 @@ use std::alloc::{AllocError, Global};
 use std::marker::Model;
 use std::mem::replace;
 use std::sync::Arc;
+use std::sync::ledger::Ledger;
 
-/// A session between two lines of a script: the domain's session, the work that runs beside it, and the usage of the
-/// work's stores. Contracts see these alone.
-pub(crate) struct ScriptSession<G: Gate> {
+/// A session between two lines of a script: the domain's session, the work that runs beside it, the usage of the work's
+/// stores, and the counter of searches. Contracts see these alone.
+pub(crate) struct ScriptSession<G: Gate, L: Ledger> {
     domain: DomainSession,
     work: Work,
     usage: Usage,
+    steps: Steps<L>,
     /// What each round of a watch passes.
     gate: Arc<G>,
     /// The memory in which the answer to a line is put together.
     text: Vec<u8>,
 }
 
-impl<G: Gate> Model for ScriptSession<G> {
+impl<G: Gate, L: Ledger> Model for ScriptSession<G, L> {
     ghost use Rattle.sr_run.specs.State.{Session, IsKeptWork};
 
     ghost Value = { Session };
 
     ghost view = { λ s.
-        record { state = s.domain; work = s.work; usage = s.usage } };
+        record { state = s.domain; work = s.work; usage = s.usage; searches = s.steps } };
 
     ghost invariant = { λ s. IsKeptWork s.domain s.work };
 }
@@ -105,16 +111,22 @@ fn publish_last(
     }
 }
 
-impl<G: Gate> ScriptSession<G> {
-    /// A session before its first line. Each round of a watch will pass this gate, and the stores will be counted in this
-    /// usage.
-    pub(crate) fn new(alloc: Global, gate: Arc<G>, usage: Usage) -> ScriptSession<G>
-        ensures { result ≡ session_before usage }
+impl<G: Gate, L: Ledger> ScriptSession<G, L> {
+    /// A session before its first line. Each round of a watch will pass this gate, the stores will be counted in this
+    /// usage, and the searches by this counter.
+    pub(crate) fn new(
+        alloc: Global,
+        gate: Arc<G>,
+        usage: Usage,
+        steps: Steps<L>,
+    ) -> ScriptSession<G, L>
+        ensures { result ≡ session_before usage steps }
     {
         ScriptSession {
             domain: DomainSession::new(alloc),
             work: Work::Idle,
             usage,
+            steps,
             gate,
             text: Vec::new(alloc),
         }
@@ -200,7 +212,7 @@ impl<G: Gate> ScriptSession<G> {
         ensures { Carries (SessionTells Commits self.old self.new)
             out.old.items out.new.items result }
     {
-        match self.domain.commit(rt, out) {
+        match self.domain.commit(rt, &mut self.steps, out) {
             Ok(()) => {}
             Err(stop) => return Err(stop),
         }
@@ -208,6 +220,20 @@ impl<G: Gate> ScriptSession<G> {
             Ok(()) => Ok(()),
             Err(wanting) => Err(Stop::Memory(wanting)),
         }
+    }
+
+    /// `prove KIND A B n D`: appends the certificate, or why there is none.
+    fn prove(&mut self, repair: &RepairName, out: &mut Vec<u8>) -> Result<(), Stop>
+        ensures { Carries (SessionTells (AsksProof repair.now) self.old self.new)
+            out.old.items out.new.items result }
+    {
+        prove(
+            self.domain.alloc(),
+            self.domain.current(),
+            repair,
+            &mut self.steps,
+            out,
+        )
     }
 
     /// Carries a command out, and appends the answer; of `audit full` nothing is appended.
@@ -230,6 +256,7 @@ impl<G: Gate> ScriptSession<G> {
                 Err(wanting) => Err(Stop::Memory(wanting)),
             },
             Command::Commit => replied(self.commit(rt, out)),
+            Command::Prove { repair } => replied(self.prove(&repair, out)),
             other => self.domain.tell(rt, other, out),
         }
     }
@@ -360,18 +387,20 @@ impl<G: Gate> ScriptSession<G> {
         }
     }
 
-    /// Joins work that still runs, gives up what it found, and gives the usage back.
-    pub(crate) fn end(self, rt: &impl Runtime) -> Usage
-        ensures { result ≡ self.usage }
+    /// Joins work that still runs, gives up what it found, and gives the usage and the counter back.
+    pub(crate) fn end(self, rt: &impl Runtime) -> (Usage, Steps<L>)
+        ensures usage { result.0 ≡ self.usage }
+        ensures searches { result.1 ≡ self.searches }
     {
         let ScriptSession {
             domain: _domain,
             work,
             usage,
+            steps,
             gate: _gate,
             text: _text,
         } = self;
         work.give_up(rt);
-        usage
+        (usage, steps)
     }
 }

@@ -1,85 +1,41 @@
 //! Certificates of repairs in the last version: `prove`, which asks for one, and the `proof` lines, which write one.
-ghost use Rattle.std.specs.Prelude.{◌≡◌, ◌+◌, ◌<◌, true, reverse, Some, None, IfOk, MatchOption};
-ghost use Rattle.sr_model.specs.Graph.{node_count};
-ghost use Rattle.sr_model.specs.Case.{IsCase};
-ghost use Rattle.sr_repair.specs.Stack.{HasNoList};
+ghost use Rattle.std.specs.Prelude.{◌≡◌, reverse, Some, IfOk};
 ghost use Rattle.sr_cert.specs.declared.draft.CertLine.TheVariants.{AdjSegment, Via};
-ghost use Rattle.sr_cert.specs.Certified.{IsCertificateOf};
 ghost use Rattle.sr_cert.specs.Draft.{IsDraftWithin};
 ghost use Rattle.sr_run.specs.Session.{TellsOf};
 ghost use Rattle.sr_run.specs.State.{IsDraftOf};
 ghost use Rattle.sr_run.specs.Certificates.{DecidesDraft, DraftsOf, IsDecided, KeepsLine, KeepsLink, KeepsNode, KeepsRow, OpensDraft, TellsProof};
-ghost use Rattle.sr_run.specs.Handlers.{Carries, MayGrowBy};
+ghost use Rattle.sr_run.specs.Handlers.{Carries, CountsProof, MayGrowBy};
 
 use crate::current::{CurrentVersion, last_version};
-use crate::names::{Failure, answer_of, find_affected, find_failure, find_link, find_node};
+use crate::names::{answer_of, find_affected, find_failure, find_link, find_node};
 use crate::session::DomainSession;
 use crate::stop::{Stop, found};
-use sr_cert::{CertDraft, CertLine, Certificate, Clause, MOST_LINES, Verdict, certify, verdict};
+use sr_cert::{CertDraft, CertLine, Clause, MOST_LINES, Verdict, certify, verdict};
 use sr_labels::Net;
 use sr_model::SystemId;
 use sr_print::{Refusal, put_certificate, put_proof, put_unproved, put_verdict};
-use sr_repair::Version;
 use sr_script::{LinkName, RepairName};
 use sr_seq::Seq;
 use sr_spf::Steps;
 use std::alloc::{AllocError, Global};
-use std::marker::Brand;
-use std::sync::ledger::{Blank, Ledger};
+use std::sync::ledger::Ledger;
 
-/// The certificate of the failure's answer for the destination. The search is counted by a counter of its own, which is
-/// let go.
-fn certificate_counted<L: Ledger>(
-    alloc: Global,
-    version: &Version,
-    failure: Failure,
-    blank: Blank,
-) -> Result<Option<Certificate>, AllocError>
-    requires case { IsCase version.now.net.graph failure.case }
-    requires destination { failure.destination.0 < node_count version.now.net.graph }
-    requires name { blank.name ≡ L.name }
-    requires parts { (blank.parts ≡ L.parts) × (0 < L.parts) }
-    ensures { IfOk result (λ found. MatchOption found
-        (HasNoList version.now.net failure.case failure.destination.0)
-        (IsCertificateOf version.now.net failure.case failure.destination.0)) }
-{
-    let mut steps = Steps::<L>::new(blank);
-    certify(
-        alloc,
-        version,
-        failure.case,
-        failure.destination,
-        &mut steps,
-    )
-}
-
-/// The certificate of the failure's answer for the destination.
-fn certificate_of(
-    alloc: Global,
-    version: &Version,
-    failure: Failure,
-) -> Result<Option<Certificate>, AllocError>
-    requires case { IsCase version.now.net.graph failure.case }
-    requires destination { failure.destination.0 < node_count version.now.net.graph }
-    ensures { IfOk result (λ found. MatchOption found
-        (HasNoList version.now.net failure.case failure.destination.0)
-        (IsCertificateOf version.now.net failure.case failure.destination.0)) }
-{
-    certificate_counted::<Brand>(alloc, version, failure, Blank::new(1))
-}
-
-/// `prove KIND A B n D`: appends the certificate of the failure's answer for the destination, or why there is none.
-pub(crate) fn prove(
+/// `prove KIND A B n D`: appends the certificate of the failure's answer for the destination, or why there is none. At most
+/// one search is counted, and none where the line is refused.
+pub(crate) fn prove<L: Ledger>(
     alloc: Global,
     current: &CurrentVersion,
     repair: &RepairName,
+    steps: &mut Steps<L>,
     out: &mut Vec<u8>,
 ) -> Result<(), Stop>
-    ensures { Carries (TellsOf (TellsProof repair.now) current.now) out.old.items out.new.items result }
+    ensures told { Carries (TellsOf (TellsProof repair.now) current.now) out.old.items out.new.items result }
+    ensures searches { CountsProof steps.old steps.new result }
 {
     let version = found!(last_version(current));
     let failure = found!(find_affected(version, repair));
-    match certificate_of(alloc, version, failure)? {
+    match certify(alloc, version, failure.case, failure.destination, steps)? {
         Some(certificate) => Ok(put_certificate(version.net(), &certificate, out)?),
         None => Ok(put_unproved(&answer_of(version, failure), out)?),
     }

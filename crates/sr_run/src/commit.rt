@@ -6,7 +6,8 @@ ghost use Rattle.sr_print.specs.Printed.{version_line};
 ghost use Rattle.sr_repair.specs.Version.{version_of};
 ghost use Rattle.sr_run.specs.Domain.{number_of};
 ghost use Rattle.sr_run.specs.State.{IsKeptState, IsNextVersion, with_next_version};
-ghost use Rattle.sr_run.specs.Handlers.{CommitsVersion};
+ghost use Rattle.sr_run.specs.Searches.{CountsCommitWork};
+ghost use Rattle.sr_run.specs.Handlers.{CommitsVersion, CountsCommit, CountsMaking};
 
 use crate::current::{CurrentVersion, last_number, last_version};
 use crate::session::DomainSession;
@@ -19,43 +20,27 @@ use sr_print::{Refusal, put_version};
 use sr_repair::Version;
 use sr_spf::Steps;
 use std::alloc::{AllocError, Global};
-use std::marker::Brand;
-use std::sync::ledger::{Blank, Ledger};
+use std::sync::ledger::Ledger;
 
 /// The most commits that a session accepts.
 const MOST_VERSIONS: u32 = 65_535;
 
-/// The version of this net after the last one. The searches are counted by a counter of its own.
-fn version_counted<L: Ledger>(
+/// The version of this net after the last one. The searches are counted whether it is made or memory runs out.
+fn version_after<L: Ledger>(
     rt: &impl Runtime,
     alloc: Global,
     current: &CurrentVersion,
     net: Net,
-    blank: Blank,
-) -> Result<Version, AllocError>
-    requires room { number_of current.now < MOST_VERSIONS }
-    requires name { blank.name ≡ L.name }
-    requires parts { (blank.parts ≡ L.parts) × (0 < L.parts) }
-    ensures { IfOk result (λ version. version ≡ version_of (number_of current.now + 1) net) }
-{
-    let mut steps = Steps::<L>::new(blank);
-    match last_version(current) {
-        Ok(version) => version.next(rt, alloc, net, &mut steps),
-        Err(_) => Version::opening(rt, alloc, net, &mut steps),
-    }
-}
-
-/// The version of this net after the last one.
-fn version_after(
-    rt: &impl Runtime,
-    alloc: Global,
-    current: &CurrentVersion,
-    net: Net,
+    steps: &mut Steps<L>,
 ) -> Result<Version, AllocError>
     requires { number_of current.now < MOST_VERSIONS }
-    ensures { IfOk result (λ version. version ≡ version_of (number_of current.now + 1) net) }
+    ensures version { IfOk result (λ version. version ≡ version_of (number_of current.now + 1) net) }
+    ensures searches { CountsCommitWork current.now net steps.old steps.new }
 {
-    version_counted::<Brand>(rt, alloc, current, net, Blank::new(1))
+    match last_version(current) {
+        Ok(version) => version.next(rt, alloc, net, steps),
+        Err(_) => Version::opening(rt, alloc, net, steps),
+    }
 }
 
 impl DomainSession {
@@ -77,34 +62,45 @@ impl DomainSession {
         }
     }
 
-    /// Makes the version of the tentative facts, or answers the first rule that they break.
-    fn next_version(&self, rt: &impl Runtime) -> Result<Result<Version, DomainRule>, AllocError>
+    /// Makes the version of the tentative facts, or answers the first rule that they break, for which nothing is searched.
+    fn next_version<L: Ledger>(
+        &self,
+        rt: &impl Runtime,
+        steps: &mut Steps<L>,
+    ) -> Result<Result<Version, DomainRule>, AllocError>
         requires { number_of self.now.current < MOST_VERSIONS }
-        ensures { IfOk result (λ made. MatchResult made
+        ensures made { IfOk result (λ made. MatchResult made
             (IsNextVersion self.now)
             (IsFirstBrokenRule self.now.editing.tentative)) }
+        ensures searches { CountsMaking self.now.current steps.old steps.new result }
     {
         let net = match net_of(self.alloc, self.editor.tentative()) {
             Ok(net) => net,
             Err(DomainFault::Rule(rule)) => return Ok(Err(rule)),
             Err(DomainFault::Memory(wanting)) => return Err(wanting),
         };
-        match version_after(rt, self.alloc, &self.current, net) {
+        match version_after(rt, self.alloc, &self.current, net, steps) {
             Ok(version) => Ok(Ok(version)),
             Err(wanting) => Err(wanting),
         }
     }
 
-    /// The version of the tentative facts, or the first rule that they break.
-    fn make_version(&self, rt: &impl Runtime) -> Result<Result<Version, DomainRule>, AllocError>
+    /// The version of the tentative facts, or the first rule that they break. Where nothing was staged, nothing is
+    /// searched.
+    fn make_version<L: Ledger>(
+        &self,
+        rt: &impl Runtime,
+        steps: &mut Steps<L>,
+    ) -> Result<Result<Version, DomainRule>, AllocError>
         requires { number_of self.now.current < MOST_VERSIONS }
-        ensures { IfOk result (λ made. MatchResult made
+        ensures made { IfOk result (λ made. MatchResult made
             (IsNextVersion self.now)
             (IsFirstBrokenRule self.now.editing.tentative)) }
+        ensures searches { CountsMaking self.now.current steps.old steps.new result }
     {
         match self.renumbered_version() {
             Ok(Some(version)) => Ok(Ok(version)),
-            Ok(None) => self.next_version(rt),
+            Ok(None) => self.next_version(rt, steps),
             Err(wanting) => Err(wanting),
         }
     }
@@ -134,13 +130,19 @@ impl DomainSession {
 
     /// `commit`: accepts the tentative facts with their net as the next version, or drops the staged edits and answers
     /// the first rule that they break.
-    pub(crate) fn commit(&mut self, rt: &impl Runtime, out: &mut Vec<u8>) -> Result<(), Stop>
-        ensures { CommitsVersion self.old self.new out.old.items out.new.items result }
+    pub(crate) fn commit<L: Ledger>(
+        &mut self,
+        rt: &impl Runtime,
+        steps: &mut Steps<L>,
+        out: &mut Vec<u8>,
+    ) -> Result<(), Stop>
+        ensures version { CommitsVersion self.old self.new out.old.items out.new.items result }
+        ensures searches { CountsCommit self.old self.new steps.old steps.new result }
     {
         if last_number(&self.current) >= MOST_VERSIONS {
             return Err(Stop::Refused(Refusal::VersionsFull));
         }
-        match self.make_version(rt)? {
+        match self.make_version(rt, steps)? {
             Ok(version) => Ok(self.accept(version, out)?),
             Err(rule) => {
                 let _dropped = self.editor.drop_staged();

@@ -1,6 +1,7 @@
 //! The program's session, and its top call.
 #![tactic(auto)]
 
+mod account;
 mod adjacencies;
 mod audits;
 mod background;
@@ -11,6 +12,7 @@ mod distances;
 mod edits;
 mod failures;
 mod forwarding;
+mod insight;
 mod laws;
 mod lines;
 mod loaded;
@@ -21,4 +23,4 @@ mod session;
 mod stop;
 mod version;
 
-pub use program::tilfa;
+pub use program::{Ended, tilfa};

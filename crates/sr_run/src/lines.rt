@@ -11,11 +11,12 @@ use sr_base::{Runtime, Sink, SinkFault, Source};
 use sr_engine::{Answers, End, Fill, Script, read_on};
 use sr_watch::Gate;
 use std::alloc::Global;
+use std::sync::ledger::Ledger;
 
 /// Answers a last line without a line feed, where there is one, and the end of the script.
-fn answer_last<R: Runtime + 'static, K: Sink, G: Gate + 'static>(
+fn answer_last<R: Runtime + 'static, K: Sink, G: Gate + 'static, L: Ledger>(
     rt: &R,
-    session: &mut ScriptSession<G>,
+    session: &mut ScriptSession<G, L>,
     number: u32,
     line: &[u8],
     out: &mut Answers,
@@ -38,9 +39,9 @@ fn answer_last<R: Runtime + 'static, K: Sink, G: Gate + 'static>(
 }
 
 /// Reads the lines and answers each.
-fn read_all<R: Runtime + 'static, S: Source, K: Sink, G: Gate + 'static>(
+fn read_all<R: Runtime + 'static, S: Source, K: Sink, G: Gate + 'static, L: Ledger>(
     rt: &R,
-    session: &mut ScriptSession<G>,
+    session: &mut ScriptSession<G, L>,
     script: &mut Script,
     out: &mut Answers,
     source: &mut S,
@@ -83,10 +84,10 @@ fn read_all<R: Runtime + 'static, S: Source, K: Sink, G: Gate + 'static>(
 }
 
 /// Runs a script: reads it from the source, and writes the session's answers to the sink.
-pub(crate) fn run_script<R: Runtime + 'static, S: Source, K: Sink, G: Gate + 'static>(
+pub(crate) fn run_script<R: Runtime + 'static, S: Source, K: Sink, G: Gate + 'static, L: Ledger>(
     rt: &R,
     alloc: Global,
-    session: &mut ScriptSession<G>,
+    session: &mut ScriptSession<G, L>,
     source: &mut S,
     sink: &mut K,
 ) -> End

@@ -5,13 +5,14 @@ ghost use Rattle.sr_engine.specs.Written.{written};
 ghost use Rattle.sr_run.specs.Session.{IsRefusedAs, version_links, version_nodes};
 ghost use Rattle.sr_run.specs.Handlers.{IsNoRefusal, IsReply, WritesRefusal};
 
+use crate::account::nodes;
 use crate::audits::{audit_counts, begin_audit};
-use crate::certificates::prove;
 use crate::current::{CurrentVersion, last_number, last_version};
 use crate::distances::{dist, next};
 use crate::edits::LinkEdit;
 use crate::failures::{repair, spaces};
 use crate::forwarding::{label, walk_packet};
+use crate::insight::{audit_by, audit_labels, fails_node, repair_case};
 use crate::loaded::load;
 use crate::repaired::walk_repair;
 use crate::stop::Stop;
@@ -135,7 +136,7 @@ impl DomainSession {
     ghost use Rattle.sr_script.specs.declared.command.Command.TheVariants.{Show};
     ghost use Rattle.sr_run.specs.Domain.{opening_domain};
     ghost use Rattle.sr_run.specs.State.{state_of};
-    ghost use Rattle.sr_run.specs.Handlers.{CarriesOut, IsAsked, IsOfDomain, IsOfText, IsPlain, RepliesTo};
+    ghost use Rattle.sr_run.specs.Handlers.{CarriesOut, IsAsked, IsOfDomain, IsOfText, IsPlain, IsUncertified, RepliesTo};
 
     /// A session before its first line.
     pub(crate) fn new(alloc: Global) -> DomainSession
@@ -179,7 +180,7 @@ impl DomainSession {
         Ok(())
     }
 
-    /// Carries out a command that has nothing to do with certificates and whose answer is appended.
+    /// Carries out a plain command, whose answer is appended.
     fn tell_plain(
         &mut self,
         rt: &impl Runtime,
@@ -219,7 +220,33 @@ impl DomainSession {
         }
     }
 
-    /// Carries out a command that leaves background work alone and whose answer is appended.
+    /// Carries out a command that asks where the net comes from, or of an audit as a whole, or a plain one.
+    fn tell_overview(
+        &mut self,
+        rt: &impl Runtime,
+        command: Command,
+        out: &mut Vec<u8>,
+    ) -> Result<(), Stop>
+        requires asked { IsAsked command }
+        requires uncertified { IsUncertified command }
+        ensures told { CarriesOut command self.old self.new out.old.items out.new.items result }
+        ensures current { self.new.current ≡ self.old.current }
+    {
+        let alloc = self.alloc;
+        let current = &self.current;
+        match command {
+            Command::Nodes => nodes(current, out),
+            Command::Links => self.links(out),
+            Command::Aside => self.aside(out),
+            Command::AuditBy { grouping } => audit_by(rt, alloc, current, grouping, out),
+            Command::AuditLabels => audit_labels(rt, alloc, current, out),
+            Command::RepairCase { kind, link } => repair_case(alloc, current, kind, &link, out),
+            Command::FailsNode { node } => fails_node(alloc, current, node, out),
+            other => self.tell_plain(rt, other, out),
+        }
+    }
+
+    /// Carries out a command that leaves background work alone, searches for no distances, and whose answer is appended.
     fn tell_text(
         &mut self,
         rt: &impl Runtime,
@@ -232,19 +259,18 @@ impl DomainSession {
         ensures current { self.new.current ≡ self.old.current }
     {
         match command {
-            Command::Prove { repair: name } => prove(self.alloc, &self.current, &name, out),
             Command::ProofOpen { repair: name } => self.proof_open(&name, out),
             Command::ProofVia { link } => self.proof_via(&link, out),
             Command::ProofNode { node } => self.proof_node(node, out),
             Command::ProofAdj { link } => self.proof_adj(&link, out),
             Command::ProofRow { cells } => self.proof_row(cells, out),
             Command::ProofDone { labels } => self.proof_done(labels, out),
-            other => self.tell_plain(rt, other, out),
+            other => self.tell_overview(rt, other, out),
         }
     }
 
-    /// Carries out a command that leaves background work alone, and appends the answer; of `audit full` nothing is
-    /// appended.
+    /// Carries out a command that leaves background work alone and searches for no distances, and appends the answer; of
+    /// `audit full` nothing is appended.
     pub(crate) fn tell(
         &mut self,
         rt: &impl Runtime,

@@ -2,20 +2,24 @@
 //! there that is made from two numbers.
 #![tactic(auto)]
 
-ghost use Rattle.std.specs.Prelude.{◌≡◌, ◌⊎◌, IfErr};
+ghost use Rattle.std.specs.Prelude.{◌≡◌, ◌<◌, ◌⊎◌, IfErr};
 ghost use Rattle.std.specs.Process.{exit_status};
 ghost use Rattle.sr_engine.specs.Endings.{devices_of};
 ghost use Rattle.sr_run.specs.Program.{RunsThrough, RunsTo};
+ghost use Rattle.sr_run.specs.Usage.{lent_of};
 
 use sr_base::{Runtime, Sink, Source, StdSink, StdSource};
-use sr_run::tilfa;
+use sr_run::{Ended, tilfa};
+use sr_spf::Steps;
 use sr_store::Usage;
 use sr_watch::{Gate, OpenGate};
 use std::alloc::AllocGlobal;
 use std::env;
 use std::io::ErrorKind;
+use std::marker::Brand;
 use std::process::ExitCode;
 use std::sync::Arc;
+use std::sync::ledger::{Blank, Ledger};
 
 /// The status where the words aren't a command.
 const NO_COMMAND: u8 = 2;
@@ -57,25 +61,58 @@ fn words(rt: &HostRuntime) -> Result<Vec<String>, u8>
     Ok(words)
 }
 
+/// How the program ends, and the counter of searches, which is given back.
+#[derive(Drop)]
+struct Exit<L: Ledger> {
+    code: ExitCode,
+    steps: Steps<L>,
+}
+
 /// Does what the words say, and ends with the status that this has.
-fn run<R: AllocGlobal + Runtime + 'static, S: Source, K: Sink, G: Gate + 'static>(
+fn run<R: AllocGlobal + Runtime + 'static, S: Source, K: Sink, G: Gate + 'static, L: Ledger>(
     rt: &R,
     words: &[String],
     source: &mut S,
     sink: &mut K,
     gate: &Arc<G>,
     usage: &mut Usage,
-) -> ExitCode
+    steps: Steps<L>,
+) -> Exit<L>
     ensures outcome { RunsTo words.now
         (devices_of (S.left source.old) (K.held sink.old) (S.faults source.old) (K.faults sink.old))
         (devices_of (S.left source.new) (K.held sink.new) (S.faults source.new) (K.faults sink.new))
-        usage.old usage.new (exit_status result) }
+        (lent_of usage.old steps) (lent_of usage.new result.steps) (exit_status result.code) }
     ensures completes { RunsThrough words.now
         (devices_of (S.left source.old) (K.held sink.old) (S.faults source.old) (K.faults sink.old))
         (devices_of (S.left source.new) (K.held sink.new) (S.faults source.new) (K.faults sink.new))
-        (exit_status result) }
+        (exit_status result.code) }
 {
-    ExitCode::from(tilfa(rt, words, source, sink, gate, usage))
+    let Ended { status, steps } = tilfa(rt, words, source, sink, gate, usage, steps);
+    Exit {
+        code: ExitCode::from(status),
+        steps,
+    }
+}
+
+/// Does what the words say with a usage and a counter of searches that begin at 0, and lets both go.
+fn run_counted<L: Ledger>(
+    rt: &(impl AllocGlobal + Runtime + 'static),
+    words: &[String],
+    source: &mut impl Source,
+    sink: &mut impl Sink,
+    gate: &Arc<impl Gate + 'static>,
+    blank: Blank,
+) -> ExitCode
+    requires name { blank.name ≡ L.name }
+    requires parts { (blank.parts ≡ L.parts) × (0 < L.parts) }
+{
+    let mut usage = Usage::new();
+    let steps = Steps::<L>::new(blank);
+    let Exit {
+        code,
+        steps: _counted,
+    } = run(rt, words, source, sink, gate, &mut usage, steps);
+    code
 }
 
 /// Tells on standard error why a run wasn't begun, or ended early. A message that can't be written changes nothing: the
@@ -109,14 +146,13 @@ fn main(rt: HostRuntime) -> ExitCode {
                 Ok(gate) => {
                     let mut source = StdSource::new(rt.stdin());
                     let mut sink = StdSink::new(rt.stdout());
-                    let mut usage = Usage::new();
-                    run(
+                    run_counted::<Brand>(
                         &rt,
                         words.as_slice(),
                         &mut source,
                         &mut sink,
                         &gate,
-                        &mut usage,
+                        Blank::new(1),
                     )
                 }
                 Err(_) => ExitCode::from(NO_MEMORY),

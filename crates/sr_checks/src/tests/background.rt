@@ -4,9 +4,8 @@ ghost use Rattle.std.specs.Prelude.{ℕ, List, None};
 ghost use Rattle.std.specs.declared.option.Option.{Option};
 
 use super::cases::Case;
-use super::{agrees, words};
+use super::{agrees, run_at, words};
 use sr_base::{Failed, MemorySource, Source, SteadySink, SteadySource};
-use sr_run::tilfa;
 use sr_store::Usage;
 use sr_watch::{Gate, OpenGate};
 use std::alloc::{AllocError, Global};
@@ -185,7 +184,7 @@ fn watchers_run_beside_each_other(rt: HostRuntime) -> Result<(), Fail> {
     let mut usage = Usage::new();
     let mut source = SteadySource::new(Vec::from_slice(alloc, b"commit\nwatch 2 1\njoin\n")?);
     let mut sink = SteadySink::new(alloc);
-    let status = tilfa(
+    let status = run_at(
         &rt,
         words.as_slice(),
         &mut source,
@@ -270,7 +269,7 @@ fn a_watcher_sees_what_was_published(rt: HostRuntime) -> Result<(), Fail> {
     };
     let mut sink = SteadySink::new(alloc);
     let mut usage = Usage::new();
-    let status = tilfa(
+    let status = run_at(
         &rt,
         words.as_slice(),
         &mut source,
@@ -301,7 +300,7 @@ fn a_read_fails_while_a_hold_runs(rt: HostRuntime) -> Result<(), Fail> {
         vec![in alloc; 1u64; 1]?,
     );
     let mut sink = SteadySink::new(alloc);
-    let status = tilfa(
+    let status = run_at(
         &rt,
         words.as_slice(),
         &mut source,

@@ -20,7 +20,7 @@ returns g c =
     let counted = subst (λ (w : Work). c.join.new.usage ≡ usage_joined w c.self.inside.usage) c.replace-work.ensures.value c.in_ok-reports.ensures.usage in
     on_ok_weaker c.put_all_joined.result
     (λ text.
-    subst (λ (w : Work). PutsJoined c.args.self.now (session state w c.join.new.usage) c.args.out.now.items c.put_all_joined.new.out.items) (sym c.replace-work.ensures.after)
-    (joined-puts c.args.self.now (session state c.self.inside.work c.self.inside.usage) reports c.join.new.usage c.args.out.now.items c.put_all_joined.new.out.items same are counted
+    subst (λ (w : Work). PutsJoined c.args.self.now (session state w c.join.new.usage c.self.inside.steps) c.args.out.now.items c.put_all_joined.new.out.items) (sym c.replace-work.ensures.after)
+    (joined-puts c.args.self.now (session state c.self.inside.work c.self.inside.usage c.self.inside.steps) reports c.join.new.usage c.args.out.now.items c.put_all_joined.new.out.items same are counted
     (λ number. text number ∙ ap (λ (r : List RoundReport). c.args.out.now.items ++ spelled number (Joined r)) c.deref.ensures.value)))
     c.put_all_joined.ensures

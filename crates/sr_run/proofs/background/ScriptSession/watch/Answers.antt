@@ -15,7 +15,7 @@ returns g c =
     let starts = subst (λ (w : Work). StartsWatch c.args.watchers c.args.rounds (arc_value c.in-Ok.version) w c.self.inside.usage c.watch.new.usage) (sym c.replace.ensures.after) c.in_ok-work.ensures in
     record {
       told = Watch c.args.watchers c.args.rounds c.number.result;
-      is = watch-told c.args.self.now (session state c.self.inside.work c.self.inside.usage) (arc_value c.in-Ok.version) c.args.watchers c.args.rounds c.replace.new.dest c.watch.new.usage c.number.result same c.requires.few.2 c.in-Ok.ensures starts
+      is = watch-told c.args.self.now (session state c.self.inside.work c.self.inside.usage c.self.inside.steps) (arc_value c.in-Ok.version) c.args.watchers c.args.rounds c.replace.new.dest c.watch.new.usage c.number.result same c.requires.few.2 c.in-Ok.ensures starts
           (c.number.ensures ∙ ap (λ (v : NumberedNet). v.number) c.deref.ensures);
       accepted = refl;
       appended = λ number. c.in_ok-put_watch.ensures.line;

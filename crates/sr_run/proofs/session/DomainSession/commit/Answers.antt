@@ -10,23 +10,23 @@ pub accept-requires : goal.accept-requires
 accept-requires g c =
     let same : number_of c.self.inside.current ≡ number_of c.args.self.now.current = ap (λ (s : State). number_of s.current) c.self.view_is in
     let room : number_of c.args.self.now.current < MOST_VERSIONS = omega (arith, same, c.last_number.ensures, c.if-last_number-ge-MOST_VERSIONS.false) in
-    next-kept c.args.self.now _ c.in-Ok.version refl room (rw c.in-Ok.is at c.in_ok-version.ensures)
+    next-kept c.args.self.now _ c.in-Ok.version refl room (rw c.in-Ok.is at c.in_ok-version.ensures.made)
 
-pub returns-in_ok-accept-in-Ok : goal.returns-in_ok-accept-in-Ok
-returns-in_ok-accept-in-Ok g c =
+pub returns-in_ok-accept-in-Ok-clause-version : goal.returns-in_ok-accept-in-Ok-clause-version
+returns-in_ok-accept-in-Ok-clause-version g c =
     let same : number_of c.self.inside.current ≡ number_of c.args.self.now.current = ap (λ (s : State). number_of s.current) c.self.view_is in
     let room : number_of c.args.self.now.current < MOST_VERSIONS = omega (arith, same, c.last_number.ensures, c.if-last_number-ge-MOST_VERSIONS.false) in (
       c.in-Ok.version,
-      rw c.in-Ok.is at c.in_ok-version.ensures,
+      rw c.in-Ok.is at c.in_ok-version.ensures.made,
       c.in_ok-accept-in-Ok.ensures.accepted,
       room,
       λ number. c.in_ok-accept-in-Ok.ensures.said,
     )
 
-pub returns-in-Err : goal.returns-in-Err
-returns-in-Err g c =
+pub returns-in-Err-clause-version : goal.returns-in-Err-clause-version
+returns-in-Err-clause-version g c =
     let same : number_of c.self.inside.current ≡ number_of c.args.self.now.current = ap (λ (s : State). number_of s.current) c.self.view_is in
     let room : number_of c.args.self.now.current < MOST_VERSIONS = omega (arith, same, c.last_number.ensures, c.if-last_number-ge-MOST_VERSIONS.false) in
     let new : State = record { editing = c.drop_staged-dropped.new.self; current = c.self.inside.current; draft = c.self.inside.draft } in
     let current = ap (λ (s : State). s.current) c.self.view_is in
-    (current, rejects-told c.args.self.now new c.in-Err.rule room (rw c.in-Err.is at c.in_ok-version.ensures) (c.drop_staged-dropped.ensures.dropped ∙ ap (λ (s : State). with_none_staged s.editing) c.self.view_is) current (ap (λ (s : State). s.draft) c.self.view_is))
+    (current, rejects-told c.args.self.now new c.in-Err.rule room (rw c.in-Err.is at c.in_ok-version.ensures.made) (c.drop_staged-dropped.ensures.dropped ∙ ap (λ (s : State). with_none_staged s.editing) c.self.view_is) current (ap (λ (s : State). s.draft) c.self.view_is))

@@ -1,0 +1,33 @@
+-- How many searches for distances a script may take.
+use Rattle.std.specs.Prelude.{◌≡◌, ℕ, ◌+◌, ◌*◌, ◌≤◌, List, [], ◌∷◌, Option, Some, None}
+use Rattle.sr_model.specs.Graph.{node_count, link_count}
+use Rattle.sr_model.specs.Label.{Net}
+use Rattle.sr_repair.specs.Version.{NumberedNet}
+use Rattle.sr_repair.specs.Work.{IsWithinWork}
+use Rattle.sr_run.specs.Domain.{Domain}
+
+-- what the commits of these nets, the last one first, may search for: of the first net a search for each node and each
+-- case; of each later one a search for each node whose tree doesn't stay from the net before, and one for each case
+-- that isn't an old case that stays
+abbrev pub IsWithinCommits : List Net → ℕ → Type 0
+IsWithinCommits [] count = count ≡ 0
+IsWithinCommits (net ∷ []) count = count ≤ node_count net.graph + 3 * link_count net.graph
+IsWithinCommits (net ∷ before ∷ earlier) count =
+    (here : ℕ) × (earlier_count : ℕ) × (count ≡ here + earlier_count) × IsWithinWork before net here
+    × IsWithinCommits (before ∷ earlier) earlier_count
+
+-- the counter grew by no more than what the accepted commits may search for, and one search for each certificate that
+-- was asked for
+pub record CountsSearches (domain : Domain) (before after : ℕ) : Type 0 where
+  pub commits : ℕ
+  pub within : IsWithinCommits domain.nets commits
+  pub most : after ≤ before + commits + domain.asked
+
+-- what the commit of this net may search for, after that of the last version: the same as of a script's nets
+abbrev pub IsCommitWork : Option NumberedNet → Net → ℕ → Type 0
+IsCommitWork None net count = count ≤ node_count net.graph + 3 * link_count net.graph
+IsCommitWork (Some version) net count = IsWithinWork version.net net count
+
+-- the counter grew by what that commit may search for
+abbrev pub CountsCommitWork : Option NumberedNet → Net → ℕ → ℕ → Type 0
+CountsCommitWork current net before after = (count : ℕ) × (after ≡ before + count) × IsCommitWork current net count
