@@ -13,7 +13,7 @@ use Rattle.sr_model.specs.Key.{mirror}
 use Rattle.sr_model.specs.KeyOrder.{same_key}
 use Rattle.sr_model.specs.Label.{Labels, Net, adj_at, labels_at}
 use Rattle.sr_model.specs.SystemText.{digit_text, system_text}
-use Rattle.sr_wire.specs.declared.registry.TheConstants.{ADJ_SID_BACKUP, ADJ_SID_IPV6, ADJ_SID_SET}
+use Rattle.sr_wire.specs.declared.registry.TheConstants.{ADJ_SID_BACKUP, ADJ_SID_IPV6, ADJ_SID_LOCAL, ADJ_SID_PERSISTENT, ADJ_SID_SET, ADJ_SID_VALUE}
 use Rattle.sr_subtlv.specs.declared.sid.Sid.{Sid}
 use Rattle.sr_subtlv.specs.declared.sid.Sid.TheVariants.{Index, Label}
 use Rattle.sr_lsp.specs.declared.lsp.LspId.{LspId}
@@ -24,7 +24,6 @@ use Rattle.sr_account.specs.declared.aside.Place.{Place}
 use Rattle.sr_account.specs.declared.aside.Reason.{Reason}
 use Rattle.sr_account.specs.declared.aside.Reason.TheVariants as reason
 use Rattle.sr_account.specs.declared.sources.LinkSource.{LinkSource}
-use Rattle.sr_print.specs.declared.flags.TheConstants.{ADJ_SID_LOCAL, ADJ_SID_PERSISTENT, ADJ_SID_VALUE}
 use Rattle.sr_print.specs.Links.{link_word}
 use Rattle.sr_print.specs.Printed.{ended, node_word, numbered, word}
 

@@ -4,17 +4,10 @@ ghost use Rattle.sr_print.specs.Account.{flags_text, letter_of, letters, node_fl
 ghost use Rattle.sr_print.specs.Printed.{BeginsWith};
 
 use sr_labels::NodeLabels;
-use sr_wire::registry::{ADJ_SID_BACKUP, ADJ_SID_IPV6, ADJ_SID_SET};
+use sr_wire::registry::{
+    ADJ_SID_BACKUP, ADJ_SID_IPV6, ADJ_SID_LOCAL, ADJ_SID_PERSISTENT, ADJ_SID_SET, ADJ_SID_VALUE,
+};
 use std::alloc::AllocError;
-
-/// Flag V of an Adj-SID: it carries a value (RFC 8667, 2.2.1).
-pub(crate) const ADJ_SID_VALUE: u8 = 0x20;
-
-/// Flag L of an Adj-SID: the value is of the router's own (RFC 8667, 2.2.1).
-pub(crate) const ADJ_SID_LOCAL: u8 = 0x10;
-
-/// Flag P of an Adj-SID: the adjacency keeps it over restarts (RFC 8667, 2.2.1).
-pub(crate) const ADJ_SID_PERSISTENT: u8 = 0x04;
 
 /// Appends the letter of a flag, where it is set. After an error what stood before stays.
 fn put_letter(set: bool, letter: u8, out: &mut Vec<u8>) -> Result<(), AllocError>

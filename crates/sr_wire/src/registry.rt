@@ -68,8 +68,17 @@ pub const ADJ_SID_IPV6: u8 = 0x80;
 /// Flag B of an Adj-SID: the adjacency may be protected (RFC 8667, 2.2.1).
 pub const ADJ_SID_BACKUP: u8 = 0x40;
 
+/// Flag V of an Adj-SID: it carries a value (RFC 8667, 2.2.1).
+pub const ADJ_SID_VALUE: u8 = 0x20;
+
+/// Flag L of an Adj-SID: the value is of the router's own (RFC 8667, 2.2.1).
+pub const ADJ_SID_LOCAL: u8 = 0x10;
+
 /// Flag S of an Adj-SID: the label stands for a set of adjacencies (RFC 8667, 2.2.1).
 pub const ADJ_SID_SET: u8 = 0x08;
+
+/// Flag P of an Adj-SID: the adjacency keeps it over restarts (RFC 8667, 2.2.1).
+pub const ADJ_SID_PERSISTENT: u8 = 0x04;
 
 /// Flag of an LSP: its router is overloaded (ISO 10589, 9.9).
 pub const LSP_OVERLOAD: u8 = 0x04;
