@@ -27,13 +27,13 @@ use std::marker::Model;
 #[derive(Debug, Drop)]
 pub struct Graph {
     pub(crate) systems: Vec<SystemId>,
-    links: Vec<Link>,
-    edges: Vec<Edge>,
-    groups: Vec<Seq<u32>>,
+    pub(crate) links: Vec<Link>,
+    pub(crate) edges: Vec<Edge>,
+    pub(crate) groups: Vec<Seq<u32>>,
     pub(crate) overloaded: Vec<bool>,
-    starts: Vec<u16>,
-    incoming: Vec<Seq<LinkNo>>,
-    sharing: Vec<LinkBits>,
+    pub(crate) starts: Vec<u16>,
+    pub(crate) incoming: Vec<Seq<LinkNo>>,
+    pub(crate) sharing: Vec<LinkBits>,
 }
 
 impl Model for Graph {

@@ -1,6 +1,7 @@
 //! The graph of a domain: nodes in order of system id, directed links in order of key, and how it is built and read.
 #![tactic(auto)]
 
+mod copied;
 mod draft;
 mod edges;
 mod failed;
@@ -14,8 +15,6 @@ mod numbers;
 mod order;
 mod ranges;
 mod sharing;
-#[cfg(test)]
-mod tests;
 
 pub use draft::{Draft, DraftLink};
 pub use edges::Edge;

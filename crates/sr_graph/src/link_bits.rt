@@ -52,6 +52,15 @@ fn widen(words: &mut Vec<u64>, count: usize) -> Result<(), AllocError>
 }
 
 impl LinkBits {
+    /// The same set.
+    pub(crate) fn copied(&self, alloc: Global) -> Result<LinkBits, AllocError>
+        ensures { IfOk result (λ set. set ≡ self.now) }
+    {
+        Ok(LinkBits {
+            words: Vec::from_slice(alloc, &self.words)?,
+        })
+    }
+
     /// The empty set, with no room.
     pub(crate) fn empty(alloc: Global) -> LinkBits
         ensures { result ≡ [] }
