@@ -12,8 +12,6 @@ mod prefixes;
 mod risks;
 mod sources;
 mod survey;
-#[cfg(test)]
-mod tests;
 
 pub use aside::{Aside, Matter, Place, Reason};
 pub use asides::asides_of;

@@ -14,6 +14,3 @@ pub use laws::{adj_answers_are_determined, adj_answers_deliver};
 pub use marks::eligible;
 pub use replaced::adj_repair;
 pub use second::backup;
-
-#[cfg(test)]
-mod tests;

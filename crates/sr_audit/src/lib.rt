@@ -4,8 +4,6 @@
 mod audits;
 mod counting;
 mod report;
-#[cfg(test)]
-mod tests;
 
 pub use audits::audit;
 pub use counting::{counts, counts_at, counts_sum, no_counts};

@@ -121,6 +121,3 @@ impl<T: Write> Sink for StdSink<T> {
         }
     }
 }
-
-#[cfg(test)]
-mod tests;

@@ -159,6 +159,3 @@ impl Sink for MemorySink {
         }
     }
 }
-
-#[cfg(test)]
-mod tests;

@@ -1,7 +1,6 @@
 pub mod CertifyLemmas
 pub mod DraftLemmas
 pub mod ExactLemmas
-pub mod FixtureLemmas
 pub mod LabelLemmas
 pub mod OfferLemmas
 pub mod RowsLemmas

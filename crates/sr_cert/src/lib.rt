@@ -22,6 +22,3 @@ pub use draft::{CertDraft, CertLine, MOST_LINES};
 pub use issued::certify;
 pub use judged::verdict;
 pub use laws::{accepted_certificates_deliver, certificates_are_determined};
-
-#[cfg(test)]
-mod tests;

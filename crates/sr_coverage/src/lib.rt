@@ -6,8 +6,6 @@ mod groups;
 mod laws;
 mod pushed;
 mod stacks;
-#[cfg(test)]
-mod tests;
 
 pub use grouped::coverage;
 pub use laws::{groups_add_up, groups_are_determined, stack_counts_add_up};

@@ -5,5 +5,4 @@ pub mod AlikeLemmas
 pub mod PairLemmas
 pub mod FailureLemmas
 pub mod CaseLemmas
-pub mod TestLemmas
 pub mod KeptLemmas

@@ -18,8 +18,6 @@ mod pairs;
 mod partners;
 mod risks;
 mod stays;
-#[cfg(test)]
-mod tests;
 mod ways;
 
 pub use cases::case_stays;

@@ -15,8 +15,6 @@ mod net;
 mod nodes;
 mod overload;
 mod risks;
-#[cfg(test)]
-mod tests;
 mod topology;
 mod two_way;
 

@@ -13,6 +13,3 @@ pub use end::End;
 pub use laws::lines_are_determined;
 pub use output::write_all;
 pub use script::{Fill, LONGEST_LINE, Script, read_on};
-
-#[cfg(test)]
-mod tests;

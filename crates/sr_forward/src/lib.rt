@@ -10,6 +10,3 @@ pub use moves::step;
 pub use sr_model::Move as Moved;
 pub use trace::Walk;
 pub use walks::walk;
-
-#[cfg(test)]
-mod tests;

@@ -9,6 +9,5 @@ pub mod SharingLemmas
 pub mod FailedLemmas
 pub mod MemberLemmas
 pub mod MarkLemmas
-pub mod FixtureLemmas
 pub mod GraphLemmas
 pub mod ZipLemmas

@@ -15,6 +15,3 @@ pub use node::NodeLabels;
 pub use rules::first_clash;
 pub use sr_model::{AdjLabel, LabelRule, Range};
 pub use srgb::{Srgb, SrgbBad};
-
-#[cfg(test)]
-mod tests;

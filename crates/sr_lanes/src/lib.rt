@@ -8,8 +8,6 @@ mod marks;
 mod passes;
 mod place_test;
 mod row_tests;
-#[cfg(test)]
-mod tests;
 mod tight_rows;
 mod words;
 

@@ -11,8 +11,6 @@ mod packet;
 mod pairs;
 mod queue;
 mod tally;
-#[cfg(test)]
-mod tests;
 mod traffic;
 
 pub use counted::{Loads, MOST_CHOICES, MOST_FORWARDERS};

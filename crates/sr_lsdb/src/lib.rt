@@ -18,6 +18,3 @@ pub use limits::{MOST_SEGMENTS, MOST_STAGED};
 pub use shared::SharedLsp;
 pub use stage_fault::StageFault;
 pub use tables::{Database, DownPairs, LinkCosts};
-
-#[cfg(test)]
-mod tests;

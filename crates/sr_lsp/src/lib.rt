@@ -33,6 +33,3 @@ pub use sr_wire::{Check, Malformed, ReadFault};
 pub use table::Part;
 pub use write_fault::WriteFault;
 pub use writing::{in_range, write_lsp};
-
-#[cfg(test)]
-mod tests;

@@ -21,8 +21,6 @@ mod refusal;
 mod refused;
 mod repair;
 mod spaces;
-#[cfg(test)]
-mod tests;
 mod walk;
 mod way;
 mod work;

@@ -16,8 +16,6 @@ mod name;
 mod number;
 mod readers;
 mod reading;
-#[cfg(test)]
-mod tests;
 mod words;
 
 pub use command::{

@@ -6,6 +6,3 @@ mod seq;
 
 pub use few::Few;
 pub use seq::Seq;
-
-#[cfg(test)]
-mod tests;

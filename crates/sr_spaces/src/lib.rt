@@ -14,6 +14,3 @@ pub use node_set::NodeSet;
 pub use p_space::p_row;
 pub use q_space::q_set;
 pub use spaces::Spaces;
-
-#[cfg(test)]
-mod tests;

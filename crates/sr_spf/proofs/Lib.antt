@@ -6,5 +6,3 @@ pub mod TreesLemmas
 pub mod SharedLemmas
 pub mod RenewedLemmas
 pub mod HopsLemmas
-pub mod FixtureLemmas
-pub mod DrawnLemmas

@@ -5,4 +5,3 @@ pub mod Hops
 pub mod Trees
 pub mod Rows
 pub mod Renewed
-pub mod Drawn

@@ -9,8 +9,6 @@ mod renewed;
 mod rows;
 mod shared;
 mod steps;
-#[cfg(test)]
-mod tests;
 mod trees;
 
 pub use begun::row_after;

@@ -21,6 +21,3 @@ pub use reader::{Reader, Told};
 pub use shown::Shown;
 pub use usage::Usage;
 pub use writer::Writer;
-
-#[cfg(test)]
-mod tests;

@@ -16,6 +16,3 @@ pub use msd::{Msd, msds_are_read_again};
 pub use prefix_sid::{PrefixSid, prefix_sid_is_read_again};
 pub use sid::Sid;
 pub use sr_cap::{SrCap, sr_cap_is_read_again};
-
-#[cfg(test)]
-mod tests;

@@ -2,7 +2,5 @@
 #![tactic(auto)]
 
 mod taking;
-#[cfg(test)]
-mod tests;
 
 pub use taking::{Share, made_of_each};

@@ -17,6 +17,3 @@ pub use joined::Joined;
 pub use seated::{Done, Seated};
 pub use task::{Rota, Task};
 pub use watch::{Watch, hold, start};
-
-#[cfg(test)]
-mod tests;

@@ -27,6 +27,3 @@ pub use sub_fields::{
 };
 pub use sub_kind::SubKind;
 pub use subs::{SubTlvs, read_subs};
-
-#[cfg(test)]
-mod tests;

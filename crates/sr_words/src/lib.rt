@@ -7,6 +7,3 @@ mod task;
 
 pub use laws::words_ask_for_one_task;
 pub use task::{AskedTask, task_of};
-
-#[cfg(test)]
-mod tests;

@@ -1,5 +1,0 @@
-//! Certificates and drafts of a ring of four nodes.
-
-mod certify;
-mod ring;
-mod verdicts;

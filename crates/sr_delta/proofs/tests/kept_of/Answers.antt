@@ -1,4 +1,0 @@
-use Rattle.sr_delta.proofs.tests.kept_of.Goals as goal
-
-pub returns : goal.returns
-returns c = c.kept_trees.ensures.kept c.args.old.now c.args.new.now c.requires.changes c.requires.trees

@@ -1,5 +1,0 @@
-use Rattle.sr_delta.proofs.CaseLemmas.{row-from_post}
-use Rattle.sr_delta.proofs.tests.stays.Goals as goal
-
-pub new-old_case-requires-clause-row : goal.new-old_case-requires-clause-row
-new-old_case-requires-clause-row c = rw c.cells.ensures (row-from_post c.args.old.now c.args.case c.in_ok-left.left c.in_ok-left.ensures)

@@ -1,0 +1,3 @@
+pub mod SpanLemmas
+pub mod NetLemmas
+pub mod BegunLemmas

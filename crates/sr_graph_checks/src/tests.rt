@@ -1,0 +1,17 @@
+//! What calls answer about small graphs, and what is counted there.
+
+mod adjacencies;
+mod audits;
+mod certificates;
+mod changes;
+mod distances;
+mod drawn;
+mod fixtures;
+mod graphs;
+mod groups;
+mod labels;
+mod lanes;
+mod loads;
+mod shares;
+mod spaces;
+mod walks;

@@ -1,0 +1,116 @@
+//! Made scripts, against values from outside.
+use sr_base::{MemorySink, SteadySink};
+use sr_engine::End;
+use sr_lsp::{Part, read_lsp};
+use sr_make::make;
+use std::alloc::{AllocError, Global};
+use std::test::Fail;
+
+/// The script of three nodes by draws from 0. The first draws are 15470, 18256, 53708, 43769, 25170 and 40750, so that
+/// the pairs from 1 to 2, from 2 to 3 and from 3 to 1 have the metrics 11, 9 and 11 and the groups 1, 2 and 7.
+const THREE: &[u8] = b"\
+lsp 831b01001401000000a904b0000000000001000000000001000003f2100a00000100020980001f40010300\
+3e80871200000000600a000001080306400000000001161c0000000000020000000b1104080000000100000001\
+1f053000005dc1161c0000000000030000000b11040800000003000000031f053000005dc38a14000000000002\
+00000000000100000001000000018a140000000000030000000000030000000300000007\n\
+lsp 831b01001401000000a904b0000000000002000000000001000003f2100a00000200020980001f40010300\
+3e80871200000000600a000002080306400000000002161c0000000000010000000b1104080000000100000001\
+1f053000005dc1161c0000000000030000000911040800000002000000021f053000005dc28a14000000000001\
+00000000000100000001000000018a140000000000030000000000020000000200000002\n\
+lsp 831b01001401000000a904b0000000000003000000000001000003f2100a00000300020980001f40010300\
+3e80871200000000600a000003080306600000000003161c000000000002000000091104080000000200000002\
+1f053000005dc2161c0000000000010000000b11040800000003000000031f053000005dc38a14000000000002\
+00000000000200000002000000028a140000000000010000000000030000000300000007\n\
+commit\n\
+audit\n\
+cost 0000.0000.0001 0000.0000.0002 1 21\n\
+commit\n\
+audit\n\
+down 0000.0000.0001 0000.0000.0002 1\n\
+commit\n\
+audit\n\
+show\n";
+
+#[test]
+fn three_nodes(rt: HostRuntime) {
+    let mut sink = MemorySink::new(rt.alloc(), Vec::new(rt.alloc()));
+    assert!(rt; matches!(make(rt.alloc(), 3, 0, &mut sink), End::Done(false)));
+    assert_eq!(rt; sink.bytes(), THREE);
+}
+
+/// A link in a made script: the nodes where it begins and ends, and the number of its pair.
+#[derive(Clone, Copy, PartialEq, Eq)]
+struct Told {
+    from: u64,
+    to: u64,
+    pair: u32,
+}
+
+/// Appends the links that the PDU of a line announces.
+fn push_links(alloc: Global, digits: &str, told: &mut Vec<Told>) -> Result<(), Fail> {
+    let octets = hex::decode(alloc, digits.as_bytes())?;
+    let lsp = read_lsp(alloc, &octets)?;
+    for part in lsp.parts.as_slice() {
+        if let Part::Reach(reach) = part {
+            told.push(Told {
+                from: lsp.id.system.value(),
+                to: reach.neighbour.value(),
+                pair: reach.ids.ok_or("no identifiers")?.local,
+            })?;
+        }
+    }
+    Ok(())
+}
+
+/// The links of a script.
+fn links_of(alloc: Global, script: &str) -> Result<Vec<Told>, Fail> {
+    let mut told = Vec::new(alloc);
+    for line in script.lines() {
+        if let Some(digits) = line.strip_prefix("lsp ") {
+            push_links(alloc, digits, &mut told)?;
+        }
+    }
+    Ok(told)
+}
+
+// Each pair is told by both of its nodes, with its number among the pairs.
+#[test]
+fn chords_of_eight_nodes(rt: HostRuntime) -> Result<(), Fail> {
+    let alloc = rt.alloc();
+    let mut sink = SteadySink::new(alloc);
+    assert!(rt; matches!(make(alloc, 8, 0, &mut sink), End::Done(false)));
+    let told = links_of(alloc, str::from_utf8(sink.bytes())?)?;
+    let expected = [
+        (1, 2),
+        (2, 3),
+        (3, 4),
+        (4, 5),
+        (5, 6),
+        (6, 7),
+        (7, 8),
+        (8, 1),
+        (1, 5),
+        (4, 8),
+    ];
+    for ((from, to), pair) in expected.into_iter().zip(1..) {
+        assert!(rt; told.contains(&Told { from, to, pair }), "pair {pair}");
+        assert!(rt;
+            told.contains(&Told {
+                from: to,
+                to: from,
+                pair
+            }),
+            "pair {pair}"
+        );
+    }
+    assert_eq!(rt; told.len(), 20);
+    Ok(())
+}
+
+#[test]
+fn a_sink_that_fails_at_once(rt: HostRuntime) -> Result<(), AllocError> {
+    let mut sink = MemorySink::new(rt.alloc(), vec![in rt.alloc(); 0; 1]?);
+    assert!(rt; matches!(make(rt.alloc(), 256, 7, &mut sink), End::WriteFailed));
+    assert_eq!(rt; sink.bytes(), b"".as_slice());
+    Ok(())
+}

@@ -1,0 +1,17 @@
+//! A version that is a number alone.
+ghost use Rattle.std.specs.Prelude.{◌≡◌};
+
+use sr_base::Numbered;
+
+#[derive(Drop)]
+pub struct Stamp {
+    pub number: u32,
+}
+
+impl Numbered for Stamp {
+    ghost number_of = { λ stamp. stamp.number };
+
+    fn number(&self) -> u32 {
+        self.number
+    }
+}

@@ -1,0 +1,150 @@
+//! Edits that are staged, accepted and dropped.
+
+use super::fixtures::{changed, key};
+use sr_lsdb::{Editor, StageFault};
+use sr_lsp::read_lsp;
+use sr_model::{Ident, LinkKey};
+use std::alloc::{AllocError, Global};
+
+/// The PDU with these changes is staged, or memory ran out before.
+fn stage(alloc: Global, editor: &mut Editor, changes: &[(usize, u8)]) -> Result<u32, StageFault> {
+    let octets = changed(alloc, changes)?;
+    match read_lsp(alloc, &octets) {
+        Ok(lsp) => editor.stage_lsp(lsp),
+        Err(_) => Err(StageFault::Memory(AllocError)),
+    }
+}
+
+/// The count that staging answered.
+fn count(answer: &Result<u32, StageFault>) -> Option<u32> {
+    match answer {
+        Ok(count) => Some(*count),
+        Err(_) => None,
+    }
+}
+
+/// The stored and the given number of a stale PDU.
+fn stale(answer: &Result<u32, StageFault>) -> Option<(u32, u32)> {
+    match answer {
+        Err(StageFault::Stale { stored, given }) => Some((*stored, *given)),
+        _ => None,
+    }
+}
+
+fn is_full(answer: &Result<u32, StageFault>) -> bool {
+    match answer {
+        Err(StageFault::Full) => true,
+        _ => false,
+    }
+}
+
+/// A PDU as changed octets of the first, and what its staging answers: a count, or a stored and a
+/// given number.
+struct Step {
+    changes: &'static [(usize, u8)],
+    count: Option<u32>,
+    stale: Option<(u32, u32)>,
+}
+
+/// The first PDU; its purge; a PDU with sequence number 2.
+const STEPS: [Step; 7] = [
+    Step {
+        changes: &[],
+        count: Some(1),
+        stale: None,
+    },
+    Step {
+        changes: &[],
+        count: None,
+        stale: Some((1, 1)),
+    },
+    Step {
+        changes: &[(10, 0), (11, 0)],
+        count: Some(2),
+        stale: None,
+    },
+    Step {
+        changes: &[(10, 0), (11, 0)],
+        count: None,
+        stale: Some((1, 1)),
+    },
+    Step {
+        changes: &[],
+        count: None,
+        stale: Some((1, 1)),
+    },
+    Step {
+        changes: &[(23, 2)],
+        count: Some(3),
+        stale: None,
+    },
+    Step {
+        changes: &[],
+        count: None,
+        stale: Some((2, 1)),
+    },
+];
+
+#[test]
+fn a_stale_pdu_is_refused_and_a_purge_leaves_its_number(rt: HostRuntime) {
+    let alloc = rt.alloc();
+    let mut editor = Editor::new(alloc);
+    for step in &STEPS {
+        let answer = stage(alloc, &mut editor, step.changes);
+        assert_eq!(rt; (count(&answer), stale(&answer)), (step.count, step.stale));
+    }
+    assert_eq!(rt; editor.drop_staged(), 3);
+    assert_eq!(rt; editor.tentative().database.as_map().len(), 0);
+}
+
+#[test]
+fn edits_are_staged_up_to_4096(rt: HostRuntime) {
+    let mut editor = Editor::new(rt.alloc());
+    for staged in 0..4096 {
+        assert_eq!(rt; count(&editor.stage_depth(5)), Some(staged + 1));
+    }
+    assert!(rt; is_full(&editor.stage_depth(6)));
+    assert_eq!(rt; editor.drop_staged(), 4096);
+    assert_eq!(rt; editor.tentative().depth, 3);
+}
+
+#[test]
+fn a_pdu_of_an_accepted_batch_is_stale_in_the_next(rt: HostRuntime) {
+    let alloc = rt.alloc();
+    let mut editor = Editor::new(alloc);
+    let first = stage(alloc, &mut editor, &[]);
+    editor.accept();
+    let second = stage(alloc, &mut editor, &[]);
+    assert_eq!(rt; (count(&first), stale(&second)), (Some(1), Some((1, 1))));
+    assert_eq!(rt; editor.staged(), 0);
+}
+
+/// The tentative metric of a link, and whether its pair is down.
+fn facts(editor: &Editor, key: &LinkKey) -> (Option<u32>, bool) {
+    let tentative = editor.tentative();
+    (
+        tentative.costs.get(key),
+        tentative.downs.contains(&key.pair()),
+    )
+}
+
+#[test]
+fn dropped_edits_of_a_link_are_not_in_the_next_batch(rt: HostRuntime) {
+    let mut editor = Editor::new(rt.alloc());
+    let key = key(1, 2, Ident::None);
+    let first = (
+        count(&editor.stage_cost(&key, 10)),
+        count(&editor.stage_down(key.pair())),
+    );
+    assert_eq!(rt; first, (Some(1), Some(2)));
+    editor.accept();
+    let second = (
+        count(&editor.stage_cost(&key, 20)),
+        count(&editor.stage_up(key.pair())),
+    );
+    assert_eq!(rt; second, (Some(1), Some(2)));
+    assert_eq!(rt; facts(&editor, &key), (Some(20), false));
+    assert_eq!(rt; editor.drop_staged(), 2);
+    assert_eq!(rt; count(&editor.stage_depth(4)), Some(1));
+    assert_eq!(rt; facts(&editor, &key), (Some(10), true));
+}

@@ -1,4 +1,0 @@
-use Rattle.sr_spaces.proofs.tests.trees_of.Given as goal
-
-abbrev pub ghosts-trees_from : goal.ghosts-trees_from
-ghosts-trees_from g a = record { name = a.blank.name; parts = a.blank.parts }

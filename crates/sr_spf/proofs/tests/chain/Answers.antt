@@ -1,9 +1,0 @@
-use Rattle.std.proofs.Common.{◌≡◌, [], ◌∷◌, refl, arith, ◌∙◌}
-use Rattle.sr_spf.proofs.FixtureLemmas.{plain, plain_draft}
-use Rattle.sr_spf.proofs.tests.chain.Goals as goal
-
-pub returns : goal.returns
-returns c =
-    let nodes : c.new.result ≡ 1 ∷ 2 ∷ 3 ∷ 4 ∷ [] = c.new.ensures ∙ c.in_ok-nodes.ensures.items ∙ rw (c.id.ensures, c.id-2.ensures, c.id-3.ensures, c.id-4.ensures) refl in
-    let links : c.new-2.result ≡ plain 2 3 c.args.metric ∷ plain 1 2 10 ∷ [] = c.new-2.ensures ∙ c.in_ok-links.ensures.items ∙ rw (c.link.ensures, c.link-2.ensures) refl in
-    rw (nodes, links) (plain_draft (1 ∷ 2 ∷ 3 ∷ 4 ∷ []) (plain 2 3 c.args.metric ∷ plain 1 2 10 ∷ []) refl refl refl (c.requires, (omega arith, tt)))
