@@ -1,0 +1,5 @@
+pub mod Labelled
+pub mod Reasons
+pub mod Laws
+pub mod Whole
+pub mod Listed

@@ -1,0 +1,13 @@
+-- A case whose answer for a destination is a list.
+use Rattle.std.specs.Prelude.{◌≡◌, ℕ, true}
+use Rattle.sr_model.specs.declared.case.Case.{Case}
+use Rattle.sr_model.specs.declared.repair.Answer.{Answer}
+use Rattle.sr_model.specs.Audit.{is_least}
+use Rattle.sr_model.specs.Label.{Net}
+use Rattle.sr_model.specs.Case.{IsAffected}
+use Rattle.sr_model.specs.Repair.{IsCaseAnswer}
+
+-- d is affected, and each answer of the case for it is a list
+pub record IsListed (n : Net) (case : Case) (d : ℕ) : Type 0 where
+  pub affected : IsAffected n case d
+  pub list : (answer : Answer) → IsCaseAnswer n case d answer → is_least answer ≡ true
