@@ -1,6 +1,6 @@
 -- What words say, command by command: each last clause serves all commands that no other clause names.
-use Rattle.std.proofs.Common.{◌≡◌, ℕ, List, length, arith}
-use Rattle.std.specs.Prelude.{codes, IsErr}
+use Rattle.std.proofs.Common.{◌≡◌, ◌≢◌, ℕ, List, length, ap, arith}
+use Rattle.std.specs.Prelude.{codes, slice_index, IsErr}
 use Rattle.hex.specs.Hex.{decode_of}
 use Rattle.sr_script.specs.declared.command.Command.{Command}
 use Rattle.sr_script.specs.declared.command.Command.TheVariants.{Lsp, ProofRow, ProofDone}
@@ -20,6 +20,11 @@ said-once ws a b p q = grind arith
 pub first-not_remark : (command : Command) → ¬ IsRemark (first_word command)
 first-not_remark (Lsp octets) remark = absurd (omega (arith, remark))
 first-not_remark command remark = absurd (omega (arith, remark))
+
+-- no command begins with `try`
+pub first-not_try : (command : Command) → first_word command ≢ codes "try"
+first-not_try (Lsp octets) e = absurd (omega (arith, ap (λ (word : List ℕ). slice_index word 0) e))
+first-not_try command e = grind arith
 
 -- a command that begins with `lsp` has two words
 pub lsp-length : (ws : List (List ℕ)) (command : Command) → SaysCommand ws command → word_at ws 0 ≡ codes "lsp" → length ws ≡ 2

@@ -1,10 +1,10 @@
 -- What the readers of commands answer.
-use Rattle.std.specs.Prelude.{◌≡◌, ◌≢◌, ◌⊎◌, List, ℕ, ◌+◌, ◌<◌, map, length, None, Some, Option, MatchOption, IsErr}
+use Rattle.std.specs.Prelude.{◌≡◌, ◌≢◌, ◌⊎◌, true, List, ℕ, ◌+◌, ◌<◌, map, length, None, Some, Option, MatchOption, IsErr}
 use Rattle.std.specs.declared.result.Result.{Result}
 use Rattle.std.specs.declared.result.Result.TheVariants.{Ok, Err}
 use Rattle.hex.specs.Hex.{decode_of}
 use Rattle.sr_script.specs.Words.{word_at}
-use Rattle.sr_script.specs.Says.{SaysCommand, first_word, kind_word, grouping_word}
+use Rattle.sr_script.specs.Says.{SaysCommand, first_word, is_question, kind_word, grouping_word}
 use Rattle.sr_script.specs.Number.{number_in}
 use Rattle.sr_script.specs.declared.name.TheConstants.{MOST_LINK_NUMBER}
 use Rattle.sr_model.specs.declared.case.Kind.{Kind}
@@ -38,6 +38,12 @@ NamesNoRepair ws i = NamesNoKind (word_at ws i) ⊎ NamesNoLink ws (i + 1) ⊎ (
 -- the command that the words say, or none where they say none
 abbrev pub IsCommandOf : List (List ℕ) → Option Command → Type 0
 IsCommandOf ws answer = MatchOption answer ((command : Command) → ¬ SaysCommand ws command) (SaysCommand ws)
+
+-- the words say this question, or none where they say none
+abbrev pub IsQuestionOf : List (List ℕ) → Option Command → Type 0
+IsQuestionOf ws answer = MatchOption answer
+    ((question : Command) → is_question question ≡ true → ¬ SaysCommand ws question)
+    (λ question. (is_question question ≡ true) × SaysCommand ws question)
 
 -- the words say the command; or their first begins none, or it begins one and they say none
 abbrev pub IsReading : List (List ℕ) → Result Command LineFault → Type 0

@@ -1,5 +1,5 @@
 -- The commands of a script, word by word (this project's rule).
-use Rattle.std.specs.Prelude.{◌≡◌, ℕ, ◌+◌, ◌≤◌, List, [], ◌∷◌, ◌++◌, length, map, codes, Some, Ok}
+use Rattle.std.specs.Prelude.{◌≡◌, ℕ, ◌+◌, ◌≤◌, Bool, true, false, List, [], ◌∷◌, ◌++◌, length, map, codes, Some, Ok}
 use Rattle.hex.specs.Hex.{decode_of}
 use Rattle.sr_model.specs.declared.case.Kind.{Kind}
 use Rattle.sr_model.specs.declared.case.Kind.TheVariants.{Link, Node, Risk}
@@ -118,6 +118,29 @@ first_word command = (form command).0
 -- what the words behind it give
 abbrev pub arguments : Command → List Argument
 arguments command = (form command).1
+
+-- the command asks of a version, and needs no search for distances: such a question may be tried on what is staged
+abbrev pub is_question : Command → Bool
+is_question (Dist ends) = true
+is_question (Next ends) = true
+is_question (Label node label) = true
+is_question (Spaces repair) = true
+is_question (Repair repair) = true
+is_question (RepairCase kind link) = true
+is_question (AdjRepair link) = true
+is_question (AdjBackup link) = true
+is_question (Walk ends choice) = true
+is_question (WalkRepair repair choice) = true
+is_question (Load workers each) = true
+is_question Audit = true
+is_question AuditFull = true
+is_question AuditLabels = true
+is_question (AuditBy grouping) = true
+is_question (FailsNode node) = true
+is_question Nodes = true
+is_question Links = true
+is_question Aside = true
+is_question command = false
 
 -- a row has a cell for each of 1 to 256 nodes, and a certificate at most 257 labels; the form alone says how many
 -- arguments any other command has

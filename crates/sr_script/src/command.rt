@@ -1,5 +1,8 @@
 //! What a script asks for.
 
+ghost use Rattle.std.specs.Prelude.{◌≡◌};
+ghost use Rattle.sr_script.specs.Says.{is_question};
+
 use crate::name::{EndNames, LinkName, RepairName};
 use sr_insight::Grouping;
 use sr_model::{Kind, MOST_NODES, SystemId};
@@ -115,4 +118,23 @@ pub enum Command {
     RepairCase { kind: Kind, link: LinkName },
     /// `fails node F`: asks for the repairs on which packets stay when a node fails.
     FailsNode { node: SystemId },
+}
+
+impl Command {
+    /// Whether the command asks of a version, and needs no search for distances: such a question may be tried on what is
+    /// staged.
+    pub fn is_question(&self) -> bool
+        ensures { result ≡ is_question self.now }
+    {
+        match self {
+            Command::Dist { .. } | Command::Next { .. } | Command::Label { .. } => true,
+            Command::Spaces { .. } | Command::Repair { .. } | Command::RepairCase { .. } => true,
+            Command::AdjRepair { .. } | Command::AdjBackup { .. } => true,
+            Command::Walk { .. } | Command::WalkRepair { .. } | Command::Load { .. } => true,
+            Command::Audit | Command::AuditFull | Command::AuditLabels => true,
+            Command::AuditBy { .. } | Command::FailsNode { .. } => true,
+            Command::Nodes | Command::Links | Command::Aside => true,
+            _ => false,
+        }
+    }
 }

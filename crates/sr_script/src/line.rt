@@ -11,6 +11,8 @@ pub enum Line {
     Nothing,
     /// Its words are this command.
     Word(Command),
+    /// Its words are `try` and this question, which is asked of what is staged.
+    Try(Command),
 }
 
 /// Why a line isn't read, in the order of the checks.

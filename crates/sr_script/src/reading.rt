@@ -1,12 +1,15 @@
 //! Reads a line.
 
-ghost use Rattle.std.specs.Prelude.{◌≡◌, ◌≤◌, ◌↔◌, IsTrue, IfOk, IfErr, codes};
+ghost use Rattle.std.specs.Prelude.{◌≡◌, ◌≤◌, ◌↔◌, false, true, IsTrue, IfOk, IfErr, MatchOption, codes};
 ghost use Rattle.sr_script.specs.Words.{words as words_in, word_at};
+ghost use Rattle.sr_script.specs.Answers.{IsQuestionOf};
+ghost use Rattle.sr_script.specs.Says.{is_question};
 ghost use Rattle.sr_script.specs.LineSays.{IsRemark, SayNothing, LineSays, IsLineFault, WordsSay, IsWordsFault};
 
 use crate::blank::without_return;
 use crate::certificate::read_proof;
 use crate::command::Command;
+use crate::cursor::text_behind;
 use crate::hexadecimal::read_octets;
 use crate::line::{Line, LineFault};
 use crate::readers::read_command;
@@ -42,6 +45,47 @@ fn read_proof_words(alloc: Global, text: &[u8], words: &Words<'_>) -> Result<Lin
     }
 }
 
+/// The command, where it is a question.
+fn question(command: Command) -> Option<Command>
+    ensures { MatchOption result (is_question command ≡ false)
+        (λ found. (found ≡ command) × (is_question found ≡ true)) }
+{
+    if command.is_question() {
+        Some(command)
+    } else {
+        None
+    }
+}
+
+/// The question that the words say.
+fn read_question(words: &Words<'_>) -> Option<Command>
+    ensures { IsQuestionOf words.now result }
+{
+    if words.get(0) == b"lsp".as_slice() {
+        return None;
+    }
+    if words.get(0) == b"proof".as_slice() {
+        return None;
+    }
+    match read_command(words) {
+        Ok(command) => question(command),
+        Err(_) => None,
+    }
+}
+
+/// What the words of `try` say.
+fn read_try_words(text: &[u8], words: &Words<'_>) -> Result<Line, LineFault>
+    requires whole { words.now ≡ words_in text.now }
+    requires first { word_at words.now 0 ≡ codes "try" }
+    ensures said { IfOk result (WordsSay words.now) }
+    ensures refused { IfErr result (IsWordsFault words.now) }
+{
+    match read_question(&Words::of(text_behind(text, 1))) {
+        Some(question) => Ok(Line::Try(question)),
+        None => Err(LineFault::BadForm),
+    }
+}
+
 /// Whether the word begins a remark.
 fn is_remark(word: &[u8]) -> bool
     ensures { IsTrue result ↔ IsRemark word.now }
@@ -70,6 +114,9 @@ fn read_words(alloc: Global, text: &[u8], words: &Words<'_>) -> Result<Line, Lin
     }
     if words.get(0) == b"proof".as_slice() {
         return read_proof_words(alloc, text, words);
+    }
+    if words.get(0) == b"try".as_slice() {
+        return read_try_words(text, words);
     }
     match read_command(words) {
         Ok(command) => Ok(Line::Word(command)),

@@ -14,4 +14,7 @@ returns-in-Err-clause-refused c =
     let other : word_at c.args.words.now 0 ≢ codes "lsp" = λ lsp.
     let same : bytes_eq c.get.result.now c.as_slice.result.now ≡ true = (bytes_eq-Decides _ _).1 (c.get.ensures ∙ lsp ∙ sym c.as_slice.ensures) in
     false≢true (sym c.if-eq.false ∙ c.eq.ensures ∙ same) in
-    reading-refused c.args.words.now c.in-Err.fault something other c.in-Err.ensures
+    let untried : word_at c.args.words.now 0 ≢ codes "try" = λ tried.
+    let same : bytes_eq c.get-3.result.now c.as_slice-3.result.now ≡ true = (bytes_eq-Decides _ _).1 (c.get-3.ensures ∙ tried ∙ sym c.as_slice-3.ensures) in
+    false≢true (sym c.if-eq-3.false ∙ c.eq-3.ensures ∙ same) in
+    reading-refused c.args.words.now c.in-Err.fault something other untried c.in-Err.ensures
