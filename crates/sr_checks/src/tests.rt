@@ -22,6 +22,7 @@ mod pairs;
 mod remains;
 mod rings;
 mod routers;
+mod tries;
 mod versions;
 
 use accounts::ACCOUNTS;
@@ -45,6 +46,7 @@ use std::alloc::{AllocError, AllocGlobal, Global};
 use std::marker::Brand;
 use std::sync::Arc;
 use std::sync::ledger::{Blank, Ledger};
+use tries::TRIES;
 
 /// The command words that are these, split at spaces.
 fn words(alloc: Global, text: &str) -> Result<Vec<String>, AllocError> {
@@ -196,6 +198,14 @@ fn accounts_are_answered(rt: HostRuntime) -> Result<(), AllocError> {
 #[test]
 fn groups_are_answered(rt: HostRuntime) -> Result<(), AllocError> {
     for case in &GROUPS {
+        assert!(rt; agrees(&rt, case)?, "{}", case.name);
+    }
+    Ok(())
+}
+
+#[test]
+fn tries_are_answered(rt: HostRuntime) -> Result<(), AllocError> {
+    for case in &TRIES {
         assert!(rt; agrees(&rt, case)?, "{}", case.name);
     }
     Ok(())

@@ -18,4 +18,5 @@ nets-kept P each = record {
   watched = λ domain version watchers rounds is h. h;
   joined = λ domain h. h;
   asked = λ domain h. h;
+  tried = λ domain net is h. h;
 }

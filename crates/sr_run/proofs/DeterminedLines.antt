@@ -10,9 +10,9 @@ use Rattle.sr_lsdb.specs.Edit.Edit.{SetCost, TakeDown, BringUp, SetDepth}
 use Rattle.sr_script.specs.declared.name.LinkName.{LinkName}
 use Rattle.sr_script.specs.declared.name.RepairName.{RepairName}
 use Rattle.sr_script.specs.declared.command.Command.{Command}
-use Rattle.sr_script.specs.declared.command.Command.TheVariants.{Lsp, Cost, Down, Up, Depth, Commit, DropStaged, Dist, Next, Label, Spaces, Repair, AdjRepair, AdjBackup, Prove, ProofOpen, ProofVia, ProofNode, ProofAdj, ProofRow, ProofDone, Walk, WalkRepair, Load, Audit, AuditFull, Hold, Watch, Join, Show, Nodes, Links, Aside, AuditBy, AuditLabels, RepairCase, FailsNode}
+use Rattle.sr_script.specs.declared.command.Command.TheVariants.{Lsp, Cost, Down, Up, Depth, Commit, DropStaged, Prove, ProofOpen, ProofVia, ProofNode, ProofAdj, ProofRow, ProofDone, Hold, Watch, Join, Show}
 use Rattle.sr_script.specs.declared.line.Line.{Line}
-use Rattle.sr_script.specs.declared.line.Line.TheVariants.{Nothing as NoWord, Word}
+use Rattle.sr_script.specs.declared.line.Line.TheVariants.{Nothing as NoWord, Word, Try}
 use Rattle.sr_script.specs.declared.line.LineFault.{LineFault}
 use Rattle.sr_script.specs.declared.line.LineFault.TheVariants as fault
 use Rattle.sr_script.specs.LineSays.{LineSays, IsLineFault, IsMemory}
@@ -26,22 +26,18 @@ use Rattle.sr_cert.specs.Draft.{CertDraft}
 use Rattle.sr_run.specs.Domain.{Domain, Background, last_version, with_draft, with_hold, with_watch}
 use Rattle.sr_run.specs.Domain.Background.{AtRest, OfHold, OfWatch}
 use Rattle.sr_run.specs.Edits.{Refuses, EditsNamed}
-use Rattle.sr_run.specs.Questions.{TellsDistance, TellsNextHops, TellsLookup, TellsWalk, TellsLoads}
-use Rattle.sr_run.specs.Failures.{TellsSpaces, TellsRepair, TellsAdjRepair, TellsAdjBackup, TellsRepairWalk, TellsSummary, TellsAudit}
-use Rattle.sr_run.specs.Account.{TellsNodes, TellsLinks, TellsAsides}
-use Rattle.sr_run.specs.Insight.{TellsCoverage, TellsStacks, TellsCaseRepairs, TellsNodeRepairs}
+use Rattle.sr_run.specs.Asked.{TellsQuestion}
 use Rattle.sr_run.specs.Certificates.{Drafting, DraftsOf, TellsProof, OpensDraft, KeepsLink, KeepsNode, KeepsRow, DecidesDraft}
+use Rattle.sr_run.specs.Tries.{Tries}
 use Rattle.sr_run.specs.Session.{TellsOf, Asks, AsksProof, WritesDraft, Tells, TellsLine, IsRefusedAs, after_question}
 use Rattle.sr_run.specs.Background.{BeginsWork, JoinsWork, watch_from}
 use Rattle.sr_run.specs.Laws.{AreNets, JoinsMoved, LinesHaveOneAnswer}
 use Rattle.sr_script.proofs.LineLemmas.{one-thing, faults-agree, said-agrees}
 use Rattle.sr_run.proofs.DeterminedTold.{AreAlike, AreOne, alike, alike-refused, one-refused}
 use Rattle.sr_run.proofs.DeterminedEdits.{staged-one, announces-one, link-edited-one, dropped-one, commit-one}
-use Rattle.sr_run.proofs.DeterminedQuestions.{distance-alike, hops-alike, lookup-alike, walk-alike, loads-alike}
+use Rattle.sr_run.proofs.DeterminedAsked.{question-alike, tries-one}
 use Rattle.sr_run.proofs.DeterminedReports.{due-one, joins-unmoved}
 use Rattle.sr_run.proofs.DeterminedCertificates.{LeaveOne, proof-alike, still-one, opened-one, link-kept-one, node-kept-one, row-kept-one, decided-one}
-use Rattle.sr_run.proofs.DeterminedInsight.{nodes-alike, links-alike, asides-alike, coverage-alike, stacks-alike, case-repairs-alike, node-repairs-alike}
-use Rattle.sr_run.proofs.DeterminedFailures.{spaces-alike, repair-alike, adjrepair-alike, adjbackup-alike, repair-walk-alike, summary-alike, audit-alike}
 
 -- no line is refused because memory ran out
 memory-not_told : (fault : LineFault) (reason : Refusal) → IsMemory fault → IsRefusedAs fault reason → ⊥
@@ -65,6 +61,15 @@ said-not_told line said fault reason s f r = memory-not_told fault reason (said-
 
 nothing-not_word : (line : List ℕ) (c : Command) → LineSays line NoWord → LineSays line (Word c) → ⊥
 nothing-not_word line c x y = let e : NoWord ≡ Word c = one-thing line NoWord (Word c) x y in absurd (cc)
+
+nothing-not_try : (line : List ℕ) (c : Command) → LineSays line NoWord → LineSays line (Try c) → ⊥
+nothing-not_try line c x y = let e : NoWord ≡ Try c = one-thing line NoWord (Try c) x y in absurd (cc)
+
+word-not_try : (line : List ℕ) (c d : Command) → LineSays line (Word c) → LineSays line (Try d) → ⊥
+word-not_try line c d x y = let e : Word c ≡ Try d = one-thing line (Word c) (Try d) x y in absurd (cc)
+
+tries-same : (line : List ℕ) (c d : Command) → LineSays line (Try c) → LineSays line (Try d) → c ≡ d
+tries-same line c d x y = let e : Try c ≡ Try d = one-thing line (Try c) (Try d) x y in cc
 
 words-one : (line : List ℕ) (c d : Command) → LineSays line (Word c) → LineSays line (Word d) → c ≡ d
 words-one line c d x y = let e : Word c ≡ Word d = one-thing line (Word c) (Word d) x y in cc
@@ -138,12 +143,6 @@ module _ (old : Domain) (nets : AreNets old) (a b : Told) (new next : Domain) wh
   said-one line (Depth depth) says p q = has-one line (staged-one old a b new next (SetDepth depth) p q)
   said-one line Commit says p q = has-one line (commit-one old a b new next p q)
   said-one line DropStaged says p q = has-one line (dropped-one old a b new next p q)
-  said-one line (Dist ends) says p q = has-one line (asked-one (TellsDistance ends) (λ version net. distance-alike version net a b ends) p q)
-  said-one line (Next ends) says p q = has-one line (asked-one (TellsNextHops ends) (λ version net. hops-alike version net a b ends) p q)
-  said-one line (Label node label) says p q = has-one line (asked-one (TellsLookup node label) (λ version net. lookup-alike version net a b node label) p q)
-  said-one line (Spaces repair) says p q = has-one line (asked-one (TellsSpaces repair) (λ version net. spaces-alike version net a b repair) p q)
-  said-one line (Repair repair) says p q = has-one line (asked-one (TellsRepair repair) (λ version net. repair-alike version net a b repair) p q)
-  said-one line (AdjRepair link) says p q = has-one line (asked-one (TellsAdjRepair link old.editing.accepted) (λ version net. adjrepair-alike version net a b link old.editing.accepted) p q)
   said-one line (Prove repair) says p q = has-one line (proof-asked-one repair p q)
   said-one line (ProofOpen repair) says p q = has-one line (drafted-one (OpensDraft repair) (λ version net x y. opened-one a b x y version net old.draft repair) p q)
   said-one line (ProofVia link) says p q = has-one line (drafted-one (KeepsLink Via link) (λ version net x y. link-kept-one a b x y version net old.draft Via link) p q)
@@ -151,23 +150,11 @@ module _ (old : Domain) (nets : AreNets old) (a b : Told) (new next : Domain) wh
   said-one line (ProofAdj link) says p q = has-one line (drafted-one (KeepsLink AdjSegment link) (λ version net x y. link-kept-one a b x y version net old.draft AdjSegment link) p q)
   said-one line (ProofRow cells) says p q = has-one line (drafted-one (KeepsRow cells) (λ version net x y. row-kept-one a b x y version net old.draft cells) p q)
   said-one line (ProofDone labels) says p q = has-one line (drafted-one (DecidesDraft labels) (λ version net x y. decided-one a b x y version net old.draft labels) p q)
-  said-one line (Walk ends choice) says p q = has-one line (asked-one (TellsWalk ends choice) (λ version net. walk-alike version net a b ends choice) p q)
-  said-one line (WalkRepair repair choice) says p q = has-one line (asked-one (TellsRepairWalk repair choice) (λ version net. repair-walk-alike version net a b repair choice) p q)
-  said-one line (Load workers each) says p q = has-one line (asked-one (TellsLoads each) (λ version net. loads-alike version net a b each) p q)
-  said-one line Audit says p q = has-one line (asked-one TellsSummary (λ version net. summary-alike version net a b) p q)
-  said-one line AuditFull says p q = has-one line (asked-one TellsAudit (λ version net. audit-alike version net a b) p q)
   said-one line Hold says p q = has-one line (begun-one (λ version. HoldTold version.number) (with_hold old) (last_version old.nets) old.background p q)
   said-one line (Watch watchers rounds) says p q = has-one line (begun-one (λ version. WatchTold watchers rounds version.number) (λ version. with_watch old (watch_from watchers rounds version)) (last_version old.nets) old.background p q)
   said-one line Join says p q = joined-one line says p q
   said-one line Show says p q = has-one line (record { told = alike a b _ _ p.0 q.0 refl; state = p.1 ∙ sym q.1 })
-  said-one line (AdjBackup link) says p q = has-one line (asked-one (TellsAdjBackup link old.editing.accepted) (λ version net. adjbackup-alike version net a b link old.editing.accepted) p q)
-  said-one line Nodes says p q = has-one line (asked-one TellsNodes (λ version net. nodes-alike version net a b) p q)
-  said-one line Links says p q = has-one line (asked-one (TellsLinks old.editing.accepted) (λ version net. links-alike version net a b old.editing.accepted) p q)
-  said-one line Aside says p q = has-one line (asked-one (TellsAsides old.editing.accepted) (λ version net. asides-alike version net a b old.editing.accepted) p q)
-  said-one line (AuditBy grouping) says p q = has-one line (asked-one (TellsCoverage grouping) (λ version net. coverage-alike version net a b grouping) p q)
-  said-one line AuditLabels says p q = has-one line (asked-one TellsStacks (λ version net. stacks-alike version net a b) p q)
-  said-one line (RepairCase kind link) says p q = has-one line (asked-one (TellsCaseRepairs kind link) (λ version net. case-repairs-alike version net a b kind link) p q)
-  said-one line (FailsNode node) says p q = has-one line (asked-one (TellsNodeRepairs node) (λ version net. node-repairs-alike version net a b node) p q)
+  said-one line question says p q = has-one line (asked-one (TellsQuestion question old.editing.accepted) (λ version net. question-alike question old.editing.accepted version net a b) p q)
 
   -- a line has one fault that is told
   faults-one : (line : List ℕ) (fault also : LineFault) (reason other : Refusal) → IsLineFault line fault → IsLineFault line also → IsRefusedAs fault reason → IsRefusedAs also other → Refuses old a new reason → Refuses old b next other → AreOne a b new next
@@ -183,15 +170,24 @@ module _ (old : Domain) (nets : AreNets old) (a b : Told) (new next : Domain) wh
   pub line-one : (line : List ℕ) → TellsLine old line a new → TellsLine old line b next → HasOne line
   line-one line (inl p) (inl q) = has-one line (faults-one line p.0 q.0 p.1 q.1 p.2 q.2 p.3 q.3 p.4 q.4)
   line-one line (inl p) (inr (inl q)) = absurd (said-not_told line NoWord p.0 p.1 q.0 p.2 p.3)
-  line-one line (inl p) (inr (inr q)) = absurd (said-not_told line (Word q.0) p.0 p.1 q.1 p.2 p.3)
+  line-one line (inl p) (inr (inr (inl q))) = absurd (said-not_told line (Word q.0) p.0 p.1 q.1 p.2 p.3)
+  line-one line (inl p) (inr (inr (inr q))) = absurd (said-not_told line (Try q.0) p.0 p.1 q.1 p.2 p.3)
   line-one line (inr (inl p)) (inl q) = absurd (said-not_told line NoWord q.0 q.1 p.0 q.2 q.3)
   line-one line (inr (inl p)) (inr (inl q)) = has-one line (record { told = alike a b Nothing Nothing p.1 q.1 refl; state = p.2 ∙ sym q.2 })
-  line-one line (inr (inl p)) (inr (inr q)) = absurd (nothing-not_word line q.0 p.0 q.1)
-  line-one line (inr (inr p)) (inl q) = absurd (said-not_told line (Word p.0) q.0 q.1 p.1 q.2 q.3)
-  line-one line (inr (inr p)) (inr (inl q)) = absurd (nothing-not_word line p.0 q.0 p.1)
-  line-one line (inr (inr p)) (inr (inr q)) =
+  line-one line (inr (inl p)) (inr (inr (inl q))) = absurd (nothing-not_word line q.0 p.0 q.1)
+  line-one line (inr (inl p)) (inr (inr (inr q))) = absurd (nothing-not_try line q.0 p.0 q.1)
+  line-one line (inr (inr (inl p))) (inl q) = absurd (said-not_told line (Word p.0) q.0 q.1 p.1 q.2 q.3)
+  line-one line (inr (inr (inl p))) (inr (inl q)) = absurd (nothing-not_word line p.0 q.0 p.1)
+  line-one line (inr (inr (inl p))) (inr (inr (inl q))) =
       let same : q.0 ≡ p.0 = words-one line q.0 p.0 q.1 p.1 in
       said-one line p.0 p.1 p.2 (subst (λ (c : Command). Tells old c b next) same q.2)
+  line-one line (inr (inr (inl p))) (inr (inr (inr q))) = absurd (word-not_try line p.0 q.0 p.1 q.1)
+  line-one line (inr (inr (inr p))) (inl q) = absurd (said-not_told line (Try p.0) q.0 q.1 p.1 q.2 q.3)
+  line-one line (inr (inr (inr p))) (inr (inl q)) = absurd (nothing-not_try line p.0 q.0 p.1)
+  line-one line (inr (inr (inr p))) (inr (inr (inl q))) = absurd (word-not_try line q.0 p.0 q.1 p.1)
+  line-one line (inr (inr (inr p))) (inr (inr (inr q))) =
+      let same : q.0 ≡ p.0 = tries-same line q.0 p.0 q.1 p.1 in
+      has-one line (tries-one p.0 old a b new next p.2 (subst (λ (c : Command). Tries c old b next) same q.2))
 
 -- from a state, a line is refused or not, and has one next state; and it has one answer, unless it joins a watch during which a commit was accepted
 pub lines-determined : LinesHaveOneAnswer

@@ -16,7 +16,6 @@ use Rattle.sr_laws.proofs.Parts.{link_is}
 use Rattle.sr_laws.proofs.Stacks.{label-same}
 use Rattle.sr_spf.specs.Hops.{AreNextHops}
 use Rattle.sr_fib.specs.Entries.{numbers}
-use Rattle.sr_loads.specs.Loads.{LinkLoads}
 use Rattle.sr_loads.proofs.Uniqueness.{loads-one}
 use Rattle.sr_script.specs.declared.name.EndNames.{EndNames}
 use Rattle.sr_print.specs.declared.refusal.Refusal.TheVariants.{NoDestination}

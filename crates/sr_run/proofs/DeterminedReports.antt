@@ -1,5 +1,5 @@
 -- Background work has one list of reports, unless a commit was accepted during a watch.
-use Rattle.std.proofs.Common.{◌≡◌, ℕ, ◌<◌, ◌≤◌, List, [], ◌∷◌, length, map, All, slice_get, Some, None, refl, sym, ap, subst, ◌∙◌, arith, ⊎_elim}
+use Rattle.std.proofs.Common.{◌≡◌, ℕ, ◌<◌, ◌≤◌, List, [], ◌∷◌, length, map, All, slice_get, Some, refl, sym, ap, subst, ◌∙◌, arith, ⊎_elim}
 use Rattle.std.proofs.lemmas.List.Elements.{All-head, All-tail}
 use Rattle.std.proofs.lemmas.Option.{slice_get_within}
 use Rattle.std.proofs.lemmas.Bool.{cases_lt}
@@ -12,7 +12,7 @@ use Rattle.sr_model.specs.Label.{Net}
 use Rattle.sr_laws.proofs.Audits.{audit-one}
 use Rattle.sr_audit.specs.Counted.{AreAuditCounts}
 use Rattle.sr_repair.specs.Version.{NumberedNet}
-use Rattle.sr_work.specs.Reports.{IsReportOf, IsReportOfOne, IsHoldReport, AreReports}
+use Rattle.sr_work.specs.Reports.{IsReportOf, IsReportOfOne}
 use Rattle.sr_script.specs.declared.command.Command.TheVariants.{Join}
 use Rattle.sr_script.specs.declared.line.Line.TheVariants.{Word}
 use Rattle.sr_script.specs.LineSays.{LineSays}

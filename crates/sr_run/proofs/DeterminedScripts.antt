@@ -40,6 +40,7 @@ counted-kept = record {
       omega (arith, last-number domain.nets version is, ap (λ (w : BegunWatch). w.from) same);
   joined = λ domain h none watch runs. absurd (rests-not_watch watch runs);
   asked = λ domain h. h;
+  tried = λ domain net is h. h;
 }
 
 -- the commits that were accepted during watches are never fewer
@@ -61,6 +62,7 @@ commits-kept least = record {
   watched = λ domain version watchers rounds is h. h;
   joined = λ domain h. h;
   asked = λ domain h. h;
+  tried = λ domain net is h. h;
 }
 
 -- lines have one answer after the other

@@ -1,6 +1,8 @@
 pub mod NameLemmas
 pub mod HandlerLemmas
+pub mod QuestionLemmas
 pub mod SessionLemmas
+pub mod TryLemmas
 pub mod ReportLemmas
 pub mod WritingLemmas
 pub mod LineLemmas
@@ -25,6 +27,7 @@ pub mod DeterminedInsight
 pub mod DeterminedCertificates
 pub mod CertificateLemmas
 pub mod DeterminedEdits
+pub mod DeterminedAsked
 pub mod DeterminedReports
 pub mod DeterminedLines
 pub mod DeterminedScripts

@@ -1,5 +1,5 @@
 -- What is answered to lines of which only the head was seen.
-use Rattle.std.proofs.Common.{◌≡◌, ◌≢◌, ℕ, ◌<◌, ◌≤◌, ◌++◌, Bool, true, false, List, [], length, Option, Some, None, refl, sym, ap, subst, arith, inl, inr, ⊎_elim, length-take}
+use Rattle.std.proofs.Common.{◌≡◌, ◌≢◌, ℕ, ◌<◌, ◌≤◌, ◌++◌, Bool, true, false, List, [], ◌∷◌, length, Option, Some, None, refl, sym, ap, subst, arith, inl, inr, ⊎_elim, length-take}
 use Rattle.std.specs.declared.result.Result.{Result}
 use Rattle.std.specs.declared.result.Result.TheVariants.{Ok, Err}
 use Rattle.std.proofs.lemmas.Bool.{cases_lt}
@@ -9,10 +9,11 @@ use Rattle.std.proofs.lemmas.List.{take_all}
 use Rattle.sr_script.specs.declared.command.Command.{Command}
 use Rattle.sr_script.specs.declared.command.Command.TheVariants.{Cost, Depth, Load, Watch}
 use Rattle.sr_script.specs.declared.line.Line.{Line}
-use Rattle.sr_script.specs.declared.line.Line.TheVariants.{Nothing as NoWord, Word}
+use Rattle.sr_script.specs.declared.line.Line.TheVariants.{Nothing as NoWord, Word, Try}
 use Rattle.sr_script.specs.declared.line.LineFault.{LineFault}
 use Rattle.sr_script.specs.declared.line.LineFault.TheVariants.{TooLong, UnknownWord, BadForm, BadHex, Memory}
-use Rattle.sr_script.specs.LineSays.{LineSays, IsLineFault}
+use Rattle.sr_script.specs.Says.{SaysCommand, is_question}
+use Rattle.sr_script.specs.LineSays.{LineSays, SaysTry, IsLineFault}
 use Rattle.sr_script.specs.Number.{number_in, number_read, within}
 use Rattle.sr_script.specs.Words.{word_at, words_of}
 use Rattle.sr_model.specs.declared.link.TheConstants.{MOST_METRIC}
@@ -27,8 +28,9 @@ use Rattle.sr_print.specs.Refused.{refused_line}
 use Rattle.sr_print.specs.Told.{Told, spelled, is_refusal}
 use Rattle.sr_print.specs.Told.Told.{Nothing, Refused}
 use Rattle.sr_run.specs.State.{Session, CanReport}
+use Rattle.sr_run.specs.Tries.{Tries}
 use Rattle.sr_run.specs.Session.{IsRefusedAs, Tells}
-use Rattle.sr_run.specs.Handlers.{GivesCommand, IsAsked, RefusesLine, SessionAnswers, SessionTells, SessionEnds, session_conduct}
+use Rattle.sr_run.specs.Handlers.{GivesCommand, GivesTold, IsAsked, RefusesLine, SessionAnswers, SessionTells, SessionEnds, session_conduct}
 use Rattle.sr_run.proofs.ReportLemmas.{end-has_answer}
 
 short-head : (line : List ℕ) → length (head_of line) ≤ 140000 → head_of line ≡ line
@@ -66,7 +68,17 @@ answer-told command old new number head told p tells = λ line is. record {
   reports = tells.reports;
   steps = λ lent domain like.
       let next = tells.steps lent domain like in
-      (next.0, next.1, (told, inr (inr (command, line-says line (Word command) (subst (λ (h : List ℕ). LineSays h (Word command)) is p), next.2)), refl, refl));
+      (next.0, next.1, (told, inr (inr (inl (command, line-says line (Word command) (subst (λ (h : List ℕ). LineSays h (Word command)) is p), next.2))), refl, refl));
+}
+
+-- the answer to a line that says a question which is tried
+answer-tried : (question : Command) (old new : Session) (number : ℕ) (head : List ℕ) (told : Told) → LineSays head (Try question)
+    → SessionTells (Tries question) old new told → ToHead SessionAnswers old number head (spelled number told) (is_refusal told) new
+answer-tried question old new number head told p tells = λ line is. record {
+  reports = tells.reports;
+  steps = λ lent domain like.
+      let next = tells.steps lent domain like in
+      (next.0, next.1, (told, inr (inr (inr (question, line-says line (Try question) (subst (λ (h : List ℕ). LineSays h (Try question)) is p), next.2))), refl, refl));
 }
 
 -- the answer to a line that says no command
@@ -87,19 +99,31 @@ number-bounds : (low high : ℕ) (word : List ℕ) (n : ℕ) → number_in low h
 unfolding number_in
 number-bounds low high word n e = within-bounds low high (number_read word) n e
 
--- the arguments of a command that a line says are in range; the last clause serves all commands that no other names
-pub said-well : (line : List ℕ) (command : Command) → LineSays line (Word command) → IsAsked command
-said-well line (Cost link metric) p = let b = number-bounds 1 MOST_METRIC (word_at (words_of line) 4) metric p.says.others.1.1.1.0 in (omega (arith, b.0), omega (arith, b.1))
-said-well line (Depth depth) p = (number-bounds 0 MOST_DEPTH (word_at (words_of line) 1) depth p.says.others.0).1
-said-well line (Load workers each) p =
-    let w = number-bounds 1 MOST_WORKERS (word_at (words_of line) 1) workers p.says.others.0 in
-    let k = number-bounds 1 MOST_EACH (word_at (words_of line) 2) each p.says.others.1.0 in
+-- the arguments of a command that words say are in range; the last clause serves all commands that no other names
+words-well : (ws : List (List ℕ)) (command : Command) → SaysCommand ws command → IsAsked command
+words-well ws (Cost link metric) p = let b = number-bounds 1 MOST_METRIC (word_at ws 4) metric p.others.1.1.1.0 in (omega (arith, b.0), omega (arith, b.1))
+words-well ws (Depth depth) p = (number-bounds 0 MOST_DEPTH (word_at ws 1) depth p.others.0).1
+words-well ws (Load workers each) p =
+    let w = number-bounds 1 MOST_WORKERS (word_at ws 1) workers p.others.0 in
+    let k = number-bounds 1 MOST_EACH (word_at ws 2) each p.others.1.0 in
     (omega (arith, w.0), omega (arith, w.1), omega (arith, k.0), omega (arith, k.1))
-said-well line (Watch watchers rounds) p =
-    let t = number-bounds 1 MOST_WATCHERS (word_at (words_of line) 1) watchers p.says.others.0 in
-    let r = number-bounds 1 MOST_ROUNDS (word_at (words_of line) 2) rounds p.says.others.1.0 in
+words-well ws (Watch watchers rounds) p =
+    let t = number-bounds 1 MOST_WATCHERS (word_at ws 1) watchers p.others.0 in
+    let r = number-bounds 1 MOST_ROUNDS (word_at ws 2) rounds p.others.1.0 in
     (omega (arith, t.0), omega (arith, t.1), omega (arith, r.1))
-said-well line command p = tt
+words-well ws command p = tt
+
+-- so are those of a command that a line says
+pub said-well : (line : List ℕ) (command : Command) → LineSays line (Word command) → IsAsked command
+said-well line command p = words-well (words_of line) command p.says
+
+-- and of a question that is tried
+try-well : (ws : List (List ℕ)) (question : Command) → SaysTry ws question → IsAsked question × (is_question question ≡ true)
+try-well [] question s = absurd s
+try-well (first ∷ rest) question s = (words-well rest question s.2, s.1)
+
+pub tried-well : (line : List ℕ) (question : Command) → LineSays line (Try question) → IsAsked question × (is_question question ≡ true)
+tried-well line question p = try-well (words_of line) question p.says
 
 -- a head that isn't too long is that of itself
 head-itself : (head : List ℕ) → length head ≤ 140001 → head ≡ head_of head
@@ -119,6 +143,12 @@ pub command-answers : (command : Command) (number : ℕ) (head : List ℕ) (old 
 command-answers command number head old p said refused new h =
     subst (λ (x : List ℕ). ToHead SessionAnswers old number head x refused new) (sym h.2)
     (subst (λ (b : Bool). ToHead SessionAnswers old number head (spelled number h.0) b new) (sym h.3) (answer-told command old new number head h.0 p h.1))
+
+-- so is what a question gives that is tried
+pub tries-answer : (question : Command) (number : ℕ) (head : List ℕ) (old : Session) → LineSays head (Try question) → (said : List ℕ) (refused : Bool) (new : Session) → GivesTold (Tries question) number old said refused new → ToHead SessionAnswers old number head said refused new
+tries-answer question number head old p said refused new h =
+    subst (λ (x : List ℕ). ToHead SessionAnswers old number head x refused new) (sym h.2)
+    (subst (λ (b : Bool). ToHead SessionAnswers old number head (spelled number h.0) b new) (sym h.3) (answer-tried question old new number head h.0 p h.1))
 
 -- and so is what a fault gives
 pub fault-answers : (fault : LineFault) (number : ℕ) (head : List ℕ) (old : Session) → CanReport old.work → IsLineFault head fault → (said : List ℕ) (refused : Bool) (new : Session) → RefusesLine fault number old said refused new → ToHead SessionAnswers old number head said refused new

@@ -1,5 +1,5 @@
 -- The status tells how a run ended.
-use Rattle.std.proofs.Common.{◌≡◌, ℕ, ◌≤◌, ◌⊎◌, true, false, List, [], length, refl, ap, sym, subst, arith, length-append, inl, inr, ⊎_elim, None, Some}
+use Rattle.std.proofs.Common.{◌≡◌, ℕ, ◌≤◌, ◌⊎◌, true, false, List, [], length, refl, ap, sym, subst, arith, length-append, inl, inr, None, Some}
 use Rattle.std.specs.Prelude.{String}
 use Rattle.std.specs.declared.option.Option.{Option}
 use Rattle.std.specs.declared.alloc.Global.{Global}
@@ -7,7 +7,7 @@ use Rattle.std.specs.Io.KnownBytes.{Consumes}
 use Rattle.std.proofs.KnownBytes.{Appends-nil, Consumes-nil}
 use Rattle.sr_base.specs.Faults.{Rose}
 use Rattle.sr_engine.specs.Lines.{most_bytes}
-use Rattle.sr_engine.specs.Endings.{Devices, Ran, CountsShow, OutputIs, status_of}
+use Rattle.sr_engine.specs.Endings.{Devices, CountsShow, OutputIs, status_of}
 use Rattle.sr_engine.specs.declared.end.End.{End}
 use Rattle.sr_engine.specs.declared.end.End.TheVariants.{Done, ReadFailed, WriteFailed, Memory, TooMuch}
 use Rattle.sr_run.specs.Domain.{opening_domain}
@@ -22,7 +22,7 @@ use Rattle.sr_words.specs.declared.task.AskedTask.{AskedTask}
 use Rattle.sr_words.specs.declared.task.AskedTask.TheVariants as task
 use Rattle.sr_words.specs.Tasks.{Asked, BeginWithMake, IsTaskOf}
 use Rattle.sr_words.proofs.TaskLemmas.{one-task}
-use Rattle.sr_run.specs.Program.{Execution, execution_of, EndShows, TaskShows, MakesScript, StatusShows, RunsTo, RunsThrough}
+use Rattle.sr_run.specs.Program.{Execution, execution_of, EndShows, TaskShows, StatusShows, RunsTo, RunsThrough}
 use Rattle.sr_run.proofs.Likeness.{answered-like, script-like, begins-like}
 use Rattle.sr_run.proofs.Simulation.{session-follows, script-delivers}
 use Rattle.sr_run.proofs.UsageLemmas.{shown-first, serves-all}

@@ -1,21 +1,18 @@
 -- Work whose first version has an audit can be joined.
-use Rattle.std.proofs.Common.{◌≡◌, ℕ, ◌≤◌, ◌<◌, List, [], ◌∷◌, ◌++◌, true, false, length, map, All, slice_get, Some, None, refl, sym, ap, subst, ◌∙◌, arith}
+use Rattle.std.proofs.Common.{◌≡◌, ℕ, List, [], ◌∷◌, ◌++◌, false, length, map, All, slice_get, Some, None, refl, ap, arith}
 use Rattle.std.specs.List.{AllPairs}
-use Rattle.std.proofs.lemmas.List.Elements.{All-nil, All-cons, All-map}
+use Rattle.std.proofs.lemmas.List.Elements.{All-nil, All-cons}
 use Rattle.std.proofs.lemmas.List.Kept.{AllPairs-cons}
 use Rattle.std.specs.declared.option.Option.{Option}
 use Rattle.sr_model.specs.declared.audit.WatchRound.{WatchRound}
 use Rattle.sr_model.specs.declared.audit.RoundReport.{RoundReport}
 use Rattle.sr_repair.specs.Version.{NumberedNet}
 use Rattle.sr_print.specs.Work.{report_lines, joined_line}
-use Rattle.sr_store.specs.declared.usage.Usage.{Usage}
-use Rattle.sr_work.specs.Reports.{IsReportOf, IsReportOfOne, IsHoldReport, IsNoEarlier, AreReports, all_rounds}
+use Rattle.sr_work.specs.Reports.{IsReportOf, IsReportOfOne, IsNoEarlier, AreReports, all_rounds}
 use Rattle.sr_work.specs.Works.{AreReportsOf, usage_joined}
-use Rattle.sr_work.specs.Watched.{Watched}
 use Rattle.sr_work.specs.declared.work.Work.{Work}
 use Rattle.sr_work.specs.declared.work.Work.TheVariants.{Idle, Holds, Watches}
-use Rattle.sr_engine.specs.Replies.{Allowed, HasSome, AtEnd}
-use Rattle.sr_engine.proofs.Last.{EndAnswers}
+use Rattle.sr_engine.specs.Replies.{HasSome, AtEnd}
 use Rattle.sr_run.specs.State.{Session, CanReport, HasAudit, is_running}
 use Rattle.sr_run.specs.Handlers.{SessionEnds}
 use Rattle.sr_run.proofs.SessionLemmas.{session, joined, ends-joined, ends-resting}

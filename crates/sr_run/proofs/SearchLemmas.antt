@@ -1,11 +1,11 @@
 -- What the counter of searches shows of a domain, step by step.
-use Rattle.std.proofs.Common.{◌≡◌, ℕ, ◌+◌, ◌-◌, ◌*◌, ◌≤◌, List, [], ◌∷◌, sym, subst, arith, Option, Some, None}
+use Rattle.std.proofs.Common.{◌≡◌, ℕ, ◌+◌, ◌-◌, ◌*◌, ◌≤◌, List, [], ◌∷◌, refl, sym, subst, arith, Option, Some, None}
 use Rattle.sr_model.specs.Graph.{node_count, link_count}
 use Rattle.sr_model.specs.Label.{Net}
 use Rattle.sr_repair.specs.Version.{NumberedNet, version_of}
 use Rattle.sr_repair.proofs.WorkLemmas.{work-none}
-use Rattle.sr_run.specs.Domain.{Domain, last_version, with_net, with_asked}
-use Rattle.sr_run.specs.Searches.{IsWithinCommits, IsCommitWork, CountsCommitWork, CountsSearches}
+use Rattle.sr_run.specs.Domain.{Domain, TriedNet, last_version, with_net, with_asked, with_tried}
+use Rattle.sr_run.specs.Searches.{IsWithinCommits, IsWithinTries, IsCommitWork, CountsCommitWork, CountsSearches}
 use Rattle.sr_run.proofs.StepLemmas.{Stays}
 
 -- one more net
@@ -13,28 +13,42 @@ within-more : (nets : List Net) (net : Net) (count here : ℕ) → IsWithinCommi
 within-more [] net count here within work = omega (arith, within, work)
 within-more (before ∷ earlier) net count here within work = (here, count, omega arith, work, within)
 
--- where the nets and the questions for certificates stay
-pub counts-still : (old new : Domain) (before after : ℕ) → new.nets ≡ old.nets → new.asked ≡ old.asked → CountsSearches old before after → CountsSearches new before after
-counts-still old new before after nets asked s = record {
+-- where the nets, the questions for certificates and what was tried stay
+pub counts-still : (old new : Domain) (before after : ℕ) → new.nets ≡ old.nets → new.asked ≡ old.asked → new.tried ≡ old.tried → CountsSearches old before after → CountsSearches new before after
+counts-still old new before after nets asked tried s = record {
   commits = s.commits;
   within = subst (λ (n : List Net). IsWithinCommits n s.commits) (sym nets) s.within;
+  tries = s.tries;
+  tried = subst (λ (n : List TriedNet). IsWithinTries n s.tries) (sym tried) s.tried;
   most = omega (arith, s.most, asked);
 }
 
 pub counts-stays : (old new : Domain) (before after : ℕ) → Stays old new → CountsSearches old before after → CountsSearches new before after
-counts-stays old new before after stays s = counts-still old new before after stays.nets stays.asked s
+counts-stays old new before after stays s = counts-still old new before after stays.nets stays.asked stays.tried s
 
 -- a net is accepted
 pub counts-accepted : (domain : Domain) (net : Net) (before after here : ℕ) → CountsSearches domain before after → IsCommitWork (last_version domain.nets) net here → CountsSearches (with_net domain net) before (after + here)
 counts-accepted domain net before after here s work = record {
   commits = s.commits + here;
   within = within-more domain.nets net s.commits here s.within work;
+  tries = s.tries;
+  tried = s.tried;
+  most = omega (arith, s.most);
+}
+
+-- a question was tried on a net
+pub counts-tried : (domain : Domain) (net : Net) (before after here : ℕ) → CountsSearches domain before after → IsCommitWork (last_version domain.nets) net here → CountsSearches (with_tried domain net) before (after + here)
+counts-tried domain net before after here s work = record {
+  commits = s.commits;
+  within = s.within;
+  tries = here + s.tries;
+  tried = (here, s.tries, refl, work, s.tried);
   most = omega (arith, s.most);
 }
 
 -- a certificate was asked for
 pub counts-asked : (domain : Domain) (before after now : ℕ) → now ≤ after + 1 → CountsSearches domain before after → CountsSearches (with_asked domain) before now
-counts-asked domain before after now more s = record { commits = s.commits; within = s.within; most = omega (arith, s.most, more) }
+counts-asked domain before after now more s = record { commits = s.commits; within = s.within; tries = s.tries; tried = s.tried; most = omega (arith, s.most, more) }
 
 -- ---- one commit
 

@@ -1,27 +1,23 @@
 -- From what a session keeps of a domain, of its work, of its usage and of its counter, to what is told of the domain.
-use Rattle.std.proofs.Common.{◌≡◌, ℕ, zero, suc, ◌+◌, ◌-◌, ◌*◌, ◌^◌, min, ◌<◌, ◌≤◌, ◌++◌, Bool, true, false, not, List, [], ◌∷◌, length, length-append, map, All, slice_get, Option, Some, None, IfSome, MatchResult, refl, sym, subst, ap, ◌∙◌, inl, inr, arith}
-use Rattle.std.proofs.Math.Nat.{mul-le-mul_left, mul-le-mul_right}
+use Rattle.std.proofs.Common.{◌≡◌, ℕ, ◌+◌, ◌-◌, ◌*◌, ◌<◌, ◌≤◌, ◌++◌, Bool, true, false, not, List, [], ◌∷◌, length, length-append, slice_get, Option, Some, None, IfSome, MatchResult, refl, sym, subst, ap, ◌∙◌, inl, inr, arith}
+use Rattle.std.proofs.Math.Nat.{mul-le-mul_left}
 use Rattle.std.specs.declared.alloc.AllocError.{AllocError}
 use Rattle.std.specs.declared.result.Result.{Result}
 use Rattle.std.specs.declared.result.Result.TheVariants.{Ok, Err}
 use Rattle.sr_model.specs.declared.audit.RoundReport.{RoundReport}
 use Rattle.sr_model.specs.Label.{Net}
-use Rattle.sr_lsdb.specs.Editing.{Editing, with_accepted}
-use Rattle.sr_domain.specs.Net.{IsNetOf}
 use Rattle.sr_repair.specs.Version.{NumberedNet, version_of}
 use Rattle.sr_script.specs.declared.name.RepairName.{RepairName}
 use Rattle.sr_script.specs.declared.command.Command.{Command}
 use Rattle.sr_script.specs.declared.command.Command.TheVariants.{Commit as CommitWord, Prove as ProveWord, Hold as HoldWord, Watch as WatchWord, Join as JoinWord}
 use Rattle.sr_print.specs.declared.refusal.Refusal.{Refusal}
-use Rattle.sr_print.specs.declared.refusal.Refusal.TheVariants as refusal
 use Rattle.sr_print.specs.Told.{Told, spelled, is_refusal}
 use Rattle.sr_print.specs.Told.Told.{Version, Hold, Watch, Joined, Refused}
 use Rattle.sr_print.specs.Work.{report_lines, joined_line}
 use Rattle.sr_audit.proofs.AppendLemmas.{get-left}
 use Rattle.sr_store.proofs.Numbers.{get-last}
-use Rattle.sr_store.specs.Counts.{counted, opened, spread, turned}
+use Rattle.sr_store.specs.Counts.{counted, opened}
 use Rattle.sr_store.specs.declared.usage.Usage.{Usage}
-use Rattle.sr_work.specs.Watched.{Watched}
 use Rattle.sr_work.specs.Works.{StartsWatch, MayFollow, AreReportsOf, after_publishing, usage_published, usage_joined}
 use Rattle.sr_work.specs.declared.work.Work.{Work}
 use Rattle.sr_work.specs.declared.work.Work.TheVariants.{Idle, Holds, Watches}
@@ -33,15 +29,15 @@ use Rattle.sr_run.specs.declared.stop.Stop.{Stop}
 use Rattle.sr_run.specs.declared.stop.Stop.TheVariants.{Refused as Refusing, Memory}
 use Rattle.sr_run.specs.declared.session.Reply.{Reply}
 use Rattle.sr_run.specs.declared.session.Reply.TheVariants.{Text, Audit}
-use Rattle.sr_run.specs.Domain.{Domain, Background, BegunWatch, WatchTotals, last_version, number_of, versions_since, with_net, with_hold, with_watch, with_joined, with_asked, with_commit_during, with_watch_begun}
+use Rattle.sr_run.specs.Domain.{Domain, Background, WatchTotals, last_version, number_of, versions_since, with_net, with_hold, with_watch, with_joined, with_asked, with_commit_during, with_watch_begun}
 use Rattle.sr_run.specs.Domain.Background.{AtRest, OfHold, OfWatch}
 use Rattle.sr_run.specs.Background.{BeginsHold, BeginsWatch, BeginsWork, AreDue, JoinsReporting, JoinsWork, EndsWork, watch_from}
 use Rattle.sr_run.specs.Edits.{Refuses, Commits}
-use Rattle.sr_run.specs.Usage.{Lent, unused}
+use Rattle.sr_run.specs.Usage.{Lent}
 use Rattle.sr_run.specs.Searches.{IsCommitWork, CountsCommitWork}
 use Rattle.sr_run.specs.Certificates.{TellsProof}
-use Rattle.sr_run.specs.Session.{AsksProof, Tells, TellsOf, EndsScript, after_question}
-use Rattle.sr_run.specs.State.{State, Session, IsShown, IsWorkOf, IsWatchOf, ShowsWatches, CanReport, HasAudit, IsKeptWork, IsNextVersion, is_running, turns_due, state_of, with_next_version}
+use Rattle.sr_run.specs.Session.{AsksProof, Tells, TellsOf, after_question}
+use Rattle.sr_run.specs.State.{State, Session, IsShown, IsWorkOf, ShowsWatches, CanReport, HasAudit, IsKeptWork, IsNextVersion, is_running, state_of, with_next_version}
 use Rattle.sr_run.specs.Handlers.{PutsTold, PutsJoined, Carries, Moves, RepliesTo, SessionReplies, SessionTells, StepsAs, SessionEnds, IsOfDomain, IsHindrance, IsNoRefusal, IsPublished, IsReply, MayBegin, CommitsVersion, CountsCommit, CountsProof}
 use Rattle.sr_run.proofs.StepLemmas.{Stays, quiet-stays, stays-itself}
 use Rattle.sr_run.proofs.SearchLemmas.{counts-still, counts-stays, counts-accepted, counts-asked}
@@ -134,7 +130,7 @@ proof-told repair old state work usage searches now before after (Err (Memory er
 -- a refused commit keeps all but the edits
 rejected-stays : (domain : Domain) (reason : Refusal) (next : Domain) → Commits domain (Refused reason) next → Stays domain next
 rejected-stays domain reason next (inl full) = subst (Stays domain) (sym full.1.1) (stays-itself domain)
-rejected-stays domain reason next (inr (room, inl rejects)) = subst (Stays domain) (sym rejects.dropped) (record { nets = refl; background = refl; totals = refl; asked = refl })
+rejected-stays domain reason next (inr (room, inl rejects)) = subst (Stays domain) (sym rejects.dropped) (record { nets = refl; background = refl; totals = refl; asked = refl; tried = refl })
 rejected-stays domain reason next (inr (room, inr accepts)) =
     let e : Refused reason ≡ Version (version_of (length domain.nets + 1) accepts.net) = accepts.told_is in absurd (cc)
 
@@ -282,7 +278,7 @@ hold-begun old version may = record {
           usage = λ fresh.
               let s = subst (λ (w : Work). ShowsWatches domain.totals w old.usage) may.idle (like.usage fresh) in
               record { places = s.places; published = s.published; given = s.given; given_is = s.given_is; few = s.few; turns = s.turns; turns_are = s.turns_are; enough = s.enough };
-          searches = counts-still domain (with_hold domain version) lent.searches old.searches refl refl like.searches;
+          searches = counts-still domain (with_hold domain version) lent.searches old.searches refl refl refl like.searches;
         },
         begins-here (Refuses domain (Hold version.number) (with_hold domain version)) _ (last_version domain.nets) domain.background version last rest (refl, refl),
       );
@@ -331,7 +327,7 @@ watch-begun old version watchers rounds work usage few may starts =
                   subst (λ (u : Usage). ShowsWatches (with_watch_begun domain.totals (watch_from watchers rounds version)) work u) (sym starts.counts)
                   (subst (λ (w : Work). ShowsWatches (with_watch_begun domain.totals (watch_from watchers rounds version)) w (opened old.usage watchers starts.given)) (sym starts.work_is)
                   (usage-begun domain.totals old.usage watchers rounds starts.given version starts.few few s));
-              searches = counts-still domain (with_watch domain (watch_from watchers rounds version)) lent.searches old.searches refl refl like.searches;
+              searches = counts-still domain (with_watch domain (watch_from watchers rounds version)) lent.searches old.searches refl refl refl like.searches;
             },
             begins-here (Refuses domain (Watch watchers rounds version.number) (with_watch domain (watch_from watchers rounds version))) _ (last_version domain.nets) domain.background version last rest (refl, refl),
           );
@@ -380,7 +376,7 @@ joined old reports usage are is = record {
       state = like.state;
       work = tt;
       usage = λ fresh. subst (λ (u : Usage). ShowsWatches domain.totals Idle u) (sym is) (usage-joined domain.totals old.work old.usage (like.usage fresh));
-      searches = counts-still domain (with_joined domain) lent.searches old.searches refl refl like.searches;
+      searches = counts-still domain (with_joined domain) lent.searches old.searches refl refl refl like.searches;
     },
     (due-joined domain.nets domain.background old.work reports like.work are, refl),
   );

@@ -1,5 +1,5 @@
 -- What a session answers is what may be answered from each domain that it shows; and in each net of an accepted commit every repair delivers.
-use Rattle.std.proofs.Common.{◌≡◌, ℕ, Bool, List}
+use Rattle.std.proofs.Common.{ℕ, Bool, List}
 use Rattle.std.proofs.lemmas.List.Elements.{All-nil}
 use Rattle.sr_repair.specs.Delivery.{EachRepairDelivers}
 use Rattle.sr_repair.proofs.DeliveryLemmas.{repair_delivers}

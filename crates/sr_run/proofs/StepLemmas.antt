@@ -14,10 +14,11 @@ use Rattle.sr_print.specs.Told.Told.{Hold as HoldTold, Watch as WatchTold}
 use Rattle.sr_engine.specs.Replies.{Replies}
 use Rattle.sr_repair.specs.Version.{NumberedNet}
 use Rattle.sr_cert.specs.Draft.{CertDraft}
-use Rattle.sr_run.specs.Domain.{Domain, Background, last_version, with_staged, with_dropped, with_draft, with_net, with_hold, with_watch, with_joined, with_asked}
+use Rattle.sr_run.specs.Domain.{Domain, Background, last_version, with_staged, with_dropped, with_draft, with_net, with_hold, with_watch, with_joined, with_asked, with_tried}
 use Rattle.sr_run.specs.Domain.Background.{AtRest, OfHold, OfWatch}
 use Rattle.sr_run.specs.Background.{BeginsWork, EndsWork, watch_from}
 use Rattle.sr_run.specs.Edits.{Refuses, StagesEdit, EditsNamed, Announces, Commits}
+use Rattle.sr_run.specs.Tries.{Tries}
 use Rattle.sr_run.specs.Session.{Answers, EndsScript, Tells, TellsLine, after_question}
 use Rattle.sr_run.specs.Handlers.{IsOfDomain}
 use Rattle.sr_run.proofs.NameLemmas.{announced-then}
@@ -60,22 +61,23 @@ module _ (Q : Domain → Type 0) (staged : (domain : Domain) (edit : Edit) → Q
   quiet-keeps old Join told new quiet t h = absurd quiet
   quiet-keeps old command told new quiet t h = subst Q (sym t.1) h
 
--- the nets, what runs, the totals and the questions for certificates stay
+-- the nets, what runs, the totals, the questions for certificates and what was tried stay
 pub record Stays (old new : Domain) : Type 0 where
   pub nets : new.nets ≡ old.nets
   pub background : new.background ≡ old.background
   pub totals : new.totals ≡ old.totals
   pub asked : new.asked ≡ old.asked
+  pub tried : new.tried ≡ old.tried
 
 pub stays-itself : (domain : Domain) → Stays domain domain
-stays-itself domain = record { nets = refl; background = refl; totals = refl; asked = refl }
+stays-itself domain = record { nets = refl; background = refl; totals = refl; asked = refl; tried = refl }
 
 pub quiet-stays : (old : Domain) (command : Command) (told : Told) (new : Domain) → IsOfDomain command → Tells old command told new → Stays old new
 quiet-stays old command told new quiet t =
     quiet-keeps (Stays old)
-    (λ domain edit s. record { nets = s.nets; background = s.background; totals = s.totals; asked = s.asked })
-    (λ domain s. record { nets = s.nets; background = s.background; totals = s.totals; asked = s.asked })
-    (λ domain draft s. record { nets = s.nets; background = s.background; totals = s.totals; asked = s.asked })
+    (λ domain edit s. record { nets = s.nets; background = s.background; totals = s.totals; asked = s.asked; tried = s.tried })
+    (λ domain s. record { nets = s.nets; background = s.background; totals = s.totals; asked = s.asked; tried = s.tried })
+    (λ domain draft s. record { nets = s.nets; background = s.background; totals = s.totals; asked = s.asked; tried = s.tried })
     old command told new quiet t (stays-itself old)
 
 -- what each step of a domain keeps is kept by each answer
@@ -88,6 +90,7 @@ pub record IsKept (Q : Domain → Type 0) : Type 0 where
   pub watched : (domain : Domain) (version : NumberedNet) (watchers rounds : ℕ) → last_version domain.nets ≡ Some version → Q domain → Q (with_watch domain (watch_from watchers rounds version))
   pub joined : (domain : Domain) → Q domain → Q (with_joined domain)
   pub asked : (domain : Domain) → Q domain → Q (with_asked domain)
+  pub tried : (domain : Domain) (net : Net) → IsNetOf domain.editing.tentative net → Q domain → Q (with_tried domain net)
 
 module _ (Q : Domain → Type 0) (kept : IsKept Q) where
   question-keeps : (refused : Bool) (old : Domain) → Q old → Q (after_question refused old)
@@ -137,10 +140,16 @@ module _ (Q : Domain → Type 0) (kept : IsKept Q) where
   tells-keep old Join told new t h = subst Q (sym t.1.1) (kept.joined old h)
   tells-keep old command told new t h = subst Q (sym t.1) h
 
+  tries-keep : (question : Command) (old : Domain) (told : Told) (new : Domain) → Tries question old told new → Q old → Q new
+  tries-keep question old told new (inl full) h = subst Q (sym full.1.1) h
+  tries-keep question old told new (inr (room, inl vain)) h = subst Q (sym vain.refused.1) h
+  tries-keep question old told new (inr (room, inr asks)) h = subst Q (sym asks.tried) (kept.tried old asks.net asks.is_net h)
+
   line-keeps : (old : Domain) (line : List ℕ) (told : Told) (new : Domain) → TellsLine old line told new → Q old → Q new
   line-keeps old line told new (inl fault) h = subst Q (sym fault.4.1) h
   line-keeps old line told new (inr (inl nothing)) h = subst Q (sym nothing.2) h
-  line-keeps old line told new (inr (inr said)) h = tells-keep old said.0 told new said.2 h
+  line-keeps old line told new (inr (inr (inl said))) h = tells-keep old said.0 told new said.2 h
+  line-keeps old line told new (inr (inr (inr tries))) h = tries-keep tries.0 old told new tries.2 h
 
   -- after an answer to a line
   pub answer-keeps : (old : Domain) (number : ℕ) (line out : List ℕ) (refused : Bool) (new : Domain) → Answers old number line out refused new → Q old → Q new

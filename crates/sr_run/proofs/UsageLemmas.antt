@@ -18,10 +18,11 @@ use Rattle.sr_run.specs.Domain.Background.{AtRest, OfHold, OfWatch}
 use Rattle.sr_run.specs.Background.{BeginsWork, EndsWork, watch_from}
 use Rattle.sr_run.specs.Edits.{Refuses, Commits}
 use Rattle.sr_run.specs.Usage.{Lent, ServesWatches, unused}
+use Rattle.sr_run.specs.Tries.{Tries}
 use Rattle.sr_run.specs.Session.{Answers, Tells, TellsLine, conduct, after_question}
 use Rattle.sr_run.specs.State.{Session, IsShown, IsWorkOf, ShowsWatches, session_before}
 use Rattle.sr_run.specs.Handlers.{IsAsked}
-use Rattle.sr_run.proofs.StepLemmas.{Stays, quiet-stays}
+use Rattle.sr_run.proofs.StepLemmas.{quiet-stays}
 use Rattle.sr_run.proofs.LineLemmas.{said-well}
 
 -- before the first line
@@ -33,7 +34,7 @@ shown-first lent = record {
   state = refl;
   work = tt;
   usage = λ fresh. subst (ShowsWatches no_watches Idle) (sym fresh) none-shown;
-  searches = record { commits = 0; within = refl; most = omega arith };
+  searches = record { commits = 0; within = refl; tries = 0; tried = refl; most = omega arith };
 }
 
 -- ---- how far the totals go
@@ -97,10 +98,17 @@ tells-sums old (Prove repair) told new asked t =
     sums-same old new (ap (λ (d : Domain). d.totals) t.1 ∙ question-totals (is_refusal told) old)
 tells-sums old command told new asked t = sums-same old new (quiet-stays old command told new tt t).totals
 
+-- a question that is tried leaves them
+tries-totals : (question : Command) (old : Domain) (told : Told) (new : Domain) → Tries question old told new → new.totals ≡ old.totals
+tries-totals question old told new (inl full) = ap (λ (d : Domain). d.totals) full.1.1
+tries-totals question old told new (inr (room, inl vain)) = ap (λ (d : Domain). d.totals) vain.refused.1
+tries-totals question old told new (inr (room, inr asks)) = ap (λ (d : Domain). d.totals) asks.tried
+
 line-sums : (old : Domain) (line : List ℕ) (told : Told) (new : Domain) → TellsLine old line told new → sums new ≤ sums old + 200
 line-sums old line told new (inl fault) = sums-same old new (ap (λ (d : Domain). d.totals) fault.4.1)
 line-sums old line told new (inr (inl nothing)) = sums-same old new (ap (λ (d : Domain). d.totals) nothing.2)
-line-sums old line told new (inr (inr said)) = tells-sums old said.0 told new (said-well line said.0 said.1) said.2
+line-sums old line told new (inr (inr (inl said))) = tells-sums old said.0 told new (said-well line said.0 said.1) said.2
+line-sums old line told new (inr (inr (inr tries))) = sums-same old new (tries-totals tries.0 old told new tries.2)
 
 replies-sums : (old : Domain) (number : ℕ) (lines : List (List ℕ)) (out : List ℕ) (refused : Bool) (new : Domain) → Replies Answers old number lines out refused new → sums new ≤ sums old + length lines * 200
 replies-sums old number [] out refused new r = sums-none old new r.2

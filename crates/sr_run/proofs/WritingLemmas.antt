@@ -1,5 +1,5 @@
 -- How what is told to a command is written.
-use Rattle.std.proofs.Common.{◌≡◌, ℕ, ◌++◌, Bool, true, false, List, [], Option, Some, None, refl, sym, subst, ap, ◌∙◌, inl, inr}
+use Rattle.std.proofs.Common.{◌≡◌, ℕ, Bool, true, false, List, [], Option, Some, None, refl, sym, subst, ap, ◌∙◌, inl, inr}
 use Rattle.std.specs.declared.alloc.AllocError.{AllocError}
 use Rattle.std.specs.declared.result.Result.{Result}
 use Rattle.std.specs.declared.result.Result.TheVariants.{Ok, Err}
@@ -15,21 +15,24 @@ use Rattle.sr_engine.specs.Replies.{Gives}
 use Rattle.sr_engine.specs.Written.{Written, Puts}
 use Rattle.sr_print.specs.Refused.{refused_line}
 use Rattle.sr_print.specs.declared.refusal.Refusal.{Refusal}
+use Rattle.sr_print.specs.Told.{Told}
 use Rattle.sr_print.specs.Told.Told.{Refused, Audit as AuditTold}
+use Rattle.sr_run.specs.Domain.{Domain}
+use Rattle.sr_run.specs.Tries.{Tries}
 use Rattle.sr_run.specs.Failures.{TellsAudit}
 use Rattle.sr_run.specs.State.{State, Session, CanReport}
 use Rattle.sr_run.specs.Session.{Tells, TellsOf}
-use Rattle.sr_run.specs.Handlers.{PutsTold, Moves, SessionTells, IsNoRefusal, GivesCommand, WritesAudit, WritesRefusal, audit_text}
+use Rattle.sr_run.specs.Handlers.{PutsTold, Moves, SessionTells, IsNoRefusal, GivesCommand, GivesTold, WritesAudit, WritesRefusal, audit_text}
 use Rattle.sr_run.proofs.SessionLemmas.{lifted}
 
 -- a text that tells is written, or a beginning of it
-pub gives-told : (command : Command) (number : ℕ) (old new : Session) (before after : Written) (text : List ℕ) (put : Result (Unit {0}) SinkFault) (result : Result Bool SinkFault)
-    → PutsTold (SessionTells (λ domain t next. Tells domain command t next) old new) [] text → Puts before after text put → IsNoRefusal put result → Gives (GivesCommand command number old) before after result new
-gives-told command number old new before after text (Ok done) result t p r =
-    subst (λ (x : Result Bool SinkFault). Gives (GivesCommand command number old) before after x new) (sym r)
+pub gives-told : (tells : Domain → Told → Domain → Type 0) (number : ℕ) (old new : Session) (before after : Written) (text : List ℕ) (put : Result (Unit {0}) SinkFault) (result : Result Bool SinkFault)
+    → PutsTold (SessionTells tells old new) [] text → Puts before after text put → IsNoRefusal put result → Gives (GivesTold tells number old) before after result new
+gives-told tells number old new before after text (Ok done) result t p r =
+    subst (λ (x : Result Bool SinkFault). Gives (GivesTold tells number old) before after x new) (sym r)
     (record { said = text; says = p; is = (t.told, t.is, t.appended number, sym t.accepted) })
-gives-told command number old new before after text (Err fault) result t p r =
-    subst (λ (x : Result Bool SinkFault). Gives (GivesCommand command number old) before after x new) (sym r)
+gives-told tells number old new before after text (Err fault) result t p r =
+    subst (λ (x : Result Bool SinkFault). Gives (GivesTold tells number old) before after x new) (sym r)
     (record { text = text; breaks = p; begins = inr (record { refused = false; new = new; is = (t.told, t.is, t.appended number, sym t.accepted) }) })
 
 -- the audit of a version is told to whatever domain shows it
@@ -40,36 +43,46 @@ audit-moved state version items some audit domain same =
 audit-told : (s : Session) (version : NumberedNet) (items : List Item) → CanReport s.work → s.state.current ≡ Some version → IsAudit version.net items → SessionTells (λ domain t next. Tells domain AuditFull t next) s s (AuditTold version items)
 audit-told s version items can some audit = lifted AuditFull s.state s.state s.work s.usage s.searches (AuditTold version items) tt can (audit-moved s.state version items some audit)
 
-gives-whole : (number : ℕ) (state : Session) (current : Option NumberedNet) (before after : Written) (put : Result (Unit {0}) SinkFault) (result : Result Bool SinkFault)
-    → CanReport state.work → state.state.current ≡ current → WritesAudit current before after put → IsNoRefusal put result → Gives (GivesCommand AuditFull number state) before after result state
-gives-whole number state None before after put result can is w r = absurd w
-gives-whole number state (Some version) before after (Ok done) result can is w r =
-    subst (λ (x : Result Bool SinkFault). Gives (GivesCommand AuditFull number state) before after x state) (sym r)
-    (record { said = audit_text version w.0; says = w.2; is = (AuditTold version w.0, audit-told state version w.0 can is w.1, refl, refl) })
-gives-whole number state (Some version) before after (Err fault) result can is w r =
-    subst (λ (x : Result Bool SinkFault). Gives (GivesCommand AuditFull number state) before after x state) (sym r)
-    (record { text = audit_text version w.0; breaks = w.2; begins = inr (record { refused = false; new = state; is = (AuditTold version w.0, audit-told state version w.0 can is w.1, refl, refl) }) })
+-- an audit that is told so is written, or a beginning of it
+gives-whole : (tells : Domain → Told → Domain → Type 0) (number : ℕ) (old new : Session) (current : Option NumberedNet) (before after : Written) (put : Result (Unit {0}) SinkFault) (result : Result Bool SinkFault)
+    → ((version : NumberedNet) (items : List Item) → current ≡ Some version → IsAudit version.net items → SessionTells tells old new (AuditTold version items))
+    → WritesAudit current before after put → IsNoRefusal put result → Gives (GivesTold tells number old) before after result new
+gives-whole tells number old new None before after put result told w r = absurd w
+gives-whole tells number old new (Some version) before after (Ok done) result told w r =
+    subst (λ (x : Result Bool SinkFault). Gives (GivesTold tells number old) before after x new) (sym r)
+    (record { said = audit_text version w.0; says = w.2; is = (AuditTold version w.0, told version w.0 refl w.1, refl, refl) })
+gives-whole tells number old new (Some version) before after (Err fault) result told w r =
+    subst (λ (x : Result Bool SinkFault). Gives (GivesTold tells number old) before after x new) (sym r)
+    (record { text = audit_text version w.0; breaks = w.2; begins = inr (record { refused = false; new = new; is = (AuditTold version w.0, told version w.0 refl w.1, refl, refl) }) })
 
+-- the audit of the last version
 pub gives-audit : (command : Command) (number : ℕ) (old new : Session) (before after : Written) (put : Result (Unit {0}) SinkFault) (result : Result Bool SinkFault)
     → command ≡ AuditFull → new ≡ old → CanReport new.work → WritesAudit new.state.current before after put → IsNoRefusal put result → Gives (GivesCommand command number old) before after result new
 gives-audit command number old new before after put result is same can w r =
     subst (λ (k : Command). Gives (GivesCommand k number old) before after result new) (sym is)
-    (subst (λ (s : Session). Gives (GivesCommand AuditFull number s) before after result new) same (gives-whole number new new.state.current before after put result can refl w r))
+    (subst (λ (s : Session). Gives (GivesCommand AuditFull number s) before after result new) same (gives-whole (λ domain told next. Tells domain AuditFull told next) number new new new.state.current before after put result (λ version items some audit. audit-told new version items can some audit) w r))
+
+-- the audit of a version that was tried
+pub gives-tried : (question : Command) (number : ℕ) (old new : Session) (tried : Option NumberedNet) (before after : Written) (put : Result (Unit {0}) SinkFault) (result : Result Bool SinkFault)
+    → ((told : Told) → TellsOf TellsAudit tried told → SessionTells (Tries question) old new told) → WritesAudit tried before after put → IsNoRefusal put result → Gives (GivesTold (Tries question) number old) before after result new
+gives-tried question number old new tried before after put result told w r =
+    gives-whole (Tries question) number old new tried before after put result
+    (λ version items some audit. told (AuditTold version items) (subst (λ (o : Option NumberedNet). TellsOf TellsAudit o (AuditTold version items)) (sym some) (items, audit, refl))) w r
 
 -- a refusal is written, or a beginning of it
-pub gives-refusal : (command : Command) (number : ℕ) (old new : Session) (before after : Written) (reason : Refusal) (result : Result Bool SinkFault)
-    → SessionTells (λ domain t next. Tells domain command t next) old new (Refused reason) → WritesRefusal number reason before after result → Gives (GivesCommand command number old) before after result new
-gives-refusal command number old new before after reason (Ok refused) m w = record { said = refused_line number reason; says = w.1; is = (Refused reason, m, refl, w.0) }
-gives-refusal command number old new before after reason (Err fault) m w =
+pub gives-refusal : (tells : Domain → Told → Domain → Type 0) (number : ℕ) (old new : Session) (before after : Written) (reason : Refusal) (result : Result Bool SinkFault)
+    → SessionTells tells old new (Refused reason) → WritesRefusal number reason before after result → Gives (GivesTold tells number old) before after result new
+gives-refusal tells number old new before after reason (Ok refused) m w = record { said = refused_line number reason; says = w.1; is = (Refused reason, m, refl, w.0) }
+gives-refusal tells number old new before after reason (Err fault) m w =
     record { text = refused_line number reason; breaks = w; begins = inr (record { refused = true; new = new; is = (Refused reason, m, refl, refl) }) }
 
 -- memory was wanted before anything was answered
-pub gives-nothing : (command : Command) (number : ℕ) (old new : Session) (before : Written) (error : AllocError) → Gives (GivesCommand command number old) before before (Err (Wanting error)) new
-gives-nothing command number old new before error = record { text = []; breaks = breaks-nothing before error; begins = inl refl }
+pub gives-nothing : (tells : Domain → Told → Domain → Type 0) (number : ℕ) (old new : Session) (before : Written) (error : AllocError) → Gives (GivesTold tells number old) before before (Err (Wanting error)) new
+gives-nothing tells number old new before error = record { text = []; breaks = breaks-nothing before error; begins = inl refl }
 
 -- the same place and the same result
-pub gives-at : (command : Command) (number : ℕ) (old new : Session) (before after place : Written) (result given : Result Bool SinkFault)
-    → place ≡ after → given ≡ result → Gives (GivesCommand command number old) before after result new → Gives (GivesCommand command number old) before place given new
-gives-at command number old new before after place result given p r g =
-    subst (λ (w : Written). Gives (GivesCommand command number old) before w given new) (sym p)
-    (subst (λ (x : Result Bool SinkFault). Gives (GivesCommand command number old) before after x new) (sym r) g)
+pub gives-at : (tells : Domain → Told → Domain → Type 0) (number : ℕ) (old new : Session) (before after place : Written) (result given : Result Bool SinkFault)
+    → place ≡ after → given ≡ result → Gives (GivesTold tells number old) before after result new → Gives (GivesTold tells number old) before place given new
+gives-at tells number old new before after place result given p r g =
+    subst (λ (w : Written). Gives (GivesTold tells number old) before w given new) (sym p)
+    (subst (λ (x : Result Bool SinkFault). Gives (GivesTold tells number old) before after x new) (sym r) g)

@@ -25,9 +25,14 @@ pub record WatchTotals : Type 0 where
   pub rounds : ℕ
   pub commits : ℕ
 
+-- a net that was tried, and the version that was the last one then
+pub record TriedNet : Type 0 where
+  pub current : Option NumberedNet
+  pub net : Net
+
 -- the accepted and the tentative facts with how many edits are staged; the nets of the accepted commits, the last one
 -- first; the certificate that is being written, where one is open; what runs in the background; what was asked of all
--- watches; and how many certificates were asked for by `prove`
+-- watches; how many certificates were asked for by `prove`; and the nets that were tried, the last one first
 pub record Domain : Type 0 where
   pub editing : Editing
   pub nets : List Net
@@ -35,6 +40,7 @@ pub record Domain : Type 0 where
   pub background : Background
   pub totals : WatchTotals
   pub asked : ℕ
+  pub tried : List TriedNet
 
 -- before the first watch
 abbrev pub no_watches : WatchTotals
@@ -49,6 +55,7 @@ opening_domain = record {
   background = AtRest;
   totals = no_watches;
   asked = 0;
+  tried = [];
 }
 
 -- the version of the last of these nets: its number is how many there are
@@ -119,3 +126,9 @@ with_joined domain = record domain { background = AtRest }
 -- after a certificate was asked for
 abbrev pub with_asked : Domain → Domain
 with_asked domain = record domain { asked = domain.asked + 1 }
+
+-- after a question was put to this net, which is that of the tentative facts
+abbrev pub with_tried : Domain → Net → Domain
+with_tried domain net = record domain {
+  tried = record { current = last_version domain.nets; net = net } ∷ domain.tried;
+}

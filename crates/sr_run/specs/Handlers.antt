@@ -20,7 +20,8 @@ use Rattle.sr_script.specs.declared.name.RepairName.{RepairName}
 use Rattle.sr_script.specs.declared.command.Command.{Command}
 use Rattle.sr_model.specs.declared.link.TheConstants.{MOST_METRIC}
 use Rattle.sr_script.specs.declared.command.TheConstants.{MOST_DEPTH, MOST_WATCHERS, MOST_ROUNDS, MOST_WORKERS, MOST_EACH}
-use Rattle.sr_script.specs.declared.command.Command.TheVariants.{Cost, Depth, Load, Prove, ProofOpen, ProofVia, ProofNode, ProofAdj, ProofRow, ProofDone, Commit, AuditFull, Hold, Watch, Join, Nodes, Links, Aside, AuditBy, AuditLabels, RepairCase, FailsNode}
+use Rattle.sr_script.specs.declared.command.Command.TheVariants.{Cost, Depth, Load, Prove, ProofOpen, ProofVia, ProofNode, ProofAdj, ProofRow, ProofDone, Commit, AuditFull, Hold, Watch, Join}
+use Rattle.sr_script.specs.Says.{is_question}
 use Rattle.sr_print.specs.declared.refusal.Refusal.{Refusal}
 use Rattle.sr_print.specs.declared.refusal.Refusal.TheVariants as refusal
 use Rattle.sr_print.specs.Told.{Told, spelled, is_refusal}
@@ -44,6 +45,8 @@ use Rattle.sr_run.specs.declared.stop.Stop.TheVariants.{Refused, Memory}
 use Rattle.sr_run.specs.declared.edits.LinkEdit.{LinkEdit}
 use Rattle.sr_run.specs.declared.edits.LinkEdit.TheVariants.{Cost as CostEdit, Down as DownEdit, Up as UpEdit}
 use Rattle.sr_run.specs.declared.session.Reply.{Reply}
+use Rattle.sr_run.specs.declared.tries.Tried.{Tried}
+use Rattle.sr_run.specs.declared.tries.Tried.TheVariants.{Text as TriedText, Audit as TriedAudit}
 use Rattle.sr_run.specs.declared.session.Reply.TheVariants.{Text, Audit}
 use Rattle.sr_store.specs.declared.usage.Usage.{Usage}
 use Rattle.sr_work.specs.declared.work.Work.{Work}
@@ -51,10 +54,12 @@ use Rattle.sr_work.specs.declared.work.Work.TheVariants.{Idle, Holds, Watches}
 use Rattle.sr_work.specs.Works.{after_publishing, usage_published}
 use Rattle.sr_run.specs.declared.commit.TheConstants.{MOST_VERSIONS}
 use Rattle.sr_run.specs.Domain.{Domain, number_of}
+use Rattle.sr_domain.specs.Rules.{IsFirstBrokenRule}
 use Rattle.sr_run.specs.Edits.{Commits}
+use Rattle.sr_run.specs.Asked.{TellsQuestion}
 use Rattle.sr_run.specs.Background.{JoinsReporting}
 use Rattle.sr_run.specs.Names.{IsNamedNode, NamesNode, OfEnds, OfAnnounced, OfNamedLink, OfFailure, OfAffected, IsLinkOf, key_meant}
-use Rattle.sr_run.specs.Session.{Tells, Answers, EndsScript, IsRefusedAs}
+use Rattle.sr_run.specs.Session.{Tells, TellsOf, Answers, EndsScript, IsRefusedAs}
 use Rattle.sr_run.specs.Searches.{CountsCommitWork}
 use Rattle.sr_run.specs.State.{State, Session, IsShown, CanReport, HasAudit, IsNextVersion, session_before, state_of, with_next_version}
 use Rattle.sr_run.specs.Usage.{Lent}
@@ -148,16 +153,10 @@ IsUncertified (ProofRow cells) = ⊥
 IsUncertified (ProofDone labels) = ⊥
 IsUncertified command = IsOfText command
 
--- such a command that doesn't ask where the net comes from, or of an audit as a whole
-abbrev pub IsPlain : Command → Type 0
-IsPlain Nodes = ⊥
-IsPlain Links = ⊥
-IsPlain Aside = ⊥
-IsPlain (AuditBy grouping) = ⊥
-IsPlain AuditLabels = ⊥
-IsPlain (RepairCase kind link) = ⊥
-IsPlain (FailsNode node) = ⊥
-IsPlain command = IsUncertified command
+-- the command is a question whose answer is appended at once
+abbrev pub IsTextQuestion : Command → Type 0
+IsTextQuestion AuditFull = ⊥
+IsTextQuestion command = is_question command ≡ true
 
 -- the two systems are these nodes
 abbrev pub AreEnds : Net → EndNames → ℕ → ℕ → Type 0
@@ -244,11 +243,14 @@ SessionReplies command old new before after (Ok Audit) =
 SessionReplies command old new before after (Err stop) =
     Carries (SessionTells (λ domain told next. Tells domain command told next) old new) before after (Err stop)
 
--- what a command gives, with the line of this number
+-- what is given to the line of this number by what is told so
+abbrev pub GivesTold : (Domain → Told → Domain → Type 0) → ℕ → Session → Allowed Session
+GivesTold tells number old = λ said refused new.
+    (told : Told) × SessionTells tells old new told × (said ≡ spelled number told) × (refused ≡ is_refusal told)
+
+-- what a command gives
 abbrev pub GivesCommand : Command → ℕ → Session → Allowed Session
-GivesCommand command number old = λ said refused new.
-    (told : Told) × SessionTells (λ domain told next. Tells domain command told next) old new told
-    × (said ≡ spelled number told) × (refused ≡ is_refusal told)
+GivesCommand command number old = GivesTold (λ domain told next. Tells domain command told next) number old
 
 -- what a line of this number with a fault gives
 abbrev pub RefusesLine : LineFault → ℕ → Session → Allowed Session
@@ -366,3 +368,41 @@ pub record RunsLent (old new : Devices) (lent back : Lent) (end : End) : Type 0 
   pub counts : CountsShow old new end
   pub usage_is : back.usage ≡ final.usage
   pub searches_are : back.searches ≡ final.searches
+
+-- no version would be made of the tentative facts for this reason: all versions were made, or the facts break a rule
+abbrev pub RefusesTry : State → Refusal → Type 0
+RefusesTry state reason =
+    ((MOST_VERSIONS ≤ number_of state.current) × (reason ≡ refusal.VersionsFull))
+    ⊎ ((number_of state.current < MOST_VERSIONS)
+    × ((rule : DomainRule) × IsFirstBrokenRule state.editing.tentative rule × (reason ≡ refusal.Rule rule)))
+
+-- the version after the last one was made of the tentative facts, and the counter of searches went no further than its
+-- commit would let it go
+abbrev pub MakesTried : State → ℕ → ℕ → Option NumberedNet → Type 0
+MakesTried state counted count tried =
+    (version : NumberedNet) × (tried ≡ Some version) × (number_of state.current < MOST_VERSIONS)
+    × IsNextVersion state version × CountsCommitWork state.current version.net counted count
+
+-- why there is none: all versions were made, or the tentative facts break a rule, and nothing was searched; or memory
+-- ran out
+abbrev pub TriesNone : State → ℕ → ℕ → Stop → Type 0
+TriesNone state counted count (Refused reason) = RefusesTry state reason × (count ≡ counted)
+TriesNone state counted count (Memory error) = Unit {0}
+
+-- what is told to a question that is tried, and how far the counter of searches went: it is refused, or the version that
+-- was made tells it
+abbrev pub TriesFrom : Command → State → ℕ → ℕ → Told → Type 0
+TriesFrom question state counted count told =
+    ((reason : Refusal) × RefusesTry state reason × (told ≡ RefusedTold reason) × (count ≡ counted))
+    ⊎ ((tried : Option NumberedNet) × MakesTried state counted count tried
+    × TellsOf (TellsQuestion question state.editing.tentative) tried told)
+
+-- how a question that is tried is answered: by what was appended, or by an audit that is yet to be written, or not
+abbrev pub TriedAs : Command → State → ℕ → ℕ → List ℕ → List ℕ → Result Tried Stop → Type 0
+TriedAs question state counted count before after (Ok TriedText) =
+    PutsTold (TriesFrom question state counted count) before after
+TriedAs question state counted count before after (Ok (TriedAudit tried)) =
+    (question ≡ AuditFull) × MakesTried state counted count tried
+TriedAs question state counted count before after (Err (Refused reason)) =
+    TriesFrom question state counted count (RefusedTold reason)
+TriedAs question state counted count before after (Err (Memory error)) = Unit {0}

@@ -7,6 +7,8 @@ pub mod Failures
 pub mod Certificates
 pub mod Account
 pub mod Insight
+pub mod Asked
+pub mod Tries
 pub mod Session
 pub mod Usage
 pub mod Searches

@@ -5,8 +5,8 @@ use Rattle.sr_model.specs.Graph.{node_count, link_count}
 use Rattle.sr_lsdb.specs.Edit.Edit.{SetCost, TakeDown, BringUp, SetDepth}
 use Rattle.sr_script.specs.declared.name.RepairName.{RepairName}
 use Rattle.sr_script.specs.declared.command.Command.{Command}
-use Rattle.sr_script.specs.declared.command.Command.TheVariants.{Lsp, Cost, Down, Up, Depth, Commit, DropStaged, Dist, Next, Label, Spaces, Repair, AdjRepair, AdjBackup, Prove, ProofOpen, ProofVia, ProofNode, ProofAdj, ProofRow, ProofDone, Walk, WalkRepair, Load, Audit, AuditFull, Hold, Watch, Join, Show, Nodes, Links, Aside, AuditBy, AuditLabels, RepairCase, FailsNode}
-use Rattle.sr_script.specs.declared.line.Line.TheVariants.{Nothing as NoWord, Word}
+use Rattle.sr_script.specs.declared.command.Command.TheVariants.{Lsp, Cost, Down, Up, Depth, Commit, DropStaged, Prove, ProofOpen, ProofVia, ProofNode, ProofAdj, ProofRow, ProofDone, Hold, Watch, Join, Show}
+use Rattle.sr_script.specs.declared.line.Line.TheVariants.{Nothing as NoWord, Word, Try}
 use Rattle.sr_script.specs.declared.line.LineFault.{LineFault}
 use Rattle.sr_script.specs.declared.line.LineFault.TheVariants as fault
 use Rattle.sr_script.specs.LineSays.{LineSays, IsLineFault}
@@ -21,10 +21,8 @@ use Rattle.sr_cert.specs.Draft.{CertDraft}
 use Rattle.sr_run.specs.Domain.{Domain, last_version, number_of, with_draft, with_asked}
 use Rattle.sr_run.specs.Edits.{Refuses, Announces, EditsLink, StagesEdit, DropsStaged, Commits}
 use Rattle.sr_run.specs.Background.{BeginsHold, BeginsWatch, JoinsWork, EndsWork}
-use Rattle.sr_run.specs.Questions.{TellsDistance, TellsNextHops, TellsLookup, TellsWalk, TellsLoads}
-use Rattle.sr_run.specs.Failures.{TellsSpaces, TellsRepair, TellsAdjRepair, TellsAdjBackup, TellsRepairWalk, TellsSummary, TellsAudit}
-use Rattle.sr_run.specs.Account.{TellsNodes, TellsLinks, TellsAsides}
-use Rattle.sr_run.specs.Insight.{TellsCoverage, TellsStacks, TellsCaseRepairs, TellsNodeRepairs}
+use Rattle.sr_run.specs.Asked.{TellsQuestion}
+use Rattle.sr_run.specs.Tries.{Tries}
 use Rattle.sr_run.specs.Certificates.{Drafting, DraftsOf, TellsProof, OpensDraft, KeepsLink, KeepsNode, KeepsRow, DecidesDraft}
 
 -- this is told of the version, or there is none, which is refused
@@ -76,7 +74,8 @@ shown_of domain = record {
 abbrev pub Shows : Domain → Told → Domain → Type 0
 Shows old told new = (told ≡ ShowTold (shown_of old)) × (new ≡ old)
 
--- what is told to a command, and the state after it
+-- what is told to a command, and the state after it; each command that isn't named here is a question about the last
+-- version
 abbrev pub Tells : Domain → Command → Told → Domain → Type 0
 Tells old (Lsp octets) told new = Announces octets old told new
 Tells old (Cost link metric) told new = EditsLink (λ key. SetCost key metric) link old told new
@@ -85,12 +84,6 @@ Tells old (Up link) told new = EditsLink (λ key. BringUp (pair_of key)) link ol
 Tells old (Depth depth) told new = StagesEdit (SetDepth depth) old told new
 Tells old Commit told new = Commits old told new
 Tells old DropStaged told new = DropsStaged old told new
-Tells old (Dist ends) told new = Asks (TellsDistance ends) old told new
-Tells old (Next ends) told new = Asks (TellsNextHops ends) old told new
-Tells old (Label node label) told new = Asks (TellsLookup node label) old told new
-Tells old (Spaces repair) told new = Asks (TellsSpaces repair) old told new
-Tells old (Repair repair) told new = Asks (TellsRepair repair) old told new
-Tells old (AdjRepair link) told new = Asks (TellsAdjRepair link old.editing.accepted) old told new
 Tells old (Prove repair) told new = AsksProof repair old told new
 Tells old (ProofOpen repair) told new = WritesDraft (OpensDraft repair) old told new
 Tells old (ProofVia link) told new = WritesDraft (KeepsLink Via link) old told new
@@ -98,23 +91,11 @@ Tells old (ProofNode node) told new = WritesDraft (KeepsNode node) old told new
 Tells old (ProofAdj link) told new = WritesDraft (KeepsLink AdjSegment link) old told new
 Tells old (ProofRow cells) told new = WritesDraft (KeepsRow cells) old told new
 Tells old (ProofDone labels) told new = WritesDraft (DecidesDraft labels) old told new
-Tells old (Walk ends choice) told new = Asks (TellsWalk ends choice) old told new
-Tells old (WalkRepair repair choice) told new = Asks (TellsRepairWalk repair choice) old told new
-Tells old (Load workers each) told new = Asks (TellsLoads each) old told new
-Tells old Audit told new = Asks TellsSummary old told new
-Tells old AuditFull told new = Asks TellsAudit old told new
 Tells old Hold told new = BeginsHold old told new
 Tells old (Watch watchers rounds) told new = BeginsWatch watchers rounds old told new
 Tells old Join told new = JoinsWork old told new
 Tells old Show told new = Shows old told new
-Tells old (AdjBackup link) told new = Asks (TellsAdjBackup link old.editing.accepted) old told new
-Tells old Nodes told new = Asks TellsNodes old told new
-Tells old Links told new = Asks (TellsLinks old.editing.accepted) old told new
-Tells old Aside told new = Asks (TellsAsides old.editing.accepted) old told new
-Tells old (AuditBy grouping) told new = Asks (TellsCoverage grouping) old told new
-Tells old AuditLabels told new = Asks TellsStacks old told new
-Tells old (RepairCase kind link) told new = Asks (TellsCaseRepairs kind link) old told new
-Tells old (FailsNode node) told new = Asks (TellsNodeRepairs node) old told new
+Tells old question told new = Asks (TellsQuestion question old.editing.accepted) old told new
 
 -- a line with this fault is refused for this reason; running out of memory ends the run
 abbrev pub IsRefusedAs : LineFault → Refusal → Type 0
@@ -124,13 +105,15 @@ IsRefusedAs fault.BadForm reason = reason ≡ refusal.BadForm
 IsRefusedAs fault.BadHex reason = reason ≡ refusal.BadHex
 IsRefusedAs (fault.Memory error) reason = ⊥
 
--- what is told to a line, and the state after it: it has a fault, says nothing, or says a command
+-- what is told to a line, and the state after it: it has a fault, says nothing, says a command, or a question that is
+-- tried
 abbrev pub TellsLine : Domain → List ℕ → Told → Domain → Type 0
 TellsLine old line told new =
     ((fault : LineFault) × (reason : Refusal) × IsLineFault line fault × IsRefusedAs fault reason
     × Refuses old told new reason)
     ⊎ ((LineSays line NoWord × (told ≡ Nothing) × (new ≡ old))
-    ⊎ ((command : Command) × LineSays line (Word command) × Tells old command told new))
+    ⊎ (((command : Command) × LineSays line (Word command) × Tells old command told new)
+    ⊎ ((question : Command) × LineSays line (Try question) × Tries question old told new)))
 
 -- from a state, to the line of this number, this is answered, the line is refused or not, and that is the state after
 -- it

@@ -1,4 +1,4 @@
-//! Where the last version comes from: `nodes`, `links` and `aside`.
+//! Where a version comes from: `nodes`, `links` and `aside`.
 ghost use Rattle.std.specs.Prelude.{IfSome};
 ghost use Rattle.sr_lsdb.specs.Facts.{AreInRange};
 ghost use Rattle.sr_domain.specs.Net.{IsNetOf};
@@ -7,14 +7,13 @@ ghost use Rattle.sr_run.specs.Account.{TellsAsides, TellsLinks, TellsNodes};
 ghost use Rattle.sr_run.specs.Handlers.{Carries};
 
 use crate::current::{CurrentVersion, last_version};
-use crate::session::DomainSession;
 use crate::stop::{Stop, found};
 use sr_account::{are_in_order, asides_of, nothing_is_lost, sources_of};
 use sr_lsdb::Facts;
 use sr_print::{put_asides, put_links, put_nodes};
 use std::alloc::Global;
 
-/// `nodes`: appends the nodes of the last version, each with what it announces.
+/// `nodes`: appends the nodes of the version, each with what it announces.
 pub(crate) fn nodes(current: &CurrentVersion, out: &mut Vec<u8>) -> Result<(), Stop>
     ensures { Carries (TellsOf TellsNodes current.now) out.old.items out.new.items result }
 {
@@ -23,8 +22,8 @@ pub(crate) fn nodes(current: &CurrentVersion, out: &mut Vec<u8>) -> Result<(), S
     Ok(())
 }
 
-/// Appends the links of the last version, each with what the facts announce of it.
-fn put_links_of(
+/// `links`: appends the links of the version, each with what the facts announce of it.
+pub(crate) fn links(
     alloc: Global,
     facts: &Facts,
     current: &CurrentVersion,
@@ -39,8 +38,8 @@ fn put_links_of(
     Ok(())
 }
 
-/// Appends what of the facts the last version doesn't use.
-fn put_asides_of(
+/// `aside`: appends what of the facts the version doesn't use.
+pub(crate) fn aside(
     alloc: Global,
     facts: &Facts,
     current: &CurrentVersion,
@@ -56,23 +55,4 @@ fn put_asides_of(
     let unused = asides_of(alloc, facts)?;
     put_asides(&unused, out)?;
     Ok(())
-}
-
-impl DomainSession {
-    ghost use Rattle.sr_script.specs.declared.command.Command.TheVariants.{Aside, Links};
-    ghost use Rattle.sr_run.specs.Handlers.{CarriesOut};
-
-    /// `links`: appends the links of the last version, each with what the accepted facts announce of it.
-    pub(crate) fn links(&self, out: &mut Vec<u8>) -> Result<(), Stop>
-        ensures { CarriesOut Links self.now self.now out.old.items out.new.items result }
-    {
-        put_links_of(self.alloc, self.editor.accepted(), &self.current, out)
-    }
-
-    /// `aside`: appends what of the accepted facts the last version doesn't use.
-    pub(crate) fn aside(&self, out: &mut Vec<u8>) -> Result<(), Stop>
-        ensures { CarriesOut Aside self.now self.now out.old.items out.new.items result }
-    {
-        put_asides_of(self.alloc, self.editor.accepted(), &self.current, out)
-    }
 }

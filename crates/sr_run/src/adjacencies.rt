@@ -1,4 +1,4 @@
-//! What becomes of packets under an adjacency label in the last version: `adjrepair` and `adjbackup`.
+//! What becomes of packets under an adjacency label in a version: `adjrepair` and `adjbackup`.
 ghost use Rattle.std.specs.Prelude.{◌<◌, IfOk, IfSome};
 ghost use Rattle.sr_model.specs.Graph.{link_count};
 ghost use Rattle.sr_domain.specs.Net.{IsNetOf};
@@ -8,7 +8,6 @@ ghost use Rattle.sr_run.specs.Handlers.{Carries};
 
 use crate::current::{CurrentVersion, last_version};
 use crate::names::find_link;
-use crate::session::DomainSession;
 use crate::stop::{Stop, found};
 use sr_adjprot::{AdjAnswer, adj_repair, backup, eligible};
 use sr_lsdb::Facts;
@@ -33,8 +32,9 @@ fn active_answer<'a>(
     adj_repair(alloc, version, &tests, link)
 }
 
-/// Appends what is done with a packet under the label of the link that is named.
-fn put_active_of(
+/// `adjrepair A B n`: appends what the router at the beginning of the link does with a packet under the link's adjacency
+/// label when the link fails. Whether the label is eligible is told by the facts, of which the version has the net.
+pub(crate) fn adjrepair(
     alloc: Global,
     facts: &Facts,
     current: &CurrentVersion,
@@ -51,9 +51,9 @@ fn put_active_of(
     Ok(())
 }
 
-/// Appends the other label that is announced for the link that is named with the flag B, and what is done with a packet
-/// under it.
-fn put_backup_of(
+/// `adjbackup A B n`: appends the label that is announced for the link with the flag B beside the net's, and what the
+/// router does with a packet under it when the link fails.
+pub(crate) fn adjbackup(
     alloc: Global,
     facts: &Facts,
     current: &CurrentVersion,
@@ -68,26 +68,4 @@ fn put_backup_of(
     let found = backup(alloc, facts, version, named)?;
     put_adjbackup(version.net(), named, &found, out)?;
     Ok(())
-}
-
-impl DomainSession {
-    ghost use Rattle.sr_script.specs.declared.command.Command.TheVariants.{AdjBackup, AdjRepair};
-    ghost use Rattle.sr_run.specs.Handlers.{CarriesOut};
-
-    /// `adjrepair A B n`: appends what the router at the beginning of the link does with a packet under the link's
-    /// adjacency label when the link fails. Whether the label is eligible is told by the accepted facts, of which the last
-    /// version has the net.
-    pub(crate) fn adjrepair(&self, name: &LinkName, out: &mut Vec<u8>) -> Result<(), Stop>
-        ensures { CarriesOut (AdjRepair name.now) self.now self.now out.old.items out.new.items result }
-    {
-        put_active_of(self.alloc, self.editor.accepted(), &self.current, name, out)
-    }
-
-    /// `adjbackup A B n`: appends the label that is announced for the link with the flag B beside the net's, and what the
-    /// router does with a packet under it when the link fails.
-    pub(crate) fn adjbackup(&self, name: &LinkName, out: &mut Vec<u8>) -> Result<(), Stop>
-        ensures { CarriesOut (AdjBackup name.now) self.now self.now out.old.items out.new.items result }
-    {
-        put_backup_of(self.alloc, self.editor.accepted(), &self.current, name, out)
-    }
 }

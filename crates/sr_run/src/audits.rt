@@ -1,4 +1,4 @@
-//! The audit of the last version: `audit` and `audit full`.
+//! The audit of a version: `audit` and `audit full`.
 ghost use Rattle.std.specs.Prelude.{◌≡◌, ◌++◌, true, is_some, OnOk};
 ghost use Rattle.sr_print.specs.Names.{AreNames};
 ghost use Rattle.sr_print.specs.Repairs.{summary_line};
@@ -99,7 +99,7 @@ fn write_counts<K: Sink>(
     }
 }
 
-/// Writes the audit of the last version, which there is: the answers of all cases, and how many there are of each sort.
+/// Writes the audit of the version, which there is: the answers of all cases, and how many there are of each sort.
 pub(crate) fn put_audit<K: Sink>(
     alloc: Global,
     current: &CurrentVersion,

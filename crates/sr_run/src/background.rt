@@ -1,6 +1,6 @@
 //! A script's session: the domain's session, the work that runs beside it, and the counter of searches. `hold`, `watch`,
-//! `join`, `commit` and `prove`.
-ghost use Rattle.std.specs.Prelude.{◌≡◌, ◌<◌, ◌≤◌, ◌++◌, ℕ, IfSome, MatchResult, OnOk};
+//! `join`, `commit`, `prove` and `try`.
+ghost use Rattle.std.specs.Prelude.{◌≡◌, ◌<◌, ◌≤◌, ◌++◌, ℕ, true, IfSome, MatchResult, OnOk};
 ghost use Rattle.std.specs.Arc.{arc_value};
 ghost use Rattle.sr_engine.specs.Replies.{AtEnd, Gives, ToHead};
 ghost use Rattle.sr_engine.specs.Written.{written};
@@ -13,13 +13,16 @@ ghost use Rattle.sr_run.specs.Background.{BeginsHold, BeginsWatch};
 ghost use Rattle.sr_run.specs.Edits.{Commits};
 ghost use Rattle.sr_run.specs.Session.{AsksProof};
 ghost use Rattle.sr_run.specs.State.{is_running, session_before};
-ghost use Rattle.sr_run.specs.Handlers.{Carries, GivesCommand, IsAsked, IsPublished, MayBegin, MayNotBegin, PutsJoined, RefusesLine, SessionAnswers, SessionEnds, SessionReplies, SessionTells};
+ghost use Rattle.sr_script.specs.Says.{is_question};
+ghost use Rattle.sr_run.specs.Tries.{Tries};
+ghost use Rattle.sr_run.specs.Handlers.{Carries, GivesCommand, GivesTold, IsAsked, IsPublished, MayBegin, MayNotBegin, PutsJoined, RefusesLine, SessionAnswers, SessionEnds, SessionReplies, SessionTells};
 
 use crate::audits::put_audit;
 use crate::certificates::prove;
 use crate::current::{CurrentVersion, has_audit};
 use crate::session::{DomainSession, Reply, accepted, refusal_of_fault, replied, write_refusal};
 use crate::stop::Stop;
+use crate::tries::Tried;
 use sr_base::{Runtime, Sink, SinkFault};
 use sr_engine::Answers;
 use sr_model::RoundReport;
@@ -293,6 +296,40 @@ impl<G: Gate, L: Ledger> ScriptSession<G, L> {
         }
     }
 
+    /// Puts a question to the version that a commit would publish, and writes the answer. Was it refused?
+    fn try_out<R: Runtime + 'static, K: Sink>(
+        &mut self,
+        rt: &R,
+        number: u32,
+        question: Command,
+        text: &mut Vec<u8>,
+        out: &mut Answers,
+        sink: &mut K,
+    ) -> Result<bool, SinkFault>
+        requires asked { IsAsked question }
+        requires question { is_question question ≡ true }
+        ensures { Gives (GivesTold (Tries question) number self.old)
+            (written (K.held sink.old) (K.faults sink.old) out.old)
+            (written (K.held sink.new) (K.faults sink.new) out.new) result self.new }
+    {
+        text.clear();
+        let tried = self
+            .domain
+            .try_question(rt, &mut self.steps, question, text);
+        match tried {
+            Ok(Tried::Text) => accepted(out.put(sink, text)),
+            Ok(Tried::Audit(version)) => accepted(put_audit(
+                self.domain.alloc(),
+                &version,
+                text,
+                out,
+                sink,
+            )),
+            Err(Stop::Refused(reason)) => write_refusal(number, &reason, text, out, sink),
+            Err(Stop::Memory(error)) => Err(SinkFault::Memory(error)),
+        }
+    }
+
     /// Refuses a line that says no command.
     fn refuse<K: Sink>(
         &mut self,
@@ -331,6 +368,7 @@ impl<G: Gate, L: Ledger> ScriptSession<G, L> {
         match read_line(self.domain.alloc(), line) {
             Ok(Line::Nothing) => Ok(false),
             Ok(Line::Word(command)) => self.carry_out(rt, number, command, text, out, sink),
+            Ok(Line::Try(question)) => self.try_out(rt, number, question, text, out, sink),
             Err(fault) => self.refuse(number, &fault, text, out, sink),
         }
     }

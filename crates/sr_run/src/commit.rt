@@ -23,7 +23,7 @@ use std::alloc::{AllocError, Global};
 use std::sync::ledger::Ledger;
 
 /// The most commits that a session accepts.
-const MOST_VERSIONS: u32 = 65_535;
+pub(crate) const MOST_VERSIONS: u32 = 65_535;
 
 /// The version of this net after the last one. The searches are counted whether it is made or memory runs out.
 fn version_after<L: Ledger>(
@@ -87,7 +87,7 @@ impl DomainSession {
 
     /// The version of the tentative facts, or the first rule that they break. Where nothing was staged, nothing is
     /// searched.
-    fn make_version<L: Ledger>(
+    pub(crate) fn make_version<L: Ledger>(
         &self,
         rt: &impl Runtime,
         steps: &mut Steps<L>,

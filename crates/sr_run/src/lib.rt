@@ -18,9 +18,11 @@ mod lines;
 mod loaded;
 mod names;
 mod program;
+mod questions;
 mod repaired;
 mod session;
 mod stop;
+mod tries;
 mod version;
 
 pub use program::{Ended, tilfa};

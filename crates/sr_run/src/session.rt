@@ -5,16 +5,9 @@ ghost use Rattle.sr_engine.specs.Written.{written};
 ghost use Rattle.sr_run.specs.Session.{IsRefusedAs, version_links, version_nodes};
 ghost use Rattle.sr_run.specs.Handlers.{IsNoRefusal, IsReply, WritesRefusal};
 
-use crate::account::nodes;
-use crate::audits::{audit_counts, begin_audit};
+use crate::audits::begin_audit;
 use crate::current::{CurrentVersion, last_number, last_version};
-use crate::distances::{dist, next};
 use crate::edits::LinkEdit;
-use crate::failures::{repair, spaces};
-use crate::forwarding::{label, walk_packet};
-use crate::insight::{audit_by, audit_labels, fails_node, repair_case};
-use crate::loaded::load;
-use crate::repaired::walk_repair;
 use crate::stop::Stop;
 use sr_base::{Runtime, Sink, SinkFault};
 use sr_cert::CertDraft;
@@ -136,7 +129,7 @@ impl DomainSession {
     ghost use Rattle.sr_script.specs.declared.command.Command.TheVariants.{Show};
     ghost use Rattle.sr_run.specs.Domain.{opening_domain};
     ghost use Rattle.sr_run.specs.State.{state_of};
-    ghost use Rattle.sr_run.specs.Handlers.{CarriesOut, IsAsked, IsOfDomain, IsOfText, IsPlain, IsUncertified, RepliesTo};
+    ghost use Rattle.sr_run.specs.Handlers.{CarriesOut, IsAsked, IsOfDomain, IsOfText, IsUncertified, RepliesTo};
 
     /// A session before its first line.
     pub(crate) fn new(alloc: Global) -> DomainSession
@@ -180,7 +173,7 @@ impl DomainSession {
         Ok(())
     }
 
-    /// Carries out a plain command, whose answer is appended.
+    /// Carries out an edit, `drop` or `show`, or puts a question to the last version.
     fn tell_plain(
         &mut self,
         rt: &impl Runtime,
@@ -188,12 +181,10 @@ impl DomainSession {
         out: &mut Vec<u8>,
     ) -> Result<(), Stop>
         requires asked { IsAsked command }
-        requires plain { IsPlain command }
+        requires plain { IsUncertified command }
         ensures told { CarriesOut command self.old self.new out.old.items out.new.items result }
         ensures current { self.new.current ≡ self.old.current }
     {
-        let alloc = self.alloc;
-        let current = &self.current;
         match command {
             Command::Lsp { octets } => self.lsp(octets.as_slice(), out),
             Command::Cost { link, metric } => self.edit_link(&link, LinkEdit::Cost(metric), out),
@@ -201,48 +192,8 @@ impl DomainSession {
             Command::Up { link } => self.edit_link(&link, LinkEdit::Up, out),
             Command::Depth { depth } => self.depth(depth, out),
             Command::DropStaged => self.drop_staged(out),
-            Command::Dist { ends } => dist(current, &ends, out),
-            Command::Next { ends } => next(current, &ends, out),
-            Command::Label { node, label: top } => label(current, node, top, out),
-            Command::Spaces { repair: name } => spaces(alloc, current, &name, out),
-            Command::Repair { repair: name } => repair(alloc, current, &name, out),
-            Command::AdjRepair { link } => self.adjrepair(&link, out),
-            Command::Walk { ends, choice } => walk_packet(alloc, current, &ends, choice, out),
-            Command::WalkRepair {
-                repair: name,
-                choice,
-            } => { walk_repair(alloc, current, &name, choice, out) }
-            Command::Load { workers, each } => load(rt, alloc, current, workers, each, out),
-            Command::Audit => audit_counts(current, out),
             Command::Show => self.show(out),
-            Command::AdjBackup { link } => self.adjbackup(&link, out),
-            _ => unreachable!(),
-        }
-    }
-
-    /// Carries out a command that asks where the net comes from, or of an audit as a whole, or a plain one.
-    fn tell_overview(
-        &mut self,
-        rt: &impl Runtime,
-        command: Command,
-        out: &mut Vec<u8>,
-    ) -> Result<(), Stop>
-        requires asked { IsAsked command }
-        requires uncertified { IsUncertified command }
-        ensures told { CarriesOut command self.old self.new out.old.items out.new.items result }
-        ensures current { self.new.current ≡ self.old.current }
-    {
-        let alloc = self.alloc;
-        let current = &self.current;
-        match command {
-            Command::Nodes => nodes(current, out),
-            Command::Links => self.links(out),
-            Command::Aside => self.aside(out),
-            Command::AuditBy { grouping } => audit_by(rt, alloc, current, grouping, out),
-            Command::AuditLabels => audit_labels(rt, alloc, current, out),
-            Command::RepairCase { kind, link } => repair_case(alloc, current, kind, &link, out),
-            Command::FailsNode { node } => fails_node(alloc, current, node, out),
-            other => self.tell_plain(rt, other, out),
+            other => self.ask_last(rt, other, out),
         }
     }
 
@@ -265,7 +216,7 @@ impl DomainSession {
             Command::ProofAdj { link } => self.proof_adj(&link, out),
             Command::ProofRow { cells } => self.proof_row(cells, out),
             Command::ProofDone { labels } => self.proof_done(labels, out),
-            other => self.tell_overview(rt, other, out),
+            other => self.tell_plain(rt, other, out),
         }
     }
 

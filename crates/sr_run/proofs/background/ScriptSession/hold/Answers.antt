@@ -1,8 +1,7 @@
-use Rattle.std.proofs.Common.{◌≡◌, refl, ap, ◌∙◌}
+use Rattle.std.proofs.Common.{refl, ap, ◌∙◌}
 use Rattle.std.specs.Arc.{arc_value}
 use Rattle.sr_repair.specs.Version.{NumberedNet}
 use Rattle.sr_print.specs.Told.Told.{Hold}
-use Rattle.sr_run.specs.State.{State, Session}
 use Rattle.sr_run.proofs.SessionLemmas.{session, hold-told}
 use Rattle.sr_run.proofs.background.ScriptSession.hold.Goals as goal
 

@@ -1,12 +1,10 @@
-use Rattle.std.proofs.Common.{◌≡◌, ℕ, ◌++◌, List, sym, ap, subst, ◌∙◌}
+use Rattle.std.proofs.Common.{◌≡◌, ◌++◌, List, sym, ap, subst, ◌∙◌}
 use Rattle.std.proofs.lemmas.Result.{on_ok_weaker}
 use Rattle.sr_model.specs.declared.audit.RoundReport.{RoundReport}
 use Rattle.sr_print.specs.Told.{spelled}
 use Rattle.sr_print.specs.Told.Told.{Joined}
-use Rattle.sr_store.specs.declared.usage.Usage.{Usage}
 use Rattle.sr_work.specs.Works.{AreReportsOf, usage_joined}
 use Rattle.sr_work.specs.declared.work.Work.{Work}
-use Rattle.sr_run.specs.State.{State, Session}
 use Rattle.sr_run.specs.Handlers.{PutsJoined}
 use Rattle.sr_run.proofs.SessionLemmas.{session, joined-puts}
 use Rattle.sr_run.proofs.background.ScriptSession.join.Goals as goal

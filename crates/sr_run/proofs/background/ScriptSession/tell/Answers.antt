@@ -2,7 +2,7 @@ use Rattle.std.proofs.Common.{Ok, sym, subst}
 use Rattle.sr_run.specs.declared.session.Reply.TheVariants.{Text}
 use Rattle.sr_run.specs.State.{Session}
 use Rattle.sr_script.specs.declared.command.Command.{Command}
-use Rattle.sr_script.specs.declared.command.Command.TheVariants.{Commit, Prove, Hold, Watch, Join}
+use Rattle.sr_script.specs.declared.command.Command.TheVariants.{Commit, Prove, Hold, Watch}
 use Rattle.sr_run.specs.Handlers.{SessionReplies}
 use Rattle.sr_run.proofs.SessionLemmas.{joined-told, kept-still, of-domain, replies-lifted, session, told-replies}
 use Rattle.sr_run.proofs.background.ScriptSession.tell.Goals as goal

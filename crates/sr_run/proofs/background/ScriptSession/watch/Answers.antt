@@ -1,10 +1,9 @@
-use Rattle.std.proofs.Common.{◌≡◌, refl, sym, ap, subst, ◌∙◌}
+use Rattle.std.proofs.Common.{refl, sym, ap, subst, ◌∙◌}
 use Rattle.std.specs.Arc.{arc_value}
 use Rattle.sr_repair.specs.Version.{NumberedNet}
 use Rattle.sr_print.specs.Told.Told.{Watch}
 use Rattle.sr_work.specs.Works.{StartsWatch}
 use Rattle.sr_work.specs.declared.work.Work.{Work}
-use Rattle.sr_run.specs.State.{State, Session}
 use Rattle.sr_run.proofs.SessionLemmas.{session, watch-told}
 use Rattle.sr_run.proofs.background.ScriptSession.watch.Goals as goal
 

@@ -1,1 +1,0 @@
-use Rattle.sr_run.proofs.session.DomainSession.tell.Goals as goal
