@@ -1,0 +1,98 @@
+#!/usr/bin/env python3
+"""Compares what questions are answered under `try` with what they are answered after the commit.
+
+usage: bench/tries.py PROGRAM SCRIPT..
+
+Before each `commit` of a script some of its questions are tried, and after it they are asked. Where the commit was
+accepted both answers have to be the same; where it was refused each question is to be refused as the commit was. A
+`show` line before each of them tells the answers apart. The status is 1 where something differs.
+"""
+
+import random
+import re
+import subprocess
+import sys
+
+ASKING = {"dist", "next", "label", "spaces", "repair", "adjrepair", "adjbackup", "walk", "load", "audit", "nodes",
+          "links", "aside", "fails"}
+ALWAYS = ["audit", "audit full", "audit labels", "audit by node", "nodes", "links", "aside"]
+MOST = 8
+
+
+def words(line):
+    return line.replace("\t", " ").rstrip("\r").split()
+
+
+def questions_of(lines):
+    """The questions of a script, each once, in order."""
+    asked = [" ".join(words(line)) for line in lines if words(line) and words(line)[0] in ASKING]
+    return list(dict.fromkeys(ALWAYS + [it for it in asked if len(words(it)) <= 7]))
+
+
+def tried(lines, seed):
+    """The script with questions round each commit, and how many there are round each."""
+    rng, questions, out, counts = random.Random(seed), questions_of(lines), [], []
+    for line in lines:
+        if words(line) != ["commit"]:
+            out.append(line)
+            continue
+        some = rng.sample(questions, min(MOST, len(questions)))
+        for question in some:
+            out += ["show", "try " + question]
+        out += ["show", "commit"]
+        for question in some:
+            out += ["show", question]
+        out.append("show")
+        counts.append(some)
+    return out, counts
+
+
+def plain(text):
+    """An answer without the number of its line."""
+    return re.sub(r"(?m)^refused \d+ ", "refused ", text)
+
+
+def answers_of(program, lines):
+    """What stands between the answers to `show`."""
+    script = "\n".join(lines) + "\n"
+    ran = subprocess.run([program, "run"], input=script.encode("latin-1"), stdout=subprocess.PIPE, check=False)
+    if ran.returncode not in (0, 1):
+        sys.exit(f"the program ended with status {ran.returncode}")
+    return re.split(r"(?m)^show version [^\n]*\n", ran.stdout.decode("latin-1"))
+
+
+def differences(program, lines, seed):
+    """The questions whose two answers differ."""
+    script, counts = tried([line for line in lines if words(line) != ["show"]], seed)
+    parts, at, found, compared = answers_of(program, script), 0, [], 0
+    for some in counts:
+        # what came before the first of them ends with the first `show`
+        before = parts[at + 1:at + 1 + len(some)]
+        commit = parts[at + 1 + len(some)]
+        after = parts[at + 2 + len(some):at + 2 + 2 * len(some)]
+        for question, one, other in zip(some, before, after):
+            wanted = other if commit.startswith("version ") else commit
+            compared += 1
+            if plain(one) != plain(wanted):
+                found.append((question, one, wanted))
+        at += 2 + 2 * len(some)
+    return found, compared
+
+
+def main():
+    program, paths = sys.argv[1], sys.argv[2:]
+    count = compared = 0
+    for seed, path in enumerate(paths):
+        with open(path, encoding="latin-1") as it:
+            lines = it.read().split("\n")
+        found, some = differences(program, lines, seed)
+        compared += some
+        for question, one, wanted in found:
+            count += 1
+            print(f"{path}: {question}\n  tried: {one[:300]!r}\n  asked: {wanted[:300]!r}")
+    print(f"{len(paths)} scripts, {compared} answers compared, {count} differ")
+    return 1 if count else 0
+
+
+if __name__ == "__main__":
+    sys.exit(main())
