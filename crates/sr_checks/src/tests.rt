@@ -19,6 +19,7 @@ mod loads;
 mod made;
 mod nodes;
 mod pairs;
+mod reasons;
 mod remains;
 mod rings;
 mod routers;
@@ -36,6 +37,7 @@ use groups::GROUPS;
 use loads::LOADS;
 use nodes::NODES;
 use pairs::PAIRS;
+use reasons::REASONS;
 use rings::RINGS;
 use sr_base::{Runtime, Sink, Source, SteadySink, SteadySource};
 use sr_run::{Ended, tilfa};
@@ -206,6 +208,14 @@ fn groups_are_answered(rt: HostRuntime) -> Result<(), AllocError> {
 #[test]
 fn tries_are_answered(rt: HostRuntime) -> Result<(), AllocError> {
     for case in &TRIES {
+        assert!(rt; agrees(&rt, case)?, "{}", case.name);
+    }
+    Ok(())
+}
+
+#[test]
+fn reasons_are_answered(rt: HostRuntime) -> Result<(), AllocError> {
+    for case in &REASONS {
         assert!(rt; agrees(&rt, case)?, "{}", case.name);
     }
     Ok(())

@@ -25,3 +25,8 @@ on_err (Err e) p = p
 pub on_ok : {T E : Type 0} (r : Result T E) (old new more : List ℕ) → new ≡ (if is_ok r then old ++ more else old) → OnOk r (new ≡ old ++ more)
 on_ok (Ok t) old new more e = e
 on_ok (Err e) old new more p = tt
+
+-- what follows from what holds on success
+pub ok_then : {T E P Q : Type 0} (r : Result T E) → (P → Q) → OnOk r P → OnOk r Q
+ok_then (Ok t) f p = f p
+ok_then (Err e) f p = tt

@@ -11,3 +11,4 @@ pub mod Routes
 pub mod Texts
 pub mod Walked
 pub mod Within
+pub mod WhyWithin

@@ -59,7 +59,7 @@ cost-most g (l ∷ ls) graph are =
     omega (arith, small, rest)
 
 -- segments that lead on are nodes and links of the graph
-leads-within : (n : Net) (x : List Bool) (u : ℕ) (segments : List Segment) (w c : ℕ) → Leads n x u segments w c → AreSegments n.graph segments
+pub leads-within : (n : Net) (x : List Bool) (u : ℕ) (segments : List Segment) (w c : ℕ) → Leads n x u segments w c → AreSegments n.graph segments
 leads-within n x u [] w c leads = All-nil (IsSegment n.graph)
 leads-within n x u (NodeSegment v ∷ rest) w c leads = All-cons (IsSegment n.graph) (NodeSegment v) rest leads.3 (leads-within n x v.0 rest w leads.1 leads.7)
 leads-within n x u (AdjSegment l ∷ rest) w c leads = All-cons (IsSegment n.graph) (AdjSegment l) rest leads.1 (leads-within n x (head n.graph l.0) rest w leads.0 leads.5)

@@ -12,4 +12,5 @@ pub mod Work
 pub mod Loads
 pub mod Account
 pub mod Insight
+pub mod Why
 pub mod Told

@@ -21,6 +21,7 @@ use Rattle.sr_insight.specs.declared.stack_count.StackCount.{StackCount}
 use Rattle.sr_cert.specs.declared.certificate.Certificate.{Certificate}
 use Rattle.sr_cert.specs.declared.clause.Verdict.{Verdict}
 use Rattle.sr_loads.specs.Loads.{LinkLoads}
+use Rattle.sr_why.specs.declared.reason.Reason.{Reason}
 use Rattle.sr_print.specs.declared.refusal.Refusal.{Refusal}
 use Rattle.sr_print.specs.Printed.{staged_line, dropped_line, version_line, dist_line, show_line}
 use Rattle.sr_print.specs.Forwarding.{next_line, label_line, walk_line}
@@ -31,6 +32,7 @@ use Rattle.sr_print.specs.Loads.{loads_text}
 use Rattle.sr_print.specs.Certificates.{certificate_lines, prove_uncovered_line, proof_line, verdict_line}
 use Rattle.sr_print.specs.Account.{nodes_text, links_text, asides_text}
 use Rattle.sr_print.specs.Insight.{coverage_lines, stack_lines, repairs_line}
+use Rattle.sr_print.specs.Why.{reason_line}
 use Rattle.sr_print.specs.Refused.{refused_line}
 use Rattle.sr_print.specs.Work.{hold_line, watch_line, report_lines, joined_line}
 
@@ -52,8 +54,8 @@ pub record Shown : Type 0 where
 -- the rounds of each, and the version that it began with; the reports of background work; what is shown; the other
 -- label of a link that may be protected, with what is done under it, where there is one; the nodes of a net; its links,
 -- with what is announced of each; what isn't used of the facts; how much of the audit of a version is covered, in groups;
--- how many labels its repairs push, with its counts; the answers of a case for all that it affects; or why the line is
--- refused
+-- how many labels its repairs push, with its counts; the answers of a case for all that it affects; why a case has no
+-- repair for a destination; or why the line is refused
 pub data Told : Type 0 where
   Nothing : Told
   Staged : ℕ → Told
@@ -85,6 +87,7 @@ pub data Told : Type 0 where
   Coverage : NumberedNet → Grouping → List Group → Counts → Told
   Stacks : ℕ → List StackCount → Counts → Told
   Repairs : Net → List Item → Told
+  Why : Net → Reason → Told
   Refused : Refusal → Told
 
 -- how it is spelled; the number of the line stands in a refusal alone
@@ -121,6 +124,7 @@ spelled number (Coverage version grouping groups counts) =
     coverage_lines version.net grouping groups ++ summary_line version.number counts
 spelled number (Stacks version stacks counts) = stack_lines stacks ++ summary_line version counts
 spelled number (Repairs net items) = item_lines net items ++ repairs_line (counts_of items)
+spelled number (Why net reason) = reason_line net reason
 spelled number (Refused reason) = refused_line number reason
 
 -- whether it is a refusal
@@ -155,4 +159,5 @@ is_refusal (Asides asides) = false
 is_refusal (Coverage version grouping groups counts) = false
 is_refusal (Stacks version stacks counts) = false
 is_refusal (Repairs net items) = false
+is_refusal (Why net reason) = false
 is_refusal (Refused reason) = true

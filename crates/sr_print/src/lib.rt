@@ -23,6 +23,7 @@ mod repair;
 mod spaces;
 mod walk;
 mod way;
+mod why;
 mod work;
 
 pub use account::{put_links, put_nodes};
@@ -41,4 +42,5 @@ pub use refused::put_refused;
 pub use repair::{put_repair, put_walk_uncovered};
 pub use spaces::put_spaces;
 pub use walk::put_walk;
+pub use why::put_reason;
 pub use work::{put_hold, put_joined, put_report, put_watch};

@@ -73,7 +73,7 @@ fn put_case_text(
 /// Appends `node:NODE` or `adj:LINK` as one more word. After an error a part of it may stand there;
 /// what stood before stays.
 #[tactic(auto, unfolding(crate::specs::Repairs::segment_word))]
-fn put_segment(net: &Net, segment: Segment, out: &mut Vec<u8>) -> Result<(), AllocError>
+pub(crate) fn put_segment(net: &Net, segment: Segment, out: &mut Vec<u8>) -> Result<(), AllocError>
     requires { IsSegment net.now.graph segment }
     ensures line { OnOk result (out.new.items ≡ out.old.items ++ segment_word net.now segment) }
     ensures err { OnErr result (BeginsWith out.old.items out.new.items) }
@@ -105,7 +105,11 @@ fn put_each_segment(net: &Net, segments: &[Segment], out: &mut Vec<u8>) -> Resul
 
 /// Appends ` segments SEGMENT SEGMENT ..`, or ` segments none` where there are none.
 /// After an error a part of it may stand there; what stood before stays.
-fn put_segments(net: &Net, segments: &[Segment], out: &mut Vec<u8>) -> Result<(), AllocError>
+pub(crate) fn put_segments(
+    net: &Net,
+    segments: &[Segment],
+    out: &mut Vec<u8>,
+) -> Result<(), AllocError>
     requires { AreSegments net.now.graph segments.now }
     ensures line { OnOk result (out.new.items ≡ out.old.items ++ segments_text net.now segments.now) }
     ensures err { OnErr result (BeginsWith out.old.items out.new.items) }

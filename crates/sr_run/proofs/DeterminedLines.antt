@@ -10,7 +10,7 @@ use Rattle.sr_lsdb.specs.Edit.Edit.{SetCost, TakeDown, BringUp, SetDepth}
 use Rattle.sr_script.specs.declared.name.LinkName.{LinkName}
 use Rattle.sr_script.specs.declared.name.RepairName.{RepairName}
 use Rattle.sr_script.specs.declared.command.Command.{Command}
-use Rattle.sr_script.specs.declared.command.Command.TheVariants.{Lsp, Cost, Down, Up, Depth, Commit, DropStaged, Prove, ProofOpen, ProofVia, ProofNode, ProofAdj, ProofRow, ProofDone, Hold, Watch, Join, Show}
+use Rattle.sr_script.specs.declared.command.Command.TheVariants.{Lsp, Cost, Down, Up, Depth, Commit, DropStaged, Prove, ProofOpen, ProofVia, ProofNode, ProofAdj, ProofRow, ProofDone, Hold, Watch, Join, Show, Why}
 use Rattle.sr_script.specs.declared.line.Line.{Line}
 use Rattle.sr_script.specs.declared.line.Line.TheVariants.{Nothing as NoWord, Word, Try}
 use Rattle.sr_script.specs.declared.line.LineFault.{LineFault}
@@ -27,15 +27,17 @@ use Rattle.sr_run.specs.Domain.{Domain, Background, last_version, with_draft, wi
 use Rattle.sr_run.specs.Domain.Background.{AtRest, OfHold, OfWatch}
 use Rattle.sr_run.specs.Edits.{Refuses, EditsNamed}
 use Rattle.sr_run.specs.Asked.{TellsQuestion}
+use Rattle.sr_run.specs.Reasons.{TellsReason}
 use Rattle.sr_run.specs.Certificates.{Drafting, DraftsOf, TellsProof, OpensDraft, KeepsLink, KeepsNode, KeepsRow, DecidesDraft}
 use Rattle.sr_run.specs.Tries.{Tries}
-use Rattle.sr_run.specs.Session.{TellsOf, Asks, AsksProof, WritesDraft, Tells, TellsLine, IsRefusedAs, after_question}
+use Rattle.sr_run.specs.Session.{TellsOf, Asks, AsksSearching, WritesDraft, Tells, TellsLine, IsRefusedAs, after_question}
 use Rattle.sr_run.specs.Background.{BeginsWork, JoinsWork, watch_from}
 use Rattle.sr_run.specs.Laws.{AreNets, JoinsMoved, LinesHaveOneAnswer}
 use Rattle.sr_script.proofs.LineLemmas.{one-thing, faults-agree, said-agrees}
 use Rattle.sr_run.proofs.DeterminedTold.{AreAlike, AreOne, alike, alike-refused, one-refused}
 use Rattle.sr_run.proofs.DeterminedEdits.{staged-one, announces-one, link-edited-one, dropped-one, commit-one}
 use Rattle.sr_run.proofs.DeterminedAsked.{question-alike, tries-one}
+use Rattle.sr_run.proofs.DeterminedReasons.{reason-alike}
 use Rattle.sr_run.proofs.DeterminedReports.{due-one, joins-unmoved}
 use Rattle.sr_run.proofs.DeterminedCertificates.{LeaveOne, proof-alike, still-one, opened-one, link-kept-one, node-kept-one, row-kept-one, decided-one}
 
@@ -84,10 +86,10 @@ module _ (old : Domain) (nets : AreNets old) (a b : Told) (new next : Domain) wh
   asked-one : (tells : NumberedNet → Told → Type 0) → ((version : NumberedNet) → IsNet version.net → tells version a → tells version b → AreAlike a b) → Asks tells old a new → Asks tells old b next → AreOne a b new next
   asked-one tells one p q = record { told = told-alike old.nets nets tells one p.0 q.0; state = p.1 ∙ sym q.1 }
 
-  -- a question for a certificate, which is counted unless it is refused
-  proof-asked-one : (repair : RepairName) → AsksProof repair old a new → AsksProof repair old b next → AreOne a b new next
-  proof-asked-one repair p q =
-      let told : AreAlike a b = told-alike old.nets nets (TellsProof repair) (λ version net. proof-alike version net a b repair) p.0 q.0 in
+  -- a question for which distances are searched for, which is counted unless it is refused
+  searching-one : (tells : NumberedNet → Told → Type 0) → ((version : NumberedNet) → IsNet version.net → tells version a → tells version b → AreAlike a b) → AsksSearching tells old a new → AsksSearching tells old b next → AreOne a b new next
+  searching-one tells one p q =
+      let told : AreAlike a b = told-alike old.nets nets tells one p.0 q.0 in
       record { told = told; state = p.1 ∙ ap (λ (refused : Bool). after_question refused old) told.refusal ∙ sym q.1 }
 
   -- a line of a certificate
@@ -143,7 +145,8 @@ module _ (old : Domain) (nets : AreNets old) (a b : Told) (new next : Domain) wh
   said-one line (Depth depth) says p q = has-one line (staged-one old a b new next (SetDepth depth) p q)
   said-one line Commit says p q = has-one line (commit-one old a b new next p q)
   said-one line DropStaged says p q = has-one line (dropped-one old a b new next p q)
-  said-one line (Prove repair) says p q = has-one line (proof-asked-one repair p q)
+  said-one line (Prove repair) says p q = has-one line (searching-one (TellsProof repair) (λ version net. proof-alike version net a b repair) p q)
+  said-one line (Why repair) says p q = has-one line (searching-one (TellsReason repair) (λ version net. reason-alike version net a b repair) p q)
   said-one line (ProofOpen repair) says p q = has-one line (drafted-one (OpensDraft repair) (λ version net x y. opened-one a b x y version net old.draft repair) p q)
   said-one line (ProofVia link) says p q = has-one line (drafted-one (KeepsLink Via link) (λ version net x y. link-kept-one a b x y version net old.draft Via link) p q)
   said-one line (ProofNode node) says p q = has-one line (drafted-one (KeepsNode node) (λ version net x y. node-kept-one a b x y version net old.draft node) p q)

@@ -17,7 +17,7 @@ use Rattle.sr_lsdb.specs.Staging.{Stages, StagesLsp}
 use Rattle.sr_domain.specs.Net.{IsNetOf}
 use Rattle.sr_domain.specs.Rules.{IsFirstBrokenRule}
 use Rattle.sr_script.specs.declared.command.Command.{Command}
-use Rattle.sr_script.specs.declared.command.Command.TheVariants.{AuditFull, Commit, Prove, Hold, Watch, Join}
+use Rattle.sr_script.specs.declared.command.Command.TheVariants.{AuditFull, Commit, Prove, Hold, Watch, Join, Why}
 use Rattle.sr_script.specs.declared.name.LinkName.{LinkName}
 use Rattle.sr_repair.specs.Version.{NumberedNet, version_of}
 use Rattle.sr_cert.specs.Draft.{CertDraft}
@@ -260,6 +260,7 @@ pub of-text : (command : Command) → IsOfDomain command → (command ≡ AuditF
 of-text AuditFull quiet other = other refl
 of-text Commit quiet other = quiet
 of-text (Prove repair) quiet other = quiet
+of-text (Why repair) quiet other = quiet
 of-text Hold quiet other = quiet
 of-text (Watch watchers rounds) quiet other = quiet
 of-text Join quiet other = quiet

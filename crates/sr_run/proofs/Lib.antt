@@ -28,6 +28,7 @@ pub mod DeterminedCertificates
 pub mod CertificateLemmas
 pub mod DeterminedEdits
 pub mod DeterminedAsked
+pub mod DeterminedReasons
 pub mod DeterminedReports
 pub mod DeterminedLines
 pub mod DeterminedScripts

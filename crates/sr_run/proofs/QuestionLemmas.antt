@@ -2,7 +2,7 @@
 use Rattle.std.proofs.Common.{◌≡◌, ℕ, true, List, refl}
 use Rattle.std.proofs.lemmas.Bool.{false≢true}
 use Rattle.sr_script.specs.declared.command.Command.{Command}
-use Rattle.sr_script.specs.declared.command.Command.TheVariants.{Lsp, Cost, Down, Up, Depth, Commit, DropStaged, Prove, ProofOpen, ProofVia, ProofNode, ProofAdj, ProofRow, ProofDone, AuditFull, Hold, Watch, Join, Show}
+use Rattle.sr_script.specs.declared.command.Command.TheVariants.{Lsp, Cost, Down, Up, Depth, Commit, DropStaged, Prove, ProofOpen, ProofVia, ProofNode, ProofAdj, ProofRow, ProofDone, AuditFull, Hold, Watch, Join, Show, Why}
 use Rattle.sr_script.specs.declared.name.LinkName.{LinkName}
 use Rattle.sr_script.specs.Says.{is_question}
 use Rattle.sr_print.specs.Told.{Told}
@@ -23,6 +23,7 @@ tells-asked (Depth depth) domain told next q a = absurd (false≢true q)
 tells-asked Commit domain told next q a = absurd (false≢true q)
 tells-asked DropStaged domain told next q a = absurd (false≢true q)
 tells-asked (Prove repair) domain told next q a = absurd (false≢true q)
+tells-asked (Why repair) domain told next q a = absurd (false≢true q)
 tells-asked (ProofOpen repair) domain told next q a = absurd (false≢true q)
 tells-asked (ProofVia link) domain told next q a = absurd (false≢true q)
 tells-asked (ProofNode node) domain told next q a = absurd (false≢true q)
@@ -57,6 +58,7 @@ is-question DropStaged u a b c d e f g = absurd (f refl)
 is-question Show u a b c d e f g = absurd (g refl)
 is-question Commit u a b c d e f g = absurd u
 is-question (Prove repair) u a b c d e f g = absurd u
+is-question (Why repair) u a b c d e f g = absurd u
 is-question (ProofOpen repair) u a b c d e f g = absurd u
 is-question (ProofVia link) u a b c d e f g = absurd u
 is-question (ProofNode node) u a b c d e f g = absurd u

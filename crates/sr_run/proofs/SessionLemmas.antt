@@ -9,7 +9,7 @@ use Rattle.sr_model.specs.Label.{Net}
 use Rattle.sr_repair.specs.Version.{NumberedNet, version_of}
 use Rattle.sr_script.specs.declared.name.RepairName.{RepairName}
 use Rattle.sr_script.specs.declared.command.Command.{Command}
-use Rattle.sr_script.specs.declared.command.Command.TheVariants.{Commit as CommitWord, Prove as ProveWord, Hold as HoldWord, Watch as WatchWord, Join as JoinWord}
+use Rattle.sr_script.specs.declared.command.Command.TheVariants.{Commit as CommitWord, Prove as ProveWord, Hold as HoldWord, Watch as WatchWord, Join as JoinWord, Why as WhyWord}
 use Rattle.sr_print.specs.declared.refusal.Refusal.{Refusal}
 use Rattle.sr_print.specs.Told.{Told, spelled, is_refusal}
 use Rattle.sr_print.specs.Told.Told.{Version, Hold, Watch, Joined, Refused}
@@ -35,10 +35,9 @@ use Rattle.sr_run.specs.Background.{BeginsHold, BeginsWatch, BeginsWork, AreDue,
 use Rattle.sr_run.specs.Edits.{Refuses, Commits}
 use Rattle.sr_run.specs.Usage.{Lent}
 use Rattle.sr_run.specs.Searches.{IsCommitWork, CountsCommitWork}
-use Rattle.sr_run.specs.Certificates.{TellsProof}
-use Rattle.sr_run.specs.Session.{AsksProof, Tells, TellsOf, after_question}
+use Rattle.sr_run.specs.Session.{AsksSearching, Tells, TellsOf, after_question}
 use Rattle.sr_run.specs.State.{State, Session, IsShown, IsWorkOf, ShowsWatches, CanReport, HasAudit, IsKeptWork, IsNextVersion, is_running, state_of, with_next_version}
-use Rattle.sr_run.specs.Handlers.{PutsTold, PutsJoined, Carries, Moves, RepliesTo, SessionReplies, SessionTells, StepsAs, SessionEnds, IsOfDomain, IsHindrance, IsNoRefusal, IsPublished, IsReply, MayBegin, CommitsVersion, CountsCommit, CountsProof}
+use Rattle.sr_run.specs.Handlers.{PutsTold, PutsJoined, Carries, Moves, RepliesTo, SessionReplies, SessionTells, StepsAs, SessionEnds, IsOfDomain, IsHindrance, IsNoRefusal, IsPublished, IsReply, MayBegin, CommitsVersion, CountsCommit, CountsQuestion}
 use Rattle.sr_run.proofs.StepLemmas.{Stays, quiet-stays, stays-itself}
 use Rattle.sr_run.proofs.SearchLemmas.{counts-still, counts-stays, counts-accepted, counts-asked}
 use Rattle.sr_run.proofs.VersionLemmas.{since-more, since-last, last-number}
@@ -82,15 +81,15 @@ replies-lifted command old new work usage searches before after (Ok Audit) quiet
 replies-lifted command old new work usage searches before after (Err (Refusing reason)) quiet can r = lifted command old new work usage searches (Refused reason) quiet can r
 replies-lifted command old new work usage searches before after (Err (Memory error)) quiet can r = tt
 
--- ---- `prove`
+-- ---- `prove` and `why`
 
-module _ (repair : RepairName) (state : State) (work : Work) (usage : Usage) (searches now : ℕ) (told : Told) (can : CanReport work) (is : TellsOf (TellsProof repair) state.current told) where
-  told-shown : (lent : Lent) (domain : Domain) → IsShown lent (session state work usage searches) domain → TellsOf (TellsProof repair) (last_version domain.nets) told
-  told-shown lent domain like = subst (λ (s : State). TellsOf (TellsProof repair) s.current told) (sym like.state) is
+module _ (tells : NumberedNet → Told → Type 0) (state : State) (work : Work) (usage : Usage) (searches now : ℕ) (told : Told) (can : CanReport work) (is : TellsOf tells state.current told) where
+  told-shown : (lent : Lent) (domain : Domain) → IsShown lent (session state work usage searches) domain → TellsOf tells (last_version domain.nets) told
+  told-shown lent domain like = subst (λ (s : State). TellsOf tells s.current told) (sym like.state) is
 
-  -- a certificate was asked for, for which at most one search was made
-  proof-answered : is_refusal told ≡ false → now ≤ searches + 1 → SessionTells (AsksProof repair) (session state work usage searches) (session state work usage now) told
-  proof-answered accepted more = record {
+  -- it is answered, for which at most one search was made
+  searching-answered : is_refusal told ≡ false → now ≤ searches + 1 → SessionTells (AsksSearching tells) (session state work usage searches) (session state work usage now) told
+  searching-answered accepted more = record {
     reports = can;
     steps = λ lent domain like. (
       with_asked domain,
@@ -99,9 +98,9 @@ module _ (repair : RepairName) (state : State) (work : Work) (usage : Usage) (se
     );
   }
 
-  -- or that was refused, and none was made
-  proof-refused : is_refusal told ≡ true → now ≡ searches → SessionTells (AsksProof repair) (session state work usage searches) (session state work usage now) told
-  proof-refused refused same = record {
+  -- or it is refused, and none was made
+  searching-refused : is_refusal told ≡ true → now ≡ searches → SessionTells (AsksSearching tells) (session state work usage searches) (session state work usage now) told
+  searching-refused refused same = record {
     reports = can;
     steps = λ lent domain like. (
       domain,
@@ -110,20 +109,20 @@ module _ (repair : RepairName) (state : State) (work : Work) (usage : Usage) (se
     );
   }
 
--- what was told to a question for a certificate
-pub proof-told : (repair : RepairName) (old : Session) (state : State) (work : Work) (usage : Usage) (searches now : ℕ) (before after : List ℕ) (result : Result (Unit {0}) Stop) → session state work usage searches ≡ old → CanReport work
-    → Carries (TellsOf (TellsProof repair) state.current) before after result → CountsProof searches now result → Carries (SessionTells (AsksProof repair) old (session state work usage now)) before after result
-proof-told repair old state work usage searches now before after (Ok done) same can c counts = record {
+-- what was told to a question for which distances are searched for
+pub searching-told : (tells : NumberedNet → Told → Type 0) (old : Session) (state : State) (work : Work) (usage : Usage) (searches now : ℕ) (before after : List ℕ) (result : Result (Unit {0}) Stop) → session state work usage searches ≡ old → CanReport work
+    → Carries (TellsOf tells state.current) before after result → CountsQuestion searches now result → Carries (SessionTells (AsksSearching tells) old (session state work usage now)) before after result
+searching-told tells old state work usage searches now before after (Ok done) same can c counts = record {
   told = c.told;
-  is = subst (λ (s : Session). SessionTells (AsksProof repair) s (session state work usage now) c.told) same
-      (proof-answered repair state work usage searches now c.told can c.is c.accepted counts.1);
+  is = subst (λ (s : Session). SessionTells (AsksSearching tells) s (session state work usage now) c.told) same
+      (searching-answered tells state work usage searches now c.told can c.is c.accepted counts.1);
   accepted = c.accepted;
   appended = c.appended;
 }
-proof-told repair old state work usage searches now before after (Err (Refusing reason)) same can c counts =
-    subst (λ (s : Session). SessionTells (AsksProof repair) s (session state work usage now) (Refused reason)) same
-    (proof-refused repair state work usage searches now (Refused reason) can c refl counts)
-proof-told repair old state work usage searches now before after (Err (Memory error)) same can c counts = tt
+searching-told tells old state work usage searches now before after (Err (Refusing reason)) same can c counts =
+    subst (λ (s : Session). SessionTells (AsksSearching tells) s (session state work usage now) (Refused reason)) same
+    (searching-refused tells state work usage searches now (Refused reason) can c refl counts)
+searching-told tells old state work usage searches now before after (Err (Memory error)) same can c counts = tt
 
 -- ---- `commit`
 
@@ -561,13 +560,14 @@ not-false true e = refl
 not-false false e = cc
 
 -- a command that is none of these leaves background work alone
-pub of-domain : (command : Command) → (command ≡ CommitWord → ⊥) → ((repair : RepairName) → command ≡ ProveWord repair → ⊥) → (command ≡ HoldWord → ⊥) → ((t : ℕ) → (r : ℕ) → command ≡ WatchWord t r → ⊥) → (command ≡ JoinWord → ⊥) → IsOfDomain command
-of-domain CommitWord a p b w j = a refl
-of-domain (ProveWord repair) a p b w j = p repair refl
-of-domain HoldWord a p b w j = b refl
-of-domain (WatchWord t r) a p b w j = w t r refl
-of-domain JoinWord a p b w j = j refl
-of-domain command a p b w j = tt
+pub of-domain : (command : Command) → (command ≡ CommitWord → ⊥) → ((repair : RepairName) → command ≡ ProveWord repair → ⊥) → ((repair : RepairName) → command ≡ WhyWord repair → ⊥) → (command ≡ HoldWord → ⊥) → ((t : ℕ) → (r : ℕ) → command ≡ WatchWord t r → ⊥) → (command ≡ JoinWord → ⊥) → IsOfDomain command
+of-domain CommitWord a p y b w j = a refl
+of-domain (ProveWord repair) a p y b w j = p repair refl
+of-domain (WhyWord repair) a p y b w j = y repair refl
+of-domain HoldWord a p y b w j = b refl
+of-domain (WatchWord t r) a p y b w j = w t r refl
+of-domain JoinWord a p y b w j = j refl
+of-domain command a p y b w j = tt
 
 -- the last version of a session that committed was published, or the work was given up
 pub kept-either : (here new : State) (current : Option NumberedNet) (work after_work : Work) (usage counted : Usage) (before after : List ℕ) (result : Result (Unit {0}) AllocError) → current ≡ new.current

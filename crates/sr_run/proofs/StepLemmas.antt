@@ -7,7 +7,7 @@ use Rattle.sr_lsdb.specs.Edit.{Edit}
 use Rattle.sr_lsdb.specs.Edit.Edit.{Announce, SetCost, TakeDown, BringUp, SetDepth}
 use Rattle.sr_script.specs.declared.name.LinkName.{LinkName}
 use Rattle.sr_script.specs.declared.command.Command.{Command}
-use Rattle.sr_script.specs.declared.command.Command.TheVariants.{Lsp, Cost, Down, Up, Depth, Commit, DropStaged, Prove, ProofOpen, ProofVia, ProofNode, ProofAdj, ProofRow, ProofDone, Hold, Watch, Join}
+use Rattle.sr_script.specs.declared.command.Command.TheVariants.{Lsp, Cost, Down, Up, Depth, Commit, DropStaged, Prove, ProofOpen, ProofVia, ProofNode, ProofAdj, ProofRow, ProofDone, Hold, Watch, Join, Why}
 use Rattle.sr_domain.specs.Net.{IsNetOf}
 use Rattle.sr_print.specs.Told.{Told, is_refusal}
 use Rattle.sr_print.specs.Told.Told.{Hold as HoldTold, Watch as WatchTold}
@@ -50,6 +50,7 @@ module _ (Q : Domain → Type 0) (staged : (domain : Domain) (edit : Edit) → Q
   quiet-keeps old Commit told new quiet t h = absurd quiet
   quiet-keeps old DropStaged told new quiet t h = subst Q (sym t.1) (dropped old h)
   quiet-keeps old (Prove repair) told new quiet t h = absurd quiet
+  quiet-keeps old (Why repair) told new quiet t h = absurd quiet
   quiet-keeps old (ProofOpen repair) told new quiet t h = subst Q (sym t.2) (drafted old t.0 h)
   quiet-keeps old (ProofVia link) told new quiet t h = subst Q (sym t.2) (drafted old t.0 h)
   quiet-keeps old (ProofNode node) told new quiet t h = subst Q (sym t.2) (drafted old t.0 h)
@@ -129,6 +130,7 @@ module _ (Q : Domain → Type 0) (kept : IsKept Q) where
   tells-keep old Commit told new t h = commit-keeps old told new t h
   tells-keep old DropStaged told new t h = quietly old DropStaged told new tt t h
   tells-keep old (Prove repair) told new t h = subst Q (sym t.1) (question-keeps (is_refusal told) old h)
+  tells-keep old (Why repair) told new t h = subst Q (sym t.1) (question-keeps (is_refusal told) old h)
   tells-keep old (ProofOpen repair) told new t h = quietly old (ProofOpen repair) told new tt t h
   tells-keep old (ProofVia link) told new t h = quietly old (ProofVia link) told new tt t h
   tells-keep old (ProofNode node) told new t h = quietly old (ProofNode node) told new tt t h

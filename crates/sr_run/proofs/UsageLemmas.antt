@@ -5,7 +5,7 @@ use Rattle.std.specs.List.{flat_map}
 use Rattle.sr_model.specs.Label.{Net}
 use Rattle.sr_repair.specs.Version.{NumberedNet}
 use Rattle.sr_script.specs.declared.command.Command.{Command}
-use Rattle.sr_script.specs.declared.command.Command.TheVariants.{Commit, Prove, Hold, Watch, Join}
+use Rattle.sr_script.specs.declared.command.Command.TheVariants.{Commit, Prove, Hold, Watch, Join, Why}
 use Rattle.sr_print.specs.Told.{Told, is_refusal}
 use Rattle.sr_print.specs.Told.Told.{Hold as HoldTold, Watch as WatchTold}
 use Rattle.sr_store.specs.declared.usage.Usage.{Usage}
@@ -83,7 +83,7 @@ watch-sums watchers rounds old told new (Some version) AtRest few short b =
 watch-sums watchers rounds old told new (Some version) (OfHold held) few short b = sums-same old new (ap (λ (d : Domain). d.totals) b.1)
 watch-sums watchers rounds old told new (Some version) (OfWatch watch) few short b = sums-same old new (ap (λ (d : Domain). d.totals) b.1)
 
--- a question for a certificate leaves the totals
+-- a question by `prove` or `why` leaves the totals
 question-totals : (refused : Bool) (old : Domain) → (after_question refused old).totals ≡ old.totals
 question-totals true old = refl
 question-totals false old = refl
@@ -95,6 +95,8 @@ tells-sums old Hold told new asked t = hold-sums old told new (last_version old.
 tells-sums old (Watch watchers rounds) told new asked t = watch-sums watchers rounds old told new (last_version old.nets) old.background asked.1 asked.2 t
 tells-sums old Join told new asked t = sums-same old new (ap (λ (d : Domain). d.totals) t.1.1)
 tells-sums old (Prove repair) told new asked t =
+    sums-same old new (ap (λ (d : Domain). d.totals) t.1 ∙ question-totals (is_refusal told) old)
+tells-sums old (Why repair) told new asked t =
     sums-same old new (ap (λ (d : Domain). d.totals) t.1 ∙ question-totals (is_refusal told) old)
 tells-sums old command told new asked t = sums-same old new (quiet-stays old command told new tt t).totals
 

@@ -32,7 +32,7 @@ pub record TriedNet : Type 0 where
 
 -- the accepted and the tentative facts with how many edits are staged; the nets of the accepted commits, the last one
 -- first; the certificate that is being written, where one is open; what runs in the background; what was asked of all
--- watches; how many certificates were asked for by `prove`; and the nets that were tried, the last one first
+-- watches; how many questions were asked by `prove` and `why`; and the nets that were tried, the last one first
 pub record Domain : Type 0 where
   pub editing : Editing
   pub nets : List Net
@@ -123,7 +123,7 @@ with_watch domain watch = record domain { background = OfWatch watch; totals = w
 abbrev pub with_joined : Domain → Domain
 with_joined domain = record domain { background = AtRest }
 
--- after a certificate was asked for
+-- after a question by `prove` or `why`
 abbrev pub with_asked : Domain → Domain
 with_asked domain = record domain { asked = domain.asked + 1 }
 

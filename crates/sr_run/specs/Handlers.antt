@@ -20,7 +20,7 @@ use Rattle.sr_script.specs.declared.name.RepairName.{RepairName}
 use Rattle.sr_script.specs.declared.command.Command.{Command}
 use Rattle.sr_model.specs.declared.link.TheConstants.{MOST_METRIC}
 use Rattle.sr_script.specs.declared.command.TheConstants.{MOST_DEPTH, MOST_WATCHERS, MOST_ROUNDS, MOST_WORKERS, MOST_EACH}
-use Rattle.sr_script.specs.declared.command.Command.TheVariants.{Cost, Depth, Load, Prove, ProofOpen, ProofVia, ProofNode, ProofAdj, ProofRow, ProofDone, Commit, AuditFull, Hold, Watch, Join}
+use Rattle.sr_script.specs.declared.command.Command.TheVariants.{Cost, Depth, Load, Prove, ProofOpen, ProofVia, ProofNode, ProofAdj, ProofRow, ProofDone, Commit, AuditFull, Hold, Watch, Join, Why}
 use Rattle.sr_script.specs.Says.{is_question}
 use Rattle.sr_print.specs.declared.refusal.Refusal.{Refusal}
 use Rattle.sr_print.specs.declared.refusal.Refusal.TheVariants as refusal
@@ -128,6 +128,7 @@ IsAsked _ = Unit {0}
 abbrev pub IsOfDomain : Command → Type 0
 IsOfDomain Commit = ⊥
 IsOfDomain (Prove repair) = ⊥
+IsOfDomain (Why repair) = ⊥
 IsOfDomain Hold = ⊥
 IsOfDomain (Watch watchers rounds) = ⊥
 IsOfDomain Join = ⊥
@@ -138,6 +139,7 @@ abbrev pub IsOfText : Command → Type 0
 IsOfText AuditFull = ⊥
 IsOfText Commit = ⊥
 IsOfText (Prove repair) = ⊥
+IsOfText (Why repair) = ⊥
 IsOfText Hold = ⊥
 IsOfText (Watch watchers rounds) = ⊥
 IsOfText Join = ⊥
@@ -320,12 +322,12 @@ CountsCommit old new before after (Ok done) =
 CountsCommit old new before after (Err (Refused reason)) = after ≡ before
 CountsCommit old new before after (Err (Memory error)) = before ≤ after
 
--- what it says of a question for a certificate: it grew by one at most, and not at all where the line was refused;
+-- what it says of a question by `prove` or `why`: it grew by one at most, and not at all where the line was refused;
 -- where memory ran out it didn't fall
-abbrev pub CountsProof : ℕ → ℕ → Result (Unit {0}) Stop → Type 0
-CountsProof before after (Ok done) = (before ≤ after) × (after ≤ before + 1)
-CountsProof before after (Err (Refused reason)) = after ≡ before
-CountsProof before after (Err (Memory error)) = before ≤ after
+abbrev pub CountsQuestion : ℕ → ℕ → Result (Unit {0}) Stop → Type 0
+CountsQuestion before after (Ok done) = (before ≤ after) × (after ≤ before + 1)
+CountsQuestion before after (Err (Refused reason)) = after ≡ before
+CountsQuestion before after (Err (Memory error)) = before ≤ after
 
 -- an answer that was written is no refusal, or there was the fault
 abbrev pub IsNoRefusal : Result (Unit {0}) SinkFault → Result Bool SinkFault → Type 0

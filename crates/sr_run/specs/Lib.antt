@@ -7,6 +7,7 @@ pub mod Failures
 pub mod Certificates
 pub mod Account
 pub mod Insight
+pub mod Reasons
 pub mod Asked
 pub mod Tries
 pub mod Session

@@ -29,7 +29,7 @@ IsWithinTries (tried ∷ earlier) count =
     × IsWithinTries earlier earlier_count
 
 -- the counter grew by no more than what the accepted commits and the questions that were tried may search for, and one
--- search for each certificate that was asked for
+-- search for each question by `prove` or `why`
 pub record CountsSearches (domain : Domain) (before after : ℕ) : Type 0 where
   pub commits : ℕ
   pub within : IsWithinCommits domain.nets commits

@@ -5,7 +5,7 @@ use Rattle.sr_model.specs.Graph.{node_count, link_count}
 use Rattle.sr_lsdb.specs.Edit.Edit.{SetCost, TakeDown, BringUp, SetDepth}
 use Rattle.sr_script.specs.declared.name.RepairName.{RepairName}
 use Rattle.sr_script.specs.declared.command.Command.{Command}
-use Rattle.sr_script.specs.declared.command.Command.TheVariants.{Lsp, Cost, Down, Up, Depth, Commit, DropStaged, Prove, ProofOpen, ProofVia, ProofNode, ProofAdj, ProofRow, ProofDone, Hold, Watch, Join, Show}
+use Rattle.sr_script.specs.declared.command.Command.TheVariants.{Lsp, Cost, Down, Up, Depth, Commit, DropStaged, Prove, ProofOpen, ProofVia, ProofNode, ProofAdj, ProofRow, ProofDone, Hold, Watch, Join, Show, Why}
 use Rattle.sr_script.specs.declared.line.Line.TheVariants.{Nothing as NoWord, Word, Try}
 use Rattle.sr_script.specs.declared.line.LineFault.{LineFault}
 use Rattle.sr_script.specs.declared.line.LineFault.TheVariants as fault
@@ -22,6 +22,7 @@ use Rattle.sr_run.specs.Domain.{Domain, last_version, number_of, with_draft, wit
 use Rattle.sr_run.specs.Edits.{Refuses, Announces, EditsLink, StagesEdit, DropsStaged, Commits}
 use Rattle.sr_run.specs.Background.{BeginsHold, BeginsWatch, JoinsWork, EndsWork}
 use Rattle.sr_run.specs.Asked.{TellsQuestion}
+use Rattle.sr_run.specs.Reasons.{TellsReason}
 use Rattle.sr_run.specs.Tries.{Tries}
 use Rattle.sr_run.specs.Certificates.{Drafting, DraftsOf, TellsProof, OpensDraft, KeepsLink, KeepsNode, KeepsRow, DecidesDraft}
 
@@ -34,15 +35,15 @@ TellsOf tells (Some version) told = tells version told
 abbrev pub Asks : (NumberedNet → Told → Type 0) → Domain → Told → Domain → Type 0
 Asks tells old told new = TellsOf tells (last_version old.nets) told × (new ≡ old)
 
--- after a question for a certificate: where it is refused nothing changes
+-- after such a question: where it is refused nothing changes
 abbrev pub after_question : Bool → Domain → Domain
 after_question true old = old
 after_question false old = with_asked old
 
--- `prove`: a question about the last version, which is counted
-abbrev pub AsksProof : RepairName → Domain → Told → Domain → Type 0
-AsksProof repair old told new =
-    TellsOf (TellsProof repair) (last_version old.nets) told × (new ≡ after_question (is_refusal told) old)
+-- a question about the last version for which distances are searched for, which is counted
+abbrev pub AsksSearching : (NumberedNet → Told → Type 0) → Domain → Told → Domain → Type 0
+AsksSearching tells old told new =
+    TellsOf tells (last_version old.nets) told × (new ≡ after_question (is_refusal told) old)
 
 -- a line of a certificate about the last version, which changes the open certificate alone
 abbrev pub WritesDraft : (NumberedNet → Drafting) → Domain → Told → Domain → Type 0
@@ -84,7 +85,8 @@ Tells old (Up link) told new = EditsLink (λ key. BringUp (pair_of key)) link ol
 Tells old (Depth depth) told new = StagesEdit (SetDepth depth) old told new
 Tells old Commit told new = Commits old told new
 Tells old DropStaged told new = DropsStaged old told new
-Tells old (Prove repair) told new = AsksProof repair old told new
+Tells old (Prove repair) told new = AsksSearching (TellsProof repair) old told new
+Tells old (Why repair) told new = AsksSearching (TellsReason repair) old told new
 Tells old (ProofOpen repair) told new = WritesDraft (OpensDraft repair) old told new
 Tells old (ProofVia link) told new = WritesDraft (KeepsLink Via link) old told new
 Tells old (ProofNode node) told new = WritesDraft (KeepsNode node) old told new

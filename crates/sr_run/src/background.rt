@@ -1,5 +1,5 @@
 //! A script's session: the domain's session, the work that runs beside it, and the counter of searches. `hold`, `watch`,
-//! `join`, `commit`, `prove` and `try`.
+//! `join`, `commit`, `prove`, `why` and `try`.
 ghost use Rattle.std.specs.Prelude.{◌≡◌, ◌<◌, ◌≤◌, ◌++◌, ℕ, true, IfSome, MatchResult, OnOk};
 ghost use Rattle.std.specs.Arc.{arc_value};
 ghost use Rattle.sr_engine.specs.Replies.{AtEnd, Gives, ToHead};
@@ -11,7 +11,9 @@ ghost use Rattle.sr_script.specs.declared.command.TheConstants.{MOST_ROUNDS, MOS
 ghost use Rattle.sr_work.specs.Works.{MayFollow};
 ghost use Rattle.sr_run.specs.Background.{BeginsHold, BeginsWatch};
 ghost use Rattle.sr_run.specs.Edits.{Commits};
-ghost use Rattle.sr_run.specs.Session.{AsksProof};
+ghost use Rattle.sr_run.specs.Certificates.{TellsProof};
+ghost use Rattle.sr_run.specs.Reasons.{TellsReason};
+ghost use Rattle.sr_run.specs.Session.{AsksSearching};
 ghost use Rattle.sr_run.specs.State.{is_running, session_before};
 ghost use Rattle.sr_script.specs.Says.{is_question};
 ghost use Rattle.sr_run.specs.Tries.{Tries};
@@ -20,6 +22,7 @@ ghost use Rattle.sr_run.specs.Handlers.{Carries, GivesCommand, GivesTold, IsAske
 use crate::audits::put_audit;
 use crate::certificates::prove;
 use crate::current::{CurrentVersion, has_audit};
+use crate::reasons::reason;
 use crate::session::{DomainSession, Reply, accepted, refusal_of_fault, replied, write_refusal};
 use crate::stop::Stop;
 use crate::tries::Tried;
@@ -227,10 +230,24 @@ impl<G: Gate, L: Ledger> ScriptSession<G, L> {
 
     /// `prove KIND A B n D`: appends the certificate, or why there is none.
     fn prove(&mut self, repair: &RepairName, out: &mut Vec<u8>) -> Result<(), Stop>
-        ensures { Carries (SessionTells (AsksProof repair.now) self.old self.new)
+        ensures { Carries (SessionTells (AsksSearching (TellsProof repair.now)) self.old self.new)
             out.old.items out.new.items result }
     {
         prove(
+            self.domain.alloc(),
+            self.domain.current(),
+            repair,
+            &mut self.steps,
+            out,
+        )
+    }
+
+    /// `why KIND A B n D`: appends why there is no repair, or that there is one.
+    fn why(&mut self, repair: &RepairName, out: &mut Vec<u8>) -> Result<(), Stop>
+        ensures { Carries (SessionTells (AsksSearching (TellsReason repair.now)) self.old self.new)
+            out.old.items out.new.items result }
+    {
+        reason(
             self.domain.alloc(),
             self.domain.current(),
             repair,
@@ -260,6 +277,7 @@ impl<G: Gate, L: Ledger> ScriptSession<G, L> {
             },
             Command::Commit => replied(self.commit(rt, out)),
             Command::Prove { repair } => replied(self.prove(&repair, out)),
+            Command::Why { repair } => replied(self.why(&repair, out)),
             other => self.domain.tell(rt, other, out),
         }
     }

@@ -5,7 +5,7 @@ ghost use Rattle.sr_cert.specs.Draft.{IsDraftWithin};
 ghost use Rattle.sr_run.specs.Session.{TellsOf};
 ghost use Rattle.sr_run.specs.State.{IsDraftOf};
 ghost use Rattle.sr_run.specs.Certificates.{DecidesDraft, DraftsOf, IsDecided, KeepsLine, KeepsLink, KeepsNode, KeepsRow, OpensDraft, TellsProof};
-ghost use Rattle.sr_run.specs.Handlers.{Carries, CountsProof, MayGrowBy};
+ghost use Rattle.sr_run.specs.Handlers.{Carries, CountsQuestion, MayGrowBy};
 
 use crate::current::{CurrentVersion, last_version};
 use crate::names::{answer_of, find_affected, find_failure, find_link, find_node};
@@ -31,7 +31,7 @@ pub(crate) fn prove<L: Ledger>(
     out: &mut Vec<u8>,
 ) -> Result<(), Stop>
     ensures told { Carries (TellsOf (TellsProof repair.now) current.now) out.old.items out.new.items result }
-    ensures searches { CountsProof steps.old steps.new result }
+    ensures searches { CountsQuestion steps.old steps.new result }
 {
     let version = found!(last_version(current));
     let failure = found!(find_affected(version, repair));

@@ -19,6 +19,7 @@ mod loaded;
 mod names;
 mod program;
 mod questions;
+mod reasons;
 mod repaired;
 mod session;
 mod stop;

@@ -15,7 +15,7 @@ use Rattle.sr_script.specs.declared.name.EndNames.{EndNames}
 use Rattle.sr_script.specs.declared.name.LinkName.{LinkName}
 use Rattle.sr_script.specs.declared.name.RepairName.{RepairName}
 use Rattle.sr_script.specs.declared.command.Command.{Command}
-use Rattle.sr_script.specs.declared.command.Command.TheVariants.{Lsp, Cost, Down, Up, Depth, Commit, DropStaged, Dist, Next, Label, Spaces, Repair, AdjRepair, AdjBackup, Walk, WalkRepair, Load, Prove, ProofOpen, ProofVia, ProofNode, ProofAdj, ProofRow, ProofDone, Audit, AuditFull, AuditBy, AuditLabels, Hold, Watch, Join, Show, Nodes, Links, Aside, RepairCase, FailsNode}
+use Rattle.sr_script.specs.declared.command.Command.TheVariants.{Lsp, Cost, Down, Up, Depth, Commit, DropStaged, Dist, Next, Label, Spaces, Repair, AdjRepair, AdjBackup, Walk, WalkRepair, Load, Prove, ProofOpen, ProofVia, ProofNode, ProofAdj, ProofRow, ProofDone, Audit, AuditFull, AuditBy, AuditLabels, Hold, Watch, Join, Show, Nodes, Links, Aside, RepairCase, FailsNode, Why}
 
 -- the word for a kind of failure
 abbrev pub kind_word : Kind → List ℕ
@@ -110,6 +110,7 @@ form (AuditBy grouping) = (codes "audit", Itself (codes "by") ∷ Itself (groupi
 form AuditLabels = (codes "audit", Itself (codes "labels") ∷ [])
 form (RepairCase kind link) = (codes "repair", Failure kind ∷ link_arguments link)
 form (FailsNode node) = (codes "fails", Itself (codes "node") ∷ System node ∷ [])
+form (Why repair) = (codes "why", repair_arguments repair)
 
 -- the word with which a command begins
 abbrev pub first_word : Command → List ℕ

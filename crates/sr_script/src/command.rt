@@ -118,6 +118,8 @@ pub enum Command {
     RepairCase { kind: Kind, link: LinkName },
     /// `fails node F`: asks for the repairs on which packets stay when a node fails.
     FailsNode { node: SystemId },
+    /// `why KIND A B n D`: asks why a failure has no repair for a destination.
+    Why { repair: RepairName },
 }
 
 impl Command {

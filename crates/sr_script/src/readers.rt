@@ -73,6 +73,7 @@ pub(crate) fn read_command(words: &Words<'_>) -> Result<Command, LineFault>
         b"links" => read_lone(words, Command::Links),
         b"aside" => read_lone(words, Command::Aside),
         b"fails" => read_fails(words),
+        b"why" => read_why(words),
     }
     Err(LineFault::UnknownWord)
 }
@@ -263,6 +264,18 @@ fn read_prove(words: &Words<'_>) -> Option<Command>
     }
     let repair = repair_argument(words, 1)?;
     Some(Command::Prove { repair })
+}
+
+/// `why KIND A B n D`
+fn read_why(words: &Words<'_>) -> Option<Command>
+    requires { word_at words.now 0 ≡ codes "why" }
+    ensures { IsCommandOf words.now result }
+{
+    if words.len() != 6 {
+        return None;
+    }
+    let repair = repair_argument(words, 1)?;
+    Some(Command::Why { repair })
 }
 
 /// `audit by GROUPING`
