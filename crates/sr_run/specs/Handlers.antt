@@ -391,8 +391,8 @@ abbrev pub TriesNone : State → ℕ → ℕ → Stop → Type 0
 TriesNone state counted count (Refused reason) = RefusesTry state reason × (count ≡ counted)
 TriesNone state counted count (Memory error) = Unit {0}
 
--- what is told to a question that is tried, and how far the counter of searches went: it is refused, or the version that
--- was made tells it
+-- what is told to a question that is tried, and how far the counter of searches went: it is refused, or the version
+-- that was made tells it
 abbrev pub TriesFrom : Command → State → ℕ → ℕ → Told → Type 0
 TriesFrom question state counted count told =
     ((reason : Refusal) × RefusesTry state reason × (told ≡ RefusedTold reason) × (count ≡ counted))

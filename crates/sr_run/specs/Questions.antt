@@ -64,7 +64,7 @@ abbrev pub TellsWalk : EndNames → ℕ → NumberedNet → Told → Type 0
 TellsWalk ends choice version told = OfEnds (IsRefused told) version.net.graph ends (λ from to.
     TellsWalkTo version.net ends.to from to choice told)
 
--- `load`: how often each link is crossed by so many packets from each node to each other
+-- `load`: how often each link is crossed by that many packets from each node to each other
 abbrev pub TellsLoads : ℕ → NumberedNet → Told → Type 0
 TellsLoads each version told =
     (loads : LinkLoads) × IsLoads version.net each loads × (told ≡ Loads version.net loads)

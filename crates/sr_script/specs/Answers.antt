@@ -62,7 +62,7 @@ IsHexFault text BadHex = IsErr (decode_of text)
 IsHexFault text (Memory error) = Unit {0}
 IsHexFault text _ = ⊥
 
--- the words, which give these values or none, don't give a list of at most so many values; or memory ran out
+-- the words, which give these values or none, don't give a list of at most that many values; or memory ran out
 abbrev pub IsListFault : {T : Type 0} → List (Option T) → ℕ → LineFault → Type 0
 IsListFault {T} given most BadForm = (values : List T) → given ≡ map Some values → most < length values
 IsListFault given most (Memory error) = Unit {0}

@@ -41,7 +41,7 @@ impl Listed for u32 {
     }
 }
 
-/// The values that the words of the text give, of which there are at most so many.
+/// The values that the words of the text give, of which there are at most that many.
 pub(crate) fn read_list<T: Listed + Drop>(
     alloc: Global,
     text: &[u8],

@@ -14,7 +14,7 @@ use Rattle.sr_why.proofs.PushLemmas.{each-more}
 abbrev pub IsFound : List ℕ → ℕ → ℕ → Type 0
 IsFound cells s v = (v ≢ s) × (slice_index cells v < FAR)
 
--- so many of the nodes below m are found
+-- that many of the nodes below m are found
 pub record IsCountBelow (cells : List ℕ) (s m count : ℕ) : Type 0 where
   pub tests : List Bool
   pub long : length tests ≡ m

@@ -23,7 +23,7 @@ pub record AreReached (g : Graph) (x : List Bool) (s : ℕ) (tests : List Bool) 
   pub each : (v : ℕ) → v < node_count g
       → (slice_index_or tests v false ≡ true) ↔ ((v ≢ s) × ((p : List ℕ) × IsWalk g x s p v))
 
--- so many nodes but s are still reached without the failed links
+-- that many nodes but s are still reached without the failed links
 abbrev pub IsReachedCount : Graph → List Bool → ℕ → ℕ → Type 0
 IsReachedCount g x s count =
     (tests : List Bool) × AreReached g x s tests × (count ≡ count_by (λ (test : Bool). test) tests)

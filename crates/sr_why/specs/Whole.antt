@@ -8,11 +8,11 @@ use Rattle.sr_model.specs.Rule.{node_at}
 use Rattle.sr_model.specs.Case.{key_at}
 use Rattle.sr_why.specs.Labelled.{most_imposed}
 
--- a label for each of so many nodes, from the first that isn't reserved on (RFC 3032, 2.1)
+-- a label for each of that many nodes, from the first that isn't reserved on (RFC 3032, 2.1)
 abbrev pub whole_range : ℕ → Range
 whole_range count = record { first = 16; size = count }
 
--- what node v of so many announces: such a range, its number as its index, and the most labels to impose
+-- what node v of that many announces: such a range, its number as its index, and the most labels to impose
 abbrev pub whole_labels : ℕ → ℕ → Labels
 whole_labels count v = record {
   srgb = whole_range count ∷ [];
@@ -22,12 +22,12 @@ whole_labels count v = record {
   imposes = Some most_imposed;
 }
 
--- the first m of so many nodes announce that
+-- the first m of that many nodes announce that
 pub record AreWholeNodes (count m : ℕ) (nodes : List Labels) : Type 0 where
   pub long : length nodes ≡ m
   pub each : (v : ℕ) → v < m → node_at nodes v ≡ whole_labels count v
 
--- the first m links have labels of their own, behind those of so many nodes
+-- the first m links have labels of their own, behind those of that many nodes
 pub record AreWholeLinks (count m : ℕ) (adj : List (Option ℕ)) : Type 0 where
   pub long : length adj ≡ m
   pub each : (l : ℕ) → l < m → slice_index_or adj l None ≡ Some (16 + count + l)

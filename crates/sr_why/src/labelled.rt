@@ -13,7 +13,7 @@ pub(crate) const MOST_IMPOSED: u8 = 255;
 /// The first label that isn't reserved (RFC 3032, 2.1).
 const FIRST_FREE: u32 = 16;
 
-/// The SRGB that has a label for each of so many nodes.
+/// The SRGB that has a label for each of that many nodes.
 fn whole_srgb(alloc: Global, count: u32) -> Result<Srgb, AllocError>
     requires some { 0 < count }
     requires few { count ≤ 256 }
@@ -27,7 +27,7 @@ fn whole_srgb(alloc: Global, count: u32) -> Result<Srgb, AllocError>
     Ok(Srgb::new(ranges).unwrap())
 }
 
-/// What so many nodes announce: each has its number as its index, and imposes the most labels.
+/// What that many nodes announce: each has its number as its index, and imposes the most labels.
 fn whole_nodes(alloc: Global, count: u32) -> Result<Vec<NodeLabels>, AllocError>
     requires { count ≤ 256 }
     ensures { IfOk result (λ nodes. AreWholeNodes count count nodes.items) }
@@ -40,7 +40,7 @@ fn whole_nodes(alloc: Global, count: u32) -> Result<Vec<NodeLabels>, AllocError>
     Ok(nodes)
 }
 
-/// The labels of so many links, behind those of the nodes.
+/// The labels of that many links, behind those of the nodes.
 fn whole_links(alloc: Global, nodes: u32, links: u32) -> Result<Vec<Option<u32>>, AllocError>
     requires nodes { nodes ≤ 256 }
     requires links { links ≤ 2048 }

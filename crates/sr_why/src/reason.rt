@@ -23,7 +23,7 @@ use std::sync::ledger::Ledger;
 pub enum Reason {
     /// There is a repair.
     Covered,
-    /// The failure leaves no way to the destination; so many other nodes but the source are still reached.
+    /// The failure leaves no way to the destination; that many other nodes but the source are still reached.
     NoPath { reached: u32 },
     /// A way is left, but no list is sound. This one would be the least if each node had an index and each link a label.
     NoList(WholeList),

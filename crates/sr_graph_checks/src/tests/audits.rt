@@ -5,7 +5,7 @@ use super::fixtures::{Line, RING_WITH_LEAF, graph_of, net_with, version_of};
 use sr_audit::{Counts, audit, counts};
 use std::test::Fail;
 
-/// A net whose nodes have indices from this number on, and whose lists have at most so many
+/// A net whose nodes have indices from this number on, and whose lists have at most that many
 /// segments; and how many answers of its audit are of each sort.
 struct Told {
     name: &'static str,

@@ -243,7 +243,7 @@ fn no_labels(alloc: Global, count: usize) -> Result<Vec<Option<u32>>, AllocError
     vec![in alloc; None; count]
 }
 
-/// The net of the graph, with no adjacency label, where a list may have so many segments. Each node
+/// The net of the graph, with no adjacency label, where a list may have that many segments. Each node
 /// from this number on has one more than its number as its index, the others have none.
 pub fn net_with(alloc: Global, graph: Graph, first: u32, depth: u8) -> Result<Net, Fail>
     requires { depth ≤ 12 }

@@ -84,7 +84,7 @@ fn groups_have_their_counts(rt: HostRuntime) -> Result<(), Fail> {
     Ok(())
 }
 
-/// How many repairs of a kind push so many labels.
+/// How many repairs of a kind push that many labels.
 const PUSHED: [StackCount; 5] = [
     StackCount {
         kind: Kind::Link,

@@ -187,7 +187,7 @@ fn other_lines_are_no_commands(rt: HostRuntime) {
     }
 }
 
-/// A line that ends with so many times the same word of one letter.
+/// A line that ends with that many times the same word of one letter.
 fn repeated(alloc: Global, begin: &str, letter: u8, count: usize) -> Result<Vec<u8>, AllocError> {
     let mut line = Vec::new(alloc);
     line.extend_from_slice(begin.as_bytes())?;
