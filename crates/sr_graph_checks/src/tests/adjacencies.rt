@@ -1,6 +1,7 @@
 //! A ring of four nodes whose link from node 1 to node 2 has two adjacency labels.
 ghost use Rattle.std.specs.Prelude.{IfOk};
 ghost use Rattle.sr_domain.specs.Net.{IsNetOf};
+ghost use Rattle.sr_lsdb.specs.Facts.{AreInRange};
 ghost use Rattle.sr_lsp.specs.InRange.{FitsLsp};
 
 use super::fixtures::version_of;
@@ -122,6 +123,7 @@ fn is_by_node_4(found: &BackupLabel<'_>) -> bool {
 
 /// The net of the facts. In order of key its first two links are 1>2 and 1>4.
 fn ring_net(alloc: Global, facts: &Facts) -> Result<Net, Fail>
+    requires { AreInRange facts.now }
     ensures { IfOk result (IsNetOf facts.now) }
 {
     Ok(net_of(alloc, facts)?)
@@ -158,7 +160,9 @@ fn is_told(
     alloc: Global,
     facts: &Facts,
     told: Option<bool>,
-) -> Result<bool, Fail> {
+) -> Result<bool, Fail>
+    requires { AreInRange facts.now }
+{
     let net = ring_net(alloc, facts)?;
     Ok(is_labelled(&net) && is_repaired(rt, alloc, facts, net)? == told)
 }
