@@ -79,7 +79,7 @@ links-one P from to a b x y =
     (sym x.begins ∙ same.0 ∙ y.begins, sym x.ends ∙ same.1 ∙ y.ends)
 
 -- a rule is broken in one way
-broken-one : (facts : Facts) (a b : DomainRule) → rank a ≡ rank b → IsRuleBroken facts a → IsRuleBroken facts b → a ≡ b
+pub broken-one : (facts : Facts) (a b : DomainRule) → rank a ≡ rank b → IsRuleBroken facts a → IsRuleBroken facts b → a ≡ b
 broken-one facts (NoSrgb v) (NoSrgb w) e x y = ap NoSrgb (node-one (nodes_of facts) (LacksSrgb facts) v w x y)
 broken-one facts (SrgbBad v) (SrgbBad w) e x y = ap SrgbBad (node-one (nodes_of facts) (HasBadSrgb facts) v w x y)
 broken-one facts (DuplicateIndex i low high) (DuplicateIndex j a b) e x y =
@@ -104,7 +104,7 @@ broken-one facts (TooManyLinks m) (TooManyLinks n) e x y = ap TooManyLinks (x.1 
 broken-one facts a b e x y = absurd (omega arith)
 
 -- a rule that is kept isn't broken
-broken-not_kept : (facts : Facts) (rule : DomainRule) → IsRuleBroken facts rule → Keeps facts rule → ⊥
+pub broken-not_kept : (facts : Facts) (rule : DomainRule) → IsRuleBroken facts rule → Keeps facts rule → ⊥
 broken-not_kept facts (NoSrgb v) x keeps = keeps v x.among x.holds
 broken-not_kept facts (SrgbBad v) x keeps = keeps v x.among x.holds
 broken-not_kept facts (DuplicateIndex i low high) x keeps = keeps i x.low_place x.high_place x.least.duplicate
@@ -115,7 +115,7 @@ broken-not_kept facts (DuplicateLink from to) x keeps = keeps x.key x.is.holds
 broken-not_kept facts (TooManyNodes n) x keeps = let many : 256 < n = x.0 in let is : n ≡ length (nodes_of facts) = x.1 in omega arith
 broken-not_kept facts (TooManyLinks n) x keeps = let many : 2048 < n = x.0 in let is : n ≡ length (links_of facts) = x.1 in omega arith
 
-rank-below : (rule : DomainRule) → rank rule < 9
+pub rank-below : (rule : DomainRule) → rank rule < 9
 rank-below (NoSrgb v) = omega arith
 rank-below (SrgbBad v) = omega arith
 rank-below (DuplicateIndex i low high) = omega arith

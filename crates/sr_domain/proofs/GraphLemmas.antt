@@ -53,7 +53,7 @@ rises-graph g named grouped = rises-from_far (drafted g.links g.groups) (λ i j 
 rises-drafts : (drafts : List DraftLink) → AreSorted drafts → NoneTwice drafts → Rises drafts
 rises-drafts drafts sorted once = rises-from_far drafts (λ i j d lt within. far-below key_total key_of drafts (ascend-from_once drafts sorted once).at i j d lt within)
 
-sorted-map : (m : PairKey → List ℕ) (links : List FoundLink) → IsSortedByKey link_key key_cmp links → AreSorted (map (draft_link m) links)
+pub sorted-map : (m : PairKey → List ℕ) (links : List FoundLink) → IsSortedByKey link_key key_cmp links → AreSorted (map (draft_link m) links)
 sorted-map m links sorted k d low high =
     let next : k + 1 < length links = omega (arith, length-map links (draft_link m)) in
     rw (get_or-map (draft_link m) links (k + 1) no_found d next, get_or-map (draft_link m) links k no_found d (omega arith)) (sorted k no_found low next)

@@ -7,7 +7,7 @@ use Rattle.sr_lsdb.specs.declared.facts.Facts.{Facts}
 use Rattle.sr_domain.specs.Rules.{Keeps, AreKept, rank}
 
 -- a rule is kept whatever it names
-keeps-same : (facts : Facts) (a b : DomainRule) → rank a ≡ rank b → Keeps facts a → Keeps facts b
+pub keeps-same : (facts : Facts) (a b : DomainRule) → rank a ≡ rank b → Keeps facts a → Keeps facts b
 keeps-same facts (NoSrgb v) (NoSrgb w) e keeps = keeps
 keeps-same facts (SrgbBad v) (SrgbBad w) e keeps = keeps
 keeps-same facts (DuplicateIndex i low high) (DuplicateIndex j a b) e keeps = keeps

@@ -58,7 +58,7 @@ srgb-some_by : (o : Option (List Range)) (ranges : List Range) → (o ≡ None �
 srgb-some_by None ranges not e = absurd (not refl)
 srgb-some_by (Some other) ranges not e = ap Some (sym e)
 
-not-srgb : (ranges : List Range) (fault : SrgbBad) → IsSrgbRefusal ranges fault → IsSrgb ranges → ⊥
+pub not-srgb : (ranges : List Range) (fault : SrgbBad) → IsSrgbRefusal ranges fault → IsSrgb ranges → ⊥
 not-srgb ranges (Bad k) refused good = ⊎_elim
     (λ empty. let some : 0 < length ranges = good.some in let none : length ranges ≡ 0 = ap length empty.0 in omega arith)
     (λ bad. bad.2 (good.each k bad.0))

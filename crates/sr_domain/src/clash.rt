@@ -44,7 +44,7 @@ fn place_near(nodes: &[SystemId], near: usize, node: SystemId) -> usize
 }
 
 /// The adjacency labels of the links, each with the place of its node.
-fn adj_labels(
+pub fn adj_labels(
     alloc: Global,
     nodes: &[SystemId],
     links: &[FoundLink],

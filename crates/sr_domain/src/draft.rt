@@ -22,7 +22,7 @@ use std::alloc::{AllocError, Global};
 use std::cmp::Ordering;
 
 /// Sorts the links by key.
-pub(crate) fn sort_links(links: &mut [FoundLink])
+pub fn sort_links(links: &mut [FoundLink])
     ensures same { IsPermutation links.old links.new }
     ensures ascending { IsSortedByKey link_key key_cmp links.new }
 {

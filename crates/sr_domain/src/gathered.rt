@@ -13,7 +13,7 @@ use std::alloc::{AllocError, Global};
 
 /// The announcements of present nodes, those that both ends make, the present nodes, and the links with repeats.
 #[derive(Drop)]
-pub(crate) struct Gathered {
+pub struct Gathered {
     pub announced: Vec<Announcement>,
     pub two_way: Vec<Announcement>,
     pub nodes: Vec<SystemId>,
@@ -21,7 +21,7 @@ pub(crate) struct Gathered {
 }
 
 /// What there is to gather of the facts.
-pub(crate) fn gather_facts(alloc: Global, facts: &Facts) -> Result<Gathered, AllocError>
+pub fn gather_facts(alloc: Global, facts: &Facts) -> Result<Gathered, AllocError>
     requires { AreInRange facts.now }
     ensures { IfOk result (AreGathered facts.now) }
 {

@@ -21,12 +21,15 @@ mod two_way;
 pub use announced::{
     Announcement, adj_sid_label, announced_by, announcements, is_present, least_label,
 };
+pub use clash::adj_labels;
+pub use draft::sort_links;
 pub use fault::DomainFault;
+pub use gathered::{Gathered, gather_facts};
 pub use laws::{
     adjacency_labels_are_the_least, nets_are_determined, node_sids_are_the_first_least,
 };
 pub use links::{FoundLink, effective_metric, link_by};
 pub use net::net_of;
-pub use nodes::{NodeSid, first_imposition, node_sid_by};
+pub use nodes::{NodeSid, first_imposition, node_sid, node_sid_by, srgb_of};
 pub use risks::{RiskName, numbered_name, unnumbered_name};
 pub use two_way::{holds, keys_of};

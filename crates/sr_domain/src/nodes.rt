@@ -81,7 +81,7 @@ fn own_ids(node: SystemId) -> (LspId, LspId)
 }
 
 /// A copy of the label ranges of the node.
-pub(crate) fn srgb_of(
+pub fn srgb_of(
     alloc: Global,
     facts: &Facts,
     node: SystemId,
@@ -177,7 +177,7 @@ fn least_of_parts(parts: &[Part]) -> Option<NodeSid>
 }
 
 /// The index of the node.
-pub(crate) fn node_sid(facts: &Facts, node: SystemId) -> Option<NodeSid>
+pub fn node_sid(facts: &Facts, node: SystemId) -> Option<NodeSid>
     ensures { result ≡ node_sid_of facts.now node }
 {
     let (first, past) = own_ids(node);
