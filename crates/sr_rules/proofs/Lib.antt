@@ -1,0 +1,8 @@
+pub mod BrokenLemmas
+pub mod SrgbLemmas
+pub mod NodesLemmas
+pub mod DuplicateLemmas
+pub mod OutsideLemmas
+pub mod OrderedLabels
+pub mod ClashLemmas
+pub mod LinksLemmas

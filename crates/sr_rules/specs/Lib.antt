@@ -1,0 +1,4 @@
+pub mod Broken
+pub mod Survey
+pub mod Indices
+pub mod Laws
