@@ -1,0 +1,9 @@
+pub mod ThoseLemmas
+pub mod NameLemmas
+pub mod FoundLemmas
+pub mod DeterminedLemmas
+pub mod AddUpLemmas
+pub mod SegmentLemmas
+pub mod ListLemmas
+pub mod ThereLemmas
+pub mod CompareLemmas

@@ -1,0 +1,4 @@
+pub mod Named
+pub mod Diff
+pub mod Matched
+pub mod Laws
