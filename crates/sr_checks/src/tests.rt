@@ -9,6 +9,7 @@ mod calls;
 mod cases;
 mod certificates;
 mod devices;
+mod differences;
 mod domains;
 mod edits;
 mod field;
@@ -31,6 +32,7 @@ use active::ACTIVE;
 use audits::AUDITS;
 use cases::{CASES, Case};
 use certificates::CERTIFICATES;
+use differences::DIFFERENCES;
 use edits::EDITS;
 use field::FIELD;
 use groups::GROUPS;
@@ -208,6 +210,14 @@ fn groups_are_answered(rt: HostRuntime) -> Result<(), AllocError> {
 #[test]
 fn tries_are_answered(rt: HostRuntime) -> Result<(), AllocError> {
     for case in &TRIES {
+        assert!(rt; agrees(&rt, case)?, "{}", case.name);
+    }
+    Ok(())
+}
+
+#[test]
+fn differences_are_answered(rt: HostRuntime) -> Result<(), AllocError> {
+    for case in &DIFFERENCES {
         assert!(rt; agrees(&rt, case)?, "{}", case.name);
     }
     Ok(())

@@ -12,3 +12,4 @@ pub mod Texts
 pub mod Walked
 pub mod Within
 pub mod WhyWithin
+pub mod DiffWithin

@@ -3,8 +3,8 @@ use Rattle.std.proofs.Common.{ℕ, Bool, List, subst}
 use Rattle.sr_model.specs.declared.case.Case.{Case}
 use Rattle.sr_model.specs.Graph.{Graph, head}
 use Rattle.sr_model.specs.Label.{Net}
-use Rattle.sr_why.specs.declared.reason.Reason.{Reason}
-use Rattle.sr_why.specs.declared.reason.Reason.TheVariants.{Covered, NoPath, NoList, TooDeep}
+use Rattle.sr_why.specs.declared.reason.Cause.{Cause}
+use Rattle.sr_why.specs.declared.reason.Cause.TheVariants.{Covered, NoPath, NoList, TooDeep}
 use Rattle.sr_why.specs.declared.whole.WholeList.{WholeList}
 use Rattle.sr_why.specs.Reasons.{IsLeastList, IsReason}
 use Rattle.sr_print.specs.Why.{IsReasonWithin, IsWholeWithin}
@@ -16,7 +16,7 @@ whole-within n x s d list is =
     (sound.within, leads-within n x (head n.graph list.first.0) list.segments sound.last sound.middle sound.leads)
 
 -- those of the reason of a case
-pub reason-within : (n : Net) (case : Case) (d : ℕ) (reason : Reason) → IsReason n case d reason → IsReasonWithin n.graph reason
+pub reason-within : (n : Net) (case : Case) (d : ℕ) (reason : Cause) → IsReason n case d reason → IsReasonWithin n.graph reason
 reason-within n case d Covered is = tt
 reason-within n case d (NoPath reached) is = tt
 reason-within n case d (NoList list) is =

@@ -8,6 +8,7 @@ pub mod Repairs
 pub mod Answers
 pub mod Adjacencies
 pub mod Certificates
+pub mod Differences
 pub mod Work
 pub mod Loads
 pub mod Account

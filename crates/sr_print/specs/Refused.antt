@@ -1,10 +1,11 @@
 -- Why a line is refused, as text.
-use Rattle.std.specs.Prelude.{ℕ, List, [], ◌++◌, codes, decimal}
+use Rattle.std.specs.Prelude.{ℕ, List, [], ◌++◌, length, codes, decimal}
+use Rattle.std.specs.List.{flat_map}
 use Rattle.sr_print.specs.declared.refusal.Refusal.{Refusal}
-use Rattle.sr_print.specs.declared.refusal.Refusal.TheVariants.{UnknownWord, BadForm, BadHex, Malformed, Stale, StagedFull, Rule, Overload, NoNode, NoLink, NoDestination, NotAffected, NoVersion, WatchRunning, LineTooLong, VersionsFull, NoProof, ProofFull}
+use Rattle.sr_print.specs.declared.refusal.Refusal.TheVariants.{UnknownWord, BadForm, BadHex, Malformed, Stale, StagedFull, Rule, Overload, NoNode, NoLink, NoDestination, NotAffected, NoVersion, WatchRunning, LineTooLong, VersionsFull, NoProof, ProofFull, NoSuchVersion}
 use Rattle.sr_model.specs.declared.rule.DomainRule.{DomainRule}
 use Rattle.sr_model.specs.declared.rule.DomainRule.TheVariants.{NoSrgb, SrgbBad, DuplicateIndex, IndexOutside, AdjLabelClash, ZeroMetric, DuplicateLink, TooManyNodes, TooManyLinks}
-use Rattle.sr_print.specs.Printed.{ended, node_word, word}
+use Rattle.sr_print.specs.Printed.{ended, node_word, numbered, word}
 
 -- the number and the name of a broken rule
 abbrev pub rule_name : DomainRule → List ℕ
@@ -38,6 +39,7 @@ refusal_name LineTooLong = codes "27 LineTooLong"
 refusal_name VersionsFull = codes "28 VersionsFull"
 refusal_name NoProof = codes "30 NoProof"
 refusal_name ProofFull = codes "31 ProofFull"
+refusal_name (NoSuchVersion version) = codes "32 NoSuchVersion"
 
 -- what a broken rule names: numbers in decimal digits, and nodes by their system ids
 abbrev pub rule_details : DomainRule → List ℕ
@@ -71,6 +73,15 @@ details LineTooLong = []
 details VersionsFull = []
 details NoProof = []
 details ProofFull = []
+details (NoSuchVersion version) = word (decimal version)
+
+-- a broken rule, as a commit would be refused for it
+unfoldable pub broken_line : DomainRule → List ℕ
+broken_line rule = ended (codes "broken " ++ rule_name rule ++ rule_details rule)
+
+-- broken rules in their order, and how many they are
+abbrev pub check_lines : List DomainRule → List ℕ
+check_lines rules = flat_map broken_line rules ++ ended (numbered (codes "check broken ") (length rules))
 
 -- the line of this number is refused
 abbrev pub refused_line : ℕ → Refusal → List ℕ

@@ -3,6 +3,7 @@ use Rattle.std.specs.Prelude.{ℕ, Bool, true, false, List, [], ◌++◌, Option
 use Rattle.sr_model.specs.declared.link.LinkNo.{LinkNo}
 use Rattle.sr_model.specs.declared.entry.Entry.{Entry}
 use Rattle.sr_model.specs.declared.case.Case.{Case}
+use Rattle.sr_model.specs.declared.rule.DomainRule.{DomainRule}
 use Rattle.sr_model.specs.declared.repair.Answer.{Answer}
 use Rattle.sr_model.specs.declared.audit.Item.{Item}
 use Rattle.sr_model.specs.declared.audit.Counts.{Counts}
@@ -21,7 +22,8 @@ use Rattle.sr_insight.specs.declared.stack_count.StackCount.{StackCount}
 use Rattle.sr_cert.specs.declared.certificate.Certificate.{Certificate}
 use Rattle.sr_cert.specs.declared.clause.Verdict.{Verdict}
 use Rattle.sr_loads.specs.Loads.{LinkLoads}
-use Rattle.sr_why.specs.declared.reason.Reason.{Reason}
+use Rattle.sr_why.specs.declared.reason.Cause.{Cause}
+use Rattle.sr_diff.specs.declared.differences.Diff.{Diff as Differences}
 use Rattle.sr_print.specs.declared.refusal.Refusal.{Refusal}
 use Rattle.sr_print.specs.Printed.{staged_line, dropped_line, version_line, dist_line, show_line}
 use Rattle.sr_print.specs.Forwarding.{next_line, label_line, walk_line}
@@ -33,7 +35,8 @@ use Rattle.sr_print.specs.Certificates.{certificate_lines, prove_uncovered_line,
 use Rattle.sr_print.specs.Account.{nodes_text, links_text, asides_text}
 use Rattle.sr_print.specs.Insight.{coverage_lines, stack_lines, repairs_line}
 use Rattle.sr_print.specs.Why.{reason_line}
-use Rattle.sr_print.specs.Refused.{refused_line}
+use Rattle.sr_print.specs.Differences.{diff_lines}
+use Rattle.sr_print.specs.Refused.{check_lines, refused_line}
 use Rattle.sr_print.specs.Work.{hold_line, watch_line, report_lines, joined_line}
 
 -- what is shown of a session: the number of its last version, how many nodes and links that has, the accepted depth,
@@ -53,9 +56,10 @@ pub record Shown : Type 0 where
 -- how many answers of each sort the audit of a version has; that audit; the version of a hold; the watchers of a watch,
 -- the rounds of each, and the version that it began with; the reports of background work; what is shown; the other
 -- label of a link that may be protected, with what is done under it, where there is one; the nodes of a net; its links,
--- with what is announced of each; what isn't used of the facts; how much of the audit of a version is covered, in groups;
--- how many labels its repairs push, with its counts; the answers of a case for all that it affects; why a case has no
--- repair for a destination; or why the line is refused
+-- with what is announced of each; what isn't used of the facts; how much of the audit of a version is covered, in
+-- groups; how many labels its repairs push, with its counts; the answers of a case for all that it affects; why a case
+-- has no repair for a destination; what differs between the repairs of a version and those of a net; all rules that are
+-- broken; or why the line is refused
 pub data Told : Type 0 where
   Nothing : Told
   Staged : ℕ → Told
@@ -87,7 +91,9 @@ pub data Told : Type 0 where
   Coverage : NumberedNet → Grouping → List Group → Counts → Told
   Stacks : ℕ → List StackCount → Counts → Told
   Repairs : Net → List Item → Told
-  Why : Net → Reason → Told
+  Why : Net → Cause → Told
+  Diff : NumberedNet → Net → Differences → Told
+  Check : List DomainRule → Told
   Refused : Refusal → Told
 
 -- how it is spelled; the number of the line stands in a refusal alone
@@ -125,6 +131,8 @@ spelled number (Coverage version grouping groups counts) =
 spelled number (Stacks version stacks counts) = stack_lines stacks ++ summary_line version counts
 spelled number (Repairs net items) = item_lines net items ++ repairs_line (counts_of items)
 spelled number (Why net reason) = reason_line net reason
+spelled number (Diff version net differences) = diff_lines version net differences
+spelled number (Check rules) = check_lines rules
 spelled number (Refused reason) = refused_line number reason
 
 -- whether it is a refusal
@@ -160,4 +168,6 @@ is_refusal (Coverage version grouping groups counts) = false
 is_refusal (Stacks version stacks counts) = false
 is_refusal (Repairs net items) = false
 is_refusal (Why net reason) = false
+is_refusal (Diff version net differences) = false
+is_refusal (Check rules) = false
 is_refusal (Refused reason) = true

@@ -5,8 +5,8 @@ use Rattle.sr_model.specs.declared.repair.Segment.{Segment}
 use Rattle.sr_model.specs.declared.repair.Segment.TheVariants.{Node, Adj}
 use Rattle.sr_model.specs.Graph.{Graph, link_count}
 use Rattle.sr_model.specs.Label.{Net, labels_at, adj_at}
-use Rattle.sr_why.specs.declared.reason.Reason.{Reason}
-use Rattle.sr_why.specs.declared.reason.Reason.TheVariants.{Covered, NoPath, NoList, TooDeep}
+use Rattle.sr_why.specs.declared.reason.Cause.{Cause}
+use Rattle.sr_why.specs.declared.reason.Cause.TheVariants.{Covered, NoPath, NoList, TooDeep}
 use Rattle.sr_why.specs.declared.whole.WholeList.{WholeList}
 use Rattle.sr_print.specs.Links.{link_word}
 use Rattle.sr_print.specs.Printed.{ended, numbered}
@@ -31,14 +31,14 @@ abbrev pub lacks_text : Net → List Segment → List ℕ
 lacks_text n segments = codes " lacks" ++ flat_map (lacking_word n) segments
 
 -- the reason, as far as it stands in the line
-abbrev pub reason_text : Net → Reason → List ℕ
+abbrev pub reason_text : Net → Cause → List ℕ
 reason_text n Covered = codes "why covered"
 reason_text n (NoPath reached) = numbered (codes "why nopath reached ") reached
 reason_text n (NoList list) = codes "why nolist" ++ whole_text n list ++ lacks_text n list.segments
 reason_text n (TooDeep list) = numbered (codes "why toodeep ") (length list.segments) ++ whole_text n list
 
 -- why a case has no repair for a destination, or that it has one
-abbrev pub reason_line : Net → Reason → List ℕ
+abbrev pub reason_line : Net → Cause → List ℕ
 reason_line n reason = ended (reason_text n reason)
 
 -- the link and the nodes of the list are those of the graph
@@ -46,7 +46,7 @@ abbrev pub IsWholeWithin : Graph → WholeList → Type 0
 IsWholeWithin g list = (list.first.0 < link_count g) × AreSegments g list.segments
 
 -- so are those of the reason
-abbrev pub IsReasonWithin : Graph → Reason → Type 0
+abbrev pub IsReasonWithin : Graph → Cause → Type 0
 IsReasonWithin g Covered = Unit {0}
 IsReasonWithin g (NoPath reached) = Unit {0}
 IsReasonWithin g (NoList list) = IsWholeWithin g list

@@ -61,4 +61,8 @@ pub enum Refusal {
     NoProof,
     /// As many lines of a certificate are kept as may be.
     ProofFull,
+    /// The version is none of the last two.
+    NoSuchVersion {
+        version: u32,
+    },
 }

@@ -1,8 +1,10 @@
 //! The line of a refusal.
 ghost use Rattle.std.specs.Prelude.{◌≡◌, ◌++◌, decimal, OnOk, OnErr};
+ghost use Rattle.std.specs.List.{flat_map};
 ghost use Rattle.sr_print.specs.Printed.{BeginsWith, node_word, word};
-ghost use Rattle.sr_print.specs.Refused.{rule_name, refusal_name, rule_details, details, refused_line};
+ghost use Rattle.sr_print.specs.Refused.{broken_line, check_lines, details, refusal_name, refused_line, rule_details, rule_name};
 
+use crate::line::{end, put_numbered};
 use crate::number::{put_node, put_number, put_value};
 use crate::refusal::Refusal;
 use sr_model::{DomainRule, SystemId};
@@ -63,6 +65,7 @@ fn name_of(refusal: &Refusal) -> &'static [u8]
         Refusal::VersionsFull => b"28 VersionsFull",
         Refusal::NoProof => b"30 NoProof",
         Refusal::ProofFull => b"31 ProofFull",
+        Refusal::NoSuchVersion { .. } => b"32 NoSuchVersion",
     }
 }
 
@@ -89,6 +92,42 @@ fn put_rule_details(rule: &DomainRule, out: &mut Vec<u8>) -> Result<(), AllocErr
     }
 }
 
+/// Appends `broken CODE NAME DETAILS`: the rule is broken. After an error a part of the line may stand there; what stood
+/// before stays.
+#[tactic(auto, unfolding(crate::specs::Refused::broken_line))]
+fn put_broken(rule: &DomainRule, out: &mut Vec<u8>) -> Result<(), AllocError>
+    ensures line { OnOk result (out.new.items ≡ out.old.items ++ broken_line rule.now) }
+    ensures err { OnErr result (BeginsWith out.old.items out.new.items) }
+{
+    out.extend_from_slice(b"broken ")?;
+    out.extend_from_slice(rule_name(rule))?;
+    put_rule_details(rule, out)?;
+    end(out)
+}
+
+/// Appends a line for each of these. After an error a part of the lines may stand there; what stood before stays.
+fn put_each_broken(rules: &[DomainRule], out: &mut Vec<u8>) -> Result<(), AllocError>
+    ensures line { OnOk result (out.new.items ≡ out.old.items ++ flat_map broken_line rules.now) }
+    ensures err { OnErr result (BeginsWith out.old.items out.new.items) }
+{
+    for rule in rules {
+        put_broken(rule, out)?;
+    }
+    Ok(())
+}
+
+/// Appends `broken CODE NAME DETAILS` for each of these rules, in their order, with the code, the name and the details by
+/// which a commit is refused; and `check broken K`, how many they are.
+/// After an error a part of the lines may stand there; what stood before stays.
+pub fn put_check(rules: &[DomainRule], out: &mut Vec<u8>) -> Result<(), AllocError>
+    ensures line { OnOk result (out.new.items ≡ out.old.items ++ check_lines rules.now) }
+    ensures err { OnErr result (BeginsWith out.old.items out.new.items) }
+{
+    put_each_broken(rules, out)?;
+    put_numbered(b"check broken ", rules.len() as u64, out)?;
+    end(out)
+}
+
 /// Appends what the refusal names. After an error a part of it may stand there;
 /// what stood before stays.
 fn put_details(refusal: &Refusal, out: &mut Vec<u8>) -> Result<(), AllocError>
@@ -101,6 +140,7 @@ fn put_details(refusal: &Refusal, out: &mut Vec<u8>) -> Result<(), AllocError>
             put_values(u64::from(*stored), u64::from(*given), out)
         }
         Refusal::Rule(rule) => put_rule_details(rule, out),
+        Refusal::NoSuchVersion { version } => put_value(u64::from(*version), out),
         Refusal::NoLink { from, to, n } => {
             put_nodes(*from, *to, out)?;
             put_value(u64::from(*n), out)

@@ -10,7 +10,7 @@ use crate::link::put_link;
 use crate::repair::{put_segment, put_segments};
 use sr_labels::Net;
 use sr_model::Segment;
-use sr_why::{Reason, WholeList};
+use sr_why::{Cause, WholeList};
 use std::alloc::AllocError;
 
 /// Whether the net lacks the index of the segment's node, or the label of its link.
@@ -81,24 +81,20 @@ fn segment_count(list: &WholeList) -> u64
 }
 
 /// Appends the reason without its line feed. After an error a part of it may stand there; what stood before stays.
-fn put_reason_text(net: &Net, reason: &Reason, out: &mut Vec<u8>) -> Result<(), AllocError>
+fn put_reason_text(net: &Net, reason: &Cause, out: &mut Vec<u8>) -> Result<(), AllocError>
     requires { IsReasonWithin net.now.graph reason.now }
     ensures line { OnOk result (out.new.items ≡ out.old.items ++ reason_text net.now reason.now) }
     ensures err { OnErr result (BeginsWith out.old.items out.new.items) }
 {
     match reason {
-        Reason::Covered => out.extend_from_slice(b"why covered"),
-        Reason::NoPath { reached } => put_numbered(
-            b"why nopath reached ",
-            u64::from(*reached),
-            out,
-        ),
-        Reason::NoList(list) => {
+        Cause::Covered => out.extend_from_slice(b"why covered"),
+        Cause::NoPath { reached } => put_numbered(b"why nopath reached ", u64::from(*reached), out),
+        Cause::NoList(list) => {
             out.extend_from_slice(b"why nolist")?;
             put_whole(net, list, out)?;
             put_lacks(net, list.segments.as_slice(), out)
         }
-        Reason::TooDeep(list) => {
+        Cause::TooDeep(list) => {
             put_numbered(b"why toodeep ", segment_count(list), out)?;
             put_whole(net, list, out)
         }
@@ -108,7 +104,7 @@ fn put_reason_text(net: &Net, reason: &Reason, out: &mut Vec<u8>) -> Result<(), 
 /// Appends `why covered`, `why nopath reached R`, `why nolist via LINK segments SEGMENTS cost C lacks SEGMENT ..` or
 /// `why toodeep K via LINK segments SEGMENTS cost C`: why a case has no repair for a destination, or that it has one.
 /// After an error a part of the line may stand there; what stood before stays.
-pub fn put_reason(net: &Net, reason: &Reason, out: &mut Vec<u8>) -> Result<(), AllocError>
+pub fn put_reason(net: &Net, reason: &Cause, out: &mut Vec<u8>) -> Result<(), AllocError>
     requires { IsReasonWithin net.now.graph reason.now }
     ensures line { OnOk result (out.new.items ≡ out.old.items ++ reason_line net.now reason.now) }
     ensures err { OnErr result (BeginsWith out.old.items out.new.items) }

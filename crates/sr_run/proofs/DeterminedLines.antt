@@ -10,7 +10,7 @@ use Rattle.sr_lsdb.specs.Edit.Edit.{SetCost, TakeDown, BringUp, SetDepth}
 use Rattle.sr_script.specs.declared.name.LinkName.{LinkName}
 use Rattle.sr_script.specs.declared.name.RepairName.{RepairName}
 use Rattle.sr_script.specs.declared.command.Command.{Command}
-use Rattle.sr_script.specs.declared.command.Command.TheVariants.{Lsp, Cost, Down, Up, Depth, Commit, DropStaged, Prove, ProofOpen, ProofVia, ProofNode, ProofAdj, ProofRow, ProofDone, Hold, Watch, Join, Show, Why}
+use Rattle.sr_script.specs.declared.command.Command.TheVariants.{Lsp, Cost, Down, Up, Depth, Commit, DropStaged, Prove, ProofOpen, ProofVia, ProofNode, ProofAdj, ProofRow, ProofDone, Hold, Watch, Join, Show, Why, Check}
 use Rattle.sr_script.specs.declared.line.Line.{Line}
 use Rattle.sr_script.specs.declared.line.Line.TheVariants.{Nothing as NoWord, Word, Try}
 use Rattle.sr_script.specs.declared.line.LineFault.{LineFault}
@@ -19,11 +19,11 @@ use Rattle.sr_script.specs.LineSays.{LineSays, IsLineFault, IsMemory}
 use Rattle.sr_print.specs.declared.refusal.Refusal.{Refusal}
 use Rattle.sr_print.specs.declared.refusal.Refusal.TheVariants as refusal
 use Rattle.sr_print.specs.Told.{Told, spelled, is_refusal}
-use Rattle.sr_print.specs.Told.Told.{Nothing, Hold as HoldTold, Watch as WatchTold, Joined}
+use Rattle.sr_print.specs.Told.Told.{Nothing, Hold as HoldTold, Watch as WatchTold, Joined, Check as CheckTold}
 use Rattle.sr_repair.specs.Version.{NumberedNet, version_of}
 use Rattle.sr_cert.specs.declared.draft.CertLine.TheVariants.{Via, AdjSegment}
 use Rattle.sr_cert.specs.Draft.{CertDraft}
-use Rattle.sr_run.specs.Domain.{Domain, Background, last_version, with_draft, with_hold, with_watch}
+use Rattle.sr_run.specs.Domain.{Domain, Background, last_version, version_before, with_draft, with_hold, with_watch}
 use Rattle.sr_run.specs.Domain.Background.{AtRest, OfHold, OfWatch}
 use Rattle.sr_run.specs.Edits.{Refuses, EditsNamed}
 use Rattle.sr_run.specs.Asked.{TellsQuestion}
@@ -37,6 +37,8 @@ use Rattle.sr_script.proofs.LineLemmas.{one-thing, faults-agree, said-agrees}
 use Rattle.sr_run.proofs.DeterminedTold.{AreAlike, AreOne, alike, alike-refused, one-refused}
 use Rattle.sr_run.proofs.DeterminedEdits.{staged-one, announces-one, link-edited-one, dropped-one, commit-one}
 use Rattle.sr_run.proofs.DeterminedAsked.{question-alike, tries-one}
+use Rattle.sr_rules.proofs.BrokenLemmas.{broken-determined}
+use Rattle.sr_run.proofs.DeterminedDifferences.{before-net, last-net}
 use Rattle.sr_run.proofs.DeterminedReasons.{reason-alike}
 use Rattle.sr_run.proofs.DeterminedReports.{due-one, joins-unmoved}
 use Rattle.sr_run.proofs.DeterminedCertificates.{LeaveOne, proof-alike, still-one, opened-one, link-kept-one, node-kept-one, row-kept-one, decided-one}
@@ -157,7 +159,9 @@ module _ (old : Domain) (nets : AreNets old) (a b : Told) (new next : Domain) wh
   said-one line (Watch watchers rounds) says p q = has-one line (begun-one (λ version. WatchTold watchers rounds version.number) (λ version. with_watch old (watch_from watchers rounds version)) (last_version old.nets) old.background p q)
   said-one line Join says p q = joined-one line says p q
   said-one line Show says p q = has-one line (record { told = alike a b _ _ p.0 q.0 refl; state = p.1 ∙ sym q.1 })
-  said-one line question says p q = has-one line (asked-one (TellsQuestion question old.editing.accepted) (λ version net. question-alike question old.editing.accepted version net a b) p q)
+  said-one line Check says p q =
+      has-one line (record { told = alike a b (CheckTold p.0.0) (CheckTold q.0.0) p.0.2 q.0.2 (ap CheckTold (broken-determined old.editing.tentative p.0.0 q.0.0 p.0.1 q.0.1)); state = p.1 ∙ sym q.1 })
+  said-one line question says p q = has-one line (asked-one (TellsQuestion question old.editing.accepted (version_before old.nets)) (λ version net. question-alike question old.editing.accepted (version_before old.nets) (before-net old.nets nets) version net a b) p q)
 
   -- a line has one fault that is told
   faults-one : (line : List ℕ) (fault also : LineFault) (reason other : Refusal) → IsLineFault line fault → IsLineFault line also → IsRefusedAs fault reason → IsRefusedAs also other → Refuses old a new reason → Refuses old b next other → AreOne a b new next
@@ -190,7 +194,7 @@ module _ (old : Domain) (nets : AreNets old) (a b : Told) (new next : Domain) wh
   line-one line (inr (inr (inr p))) (inr (inr (inl q))) = absurd (word-not_try line q.0 p.0 q.1 p.1)
   line-one line (inr (inr (inr p))) (inr (inr (inr q))) =
       let same : q.0 ≡ p.0 = tries-same line q.0 p.0 q.1 p.1 in
-      has-one line (tries-one p.0 old a b new next p.2 (subst (λ (c : Command). Tries c old b next) same q.2))
+      has-one line (tries-one p.0 old (last-net old.nets nets) a b new next p.2 (subst (λ (c : Command). Tries c old b next) same q.2))
 
 -- from a state, a line is refused or not, and has one next state; and it has one answer, unless it joins a watch during which a commit was accepted
 pub lines-determined : LinesHaveOneAnswer

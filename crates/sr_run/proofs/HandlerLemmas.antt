@@ -25,11 +25,11 @@ use Rattle.sr_print.specs.declared.refusal.Refusal.{Refusal}
 use Rattle.sr_print.specs.declared.refusal.Refusal.TheVariants.{Rule, VersionsFull}
 use Rattle.sr_print.specs.Told.{Told, Shown, spelled, is_refusal}
 use Rattle.sr_print.specs.Told.Told.{Staged, Dropped, Version, Show, Refused}
-use Rattle.sr_run.specs.declared.commit.TheConstants.{MOST_VERSIONS}
+use Rattle.sr_script.specs.declared.command.TheConstants.{MOST_VERSION}
 use Rattle.sr_run.specs.declared.stop.Stop.{Stop}
 use Rattle.sr_run.specs.declared.stop.Stop.TheVariants.{Refused as Refusing, Memory}
 use Rattle.sr_run.specs.declared.session.Reply.{Reply}
-use Rattle.sr_run.specs.Domain.{Domain, last_version, number_of, with_staged, with_dropped, with_draft, with_net}
+use Rattle.sr_run.specs.Domain.{Domain, last_version, version_before, number_of, with_staged, with_dropped, with_draft, with_net}
 use Rattle.sr_run.specs.Edits.{Refuses, StagesEdit, Announces, EditsNamed, EditsLink, DropsStaged, Commits}
 use Rattle.sr_run.specs.Certificates.{Drafting, DraftsOf}
 use Rattle.sr_run.specs.State.{IsKeptState, IsNextVersion, State, state_of, with_next_version}
@@ -48,17 +48,18 @@ pub asked : (tells : NumberedNet → Told → Type 0) (state : State) (told : To
 asked tells state told is domain same =
     (domain, same, (subst (λ (o : Option NumberedNet). TellsOf tells o told) (sym (ap (λ (s : State). s.current) same)) is, refl))
 
--- so is one about the accepted facts and the last version
-pub asked-facts : (tells : Facts → NumberedNet → Told → Type 0) (state : State) (told : Told) → TellsOf (tells state.editing.accepted) state.current told → Moves (λ domain t next. Asks (tells domain.editing.accepted) domain t next) state state told
+-- so is one about the accepted facts and the last two versions
+pub asked-facts : (tells : Facts → Option NumberedNet → NumberedNet → Told → Type 0) (state : State) (told : Told) → TellsOf (tells state.editing.accepted state.previous) state.current told
+    → Moves (λ domain t next. Asks (tells domain.editing.accepted (version_before domain.nets)) domain t next) state state told
 asked-facts tells state told is domain same =
-    (domain, same, (subst (λ (s : State). TellsOf (tells s.editing.accepted) s.current told) (sym same) is, refl))
+    (domain, same, (subst (λ (s : State). TellsOf (tells s.editing.accepted s.previous) s.current told) (sym same) is, refl))
 
 -- what is told to a line of a certificate, whatever domain the session shows
 pub drafted : (drafts : NumberedNet → Drafting) (state : State) (draft : Option CertDraft) (told : Told) → DraftsOf drafts state.current state.draft told draft
-    → Moves (WritesDraft drafts) state (record { editing = state.editing; current = state.current; draft = draft }) told
+    → Moves (WritesDraft drafts) state (record { editing = state.editing; current = state.current; previous = state.previous; draft = draft }) told
 drafted drafts state draft told is domain same = (
   with_draft domain draft,
-  ap (λ (s : State). (let x : State = record { editing = s.editing; current = s.current; draft = draft } in x)) same,
+  ap (λ (s : State). (let x : State = record { editing = s.editing; current = s.current; previous = s.previous; draft = draft } in x)) same,
   (draft, subst (λ (s : State). DraftsOf drafts s.current s.draft told draft) (sym same) is, refl),
 )
 
@@ -66,10 +67,10 @@ drafted drafts state draft told is domain same = (
 pub drafted-told : (command : Command) (drafts : NumberedNet → Drafting) (old now : State) (draft : Option CertDraft) (before after : List ℕ) (result : Result (Unit {0}) Stop)
     → ((domain : Domain) (told : Told) (next : Domain) → WritesDraft drafts domain told next → Tells domain command told next) → old ≡ now
     → Carries (λ told. DraftsOf drafts old.current old.draft told draft) before after result
-    → CarriesOut command now (record { editing = old.editing; current = old.current; draft = draft }) before after result
+    → CarriesOut command now (record { editing = old.editing; current = old.current; previous = old.previous; draft = draft }) before after result
 drafted-told command drafts old now draft before after result means is =
     carries-weaker _ _ before after result
-    (λ told d. subst (λ (s : State). Moves (λ domain t next. Tells domain command t next) s (record { editing = old.editing; current = old.current; draft = draft }) told) is
+    (λ told d. subst (λ (s : State). Moves (λ domain t next. Tells domain command t next) s (record { editing = old.editing; current = old.current; previous = old.previous; draft = draft }) told) is
     (λ domain same.
     let next = drafted drafts old draft told d domain same in
     (next.0, next.1, means domain told next.0 next.2)))
@@ -86,11 +87,11 @@ puts-of tells current version before after told is t accepted appended =
 
 -- ---- what a session shows of a domain
 
-with-editing : (domain : Domain) (editing new : Editing) → editing ≡ new → (let s : State = record { editing = editing; current = last_version domain.nets; draft = domain.draft } in s) ≡ record { editing = new; current = last_version domain.nets; draft = domain.draft }
-with-editing domain editing new e = ap (λ (x : Editing). (let s : State = record { editing = x; current = last_version domain.nets; draft = domain.draft } in s)) e
+with-editing : (domain : Domain) (editing new : Editing) → editing ≡ new → (let s : State = record { editing = editing; current = last_version domain.nets; previous = version_before domain.nets; draft = domain.draft } in s) ≡ record { editing = new; current = last_version domain.nets; previous = version_before domain.nets; draft = domain.draft }
+with-editing domain editing new e = ap (λ (x : Editing). (let s : State = record { editing = x; current = last_version domain.nets; previous = version_before domain.nets; draft = domain.draft } in s)) e
 
-same-current : (old : State) (domain : Domain) (new : Editing) → old ≡ state_of domain → (let s : State = record { editing = new; current = last_version domain.nets; draft = domain.draft } in s) ≡ record { editing = new; current = old.current; draft = old.draft }
-same-current old domain new here = ap (λ (x : State). (let s : State = record { editing = new; current = x.current; draft = x.draft } in s)) (sym here)
+same-current : (old : State) (domain : Domain) (new : Editing) → old ≡ state_of domain → (let s : State = record { editing = new; current = last_version domain.nets; previous = version_before domain.nets; draft = domain.draft } in s) ≡ record { editing = new; current = old.current; previous = old.previous; draft = old.draft }
+same-current old domain new here = ap (λ (x : State). (let s : State = record { editing = new; current = x.current; previous = x.previous; draft = x.draft } in s)) (sym here)
 
 last-shown : (old now : State) (domain : Domain) (version : NumberedNet) → old ≡ now → old.current ≡ Some version → state_of domain ≡ now → last_version domain.nets ≡ Some version
 last-shown old now domain version is some same = ap (λ (s : State). s.current) (same ∙ sym is) ∙ some
@@ -99,7 +100,7 @@ last-shown old now domain version is some same = ap (λ (s : State). s.current) 
 
 -- an edit that was staged, or not, is told of the domain that the session shows
 stages-shown : (edit : Edit) (domain : Domain) (new : Editing) (staged : Result ℕ StageFault) (told : Told) → Stages edit domain.editing new staged → TellsStaged staged told
-    → (next : Domain) × (state_of next ≡ record { editing = new; current = last_version domain.nets; draft = domain.draft }) × StagesEdit edit domain told next
+    → (next : Domain) × (state_of next ≡ record { editing = new; current = last_version domain.nets; previous = version_before domain.nets; draft = domain.draft }) × StagesEdit edit domain told next
 stages-shown edit domain new (Ok count) told s t =
     (with_staged domain edit, with-editing domain _ new (sym s.state), inr (s.room, t ∙ ap Staged s.counted, refl))
 stages-shown edit domain new (Err (Stale stored given)) told s t = absurd s
@@ -107,7 +108,7 @@ stages-shown edit domain new (Err Full) told s t = (domain, with-editing domain 
 stages-shown edit domain new (Err (WantingMemory error)) told s t = absurd t
 
 pub stages-told : (edit : Edit) (old now : State) (new : Editing) (staged : Result ℕ StageFault) (told : Told) → old ≡ now → Stages edit old.editing new staged → TellsStaged staged told
-    → Moves (StagesEdit edit) now (record { editing = new; current = old.current; draft = old.draft }) told
+    → Moves (StagesEdit edit) now (record { editing = new; current = old.current; previous = old.previous; draft = old.draft }) told
 stages-told edit old now new staged told is s t domain same =
     let here : old ≡ state_of domain = is ∙ sym same in
     let next = stages-shown edit domain new staged told (subst (λ (x : State). Stages edit x.editing new staged) here s) t in
@@ -116,7 +117,7 @@ stages-told edit old now new staged told is s t domain same =
 -- the same of an edit of a link that is named
 pub link-told : (edit : LinkKey → Edit) (link : LinkName) (old now : State) (version : NumberedNet) (key : LinkKey) (new : Editing) (staged : Result ℕ StageFault) (told : Told)
     → old ≡ now → old.current ≡ Some version → IsAnnounced version.net link key → Stages (edit key) old.editing new staged → TellsStaged staged told
-    → Moves (EditsLink edit link) now (record { editing = new; current = old.current; draft = old.draft }) told
+    → Moves (EditsLink edit link) now (record { editing = new; current = old.current; previous = old.previous; draft = old.draft }) told
 link-told edit link old now version key new staged told is some announced s t domain same =
     let next = stages-told (edit key) old now new staged told is s t domain same in (
       next.0,
@@ -137,7 +138,7 @@ link-missing edit link old now version reason is some lacks domain same = (
 
 -- a PDU that was staged, or not
 pdu-shown : (octets : List ℕ) (lsp : Lsp) (domain : Domain) (new : Editing) (staged : Result ℕ StageFault) (told : Told) → Reads octets lsp → StagesLsp lsp domain.editing new staged → TellsStaged staged told
-    → (next : Domain) × (state_of next ≡ record { editing = new; current = last_version domain.nets; draft = domain.draft }) × Announces octets domain told next
+    → (next : Domain) × (state_of next ≡ record { editing = new; current = last_version domain.nets; previous = version_before domain.nets; draft = domain.draft }) × Announces octets domain told next
 pdu-shown octets lsp domain new (Ok count) told reads s t =
     (with_staged domain (Announce lsp), with-editing domain _ new (sym s.1.state), inr (lsp, reads, inr (s.0, inr (s.1.room, t ∙ ap Staged s.1.counted, refl))))
 pdu-shown octets lsp domain new (Err (Stale stored given)) told reads s t =
@@ -147,7 +148,7 @@ pdu-shown octets lsp domain new (Err Full) told reads s t =
 pdu-shown octets lsp domain new (Err (WantingMemory error)) told reads s t = absurd t
 
 pub pdu-told : (octets : List ℕ) (lsp : Lsp) (old now : State) (new : Editing) (staged : Result ℕ StageFault) (told : Told) → old ≡ now → Reads octets lsp → StagesLsp lsp old.editing new staged → TellsStaged staged told
-    → Moves (Announces octets) now (record { editing = new; current = old.current; draft = old.draft }) told
+    → Moves (Announces octets) now (record { editing = new; current = old.current; previous = old.previous; draft = old.draft }) told
 pdu-told octets lsp old now new staged told is reads s t domain same =
     let here : old ≡ state_of domain = is ∙ sym same in
     let next = pdu-shown octets lsp domain new staged told reads (subst (λ (x : State). StagesLsp lsp x.editing new staged) here s) t in
@@ -155,7 +156,7 @@ pdu-told octets lsp old now new staged told is reads s t domain same =
 
 -- the staged edits that were dropped
 pub drops-told : (old now : State) (new : Editing) (count : ℕ) → old ≡ now → count ≡ old.editing.staged → new ≡ with_none_staged old.editing
-    → Moves DropsStaged now (record { editing = new; current = old.current; draft = old.draft }) (Dropped count)
+    → Moves DropsStaged now (record { editing = new; current = old.current; previous = old.previous; draft = old.draft }) (Dropped count)
 drops-told old now new count is counted state domain same =
     let here : old ≡ state_of domain = is ∙ sym same in
     let edited : old.editing ≡ domain.editing = ap (λ (x : State). x.editing) here in (
@@ -172,19 +173,21 @@ number-length [] = refl
 number-length (net ∷ earlier) = omega arith
 
 -- a state is its parts
-pub state-parts : (s : State) (editing : Editing) (current : Option NumberedNet) (draft : Option CertDraft) → s.editing ≡ editing → s.current ≡ current → s.draft ≡ draft → (let x : State = record { editing = editing; current = current; draft = draft } in x) ≡ s
-state-parts s editing current draft e c d =
-    ap (λ (x : Editing). (let y : State = record { editing = x; current = current; draft = draft } in y)) (sym e)
-    ∙ ap (λ (x : Option NumberedNet). (let y : State = record { editing = s.editing; current = x; draft = draft } in y)) (sym c)
-    ∙ ap (λ (x : Option CertDraft). (let y : State = record { editing = s.editing; current = s.current; draft = x } in y)) (sym d)
+pub state-parts : (s : State) (editing : Editing) (current previous : Option NumberedNet) (draft : Option CertDraft) → s.editing ≡ editing → s.current ≡ current → s.previous ≡ previous → s.draft ≡ draft
+    → (let x : State = record { editing = editing; current = current; previous = previous; draft = draft } in x) ≡ s
+state-parts s editing current previous draft e c p d =
+    ap (λ (x : Editing). (let y : State = record { editing = x; current = current; previous = previous; draft = draft } in y)) (sym e)
+    ∙ ap (λ (x : Option NumberedNet). (let y : State = record { editing = s.editing; current = x; previous = previous; draft = draft } in y)) (sym c)
+    ∙ ap (λ (x : Option NumberedNet). (let y : State = record { editing = s.editing; current = s.current; previous = x; draft = draft } in y)) (sym p)
+    ∙ ap (λ (x : Option CertDraft). (let y : State = record { editing = s.editing; current = s.current; previous = s.previous; draft = x } in y)) (sym d)
 
 -- a state with the version after the last one is kept
-pub next-kept : (old : State) (editing : Editing) (version : NumberedNet) → editing ≡ old.editing → number_of old.current < MOST_VERSIONS → IsNextVersion old version → IsKeptState (record { editing = with_accepted editing; current = Some version; draft = None })
-next-kept old editing version same room next =
+pub next-kept : (old : State) (editing : Editing) (version : NumberedNet) (previous : Option NumberedNet) → editing ≡ old.editing → number_of old.current < MOST_VERSION → IsNextVersion old version → IsKeptState (record { editing = with_accepted editing; current = Some version; previous = previous; draft = None })
+next-kept old editing version previous same room next =
     record { few = omega (arith, room, next.counted); counted = omega (arith, next.counted); fresh = subst (λ (e : Editing). IsNetOf e.tentative version.net) (sym same) next.net; drafted = tt }
 
 -- the state whose net is accepted
-pub accepted-next : (old : State) (version : NumberedNet) → number_of old.current < MOST_VERSIONS → IsNextVersion old version → (domain : Domain) → state_of domain ≡ old
+pub accepted-next : (old : State) (version : NumberedNet) → number_of old.current < MOST_VERSION → IsNextVersion old version → (domain : Domain) → state_of domain ≡ old
     → (state_of (with_net domain version.net) ≡ with_next_version old version) × Commits domain (Version version) (with_net domain version.net) × (version ≡ version_of (length domain.nets + 1) version.net)
 accepted-next old version room next domain same =
     let edited : domain.editing ≡ old.editing = ap (λ (x : State). x.editing) same in
@@ -192,18 +195,20 @@ accepted-next old version room next domain same =
     let number : number_of old.current ≡ length domain.nets = ap (λ (x : State). number_of x.current) (sym same) ∙ number-length domain.nets in
     let count : version.number ≡ length domain.nets + 1 = omega (arith, next.counted, number) in
     let one : version ≡ version_of (length domain.nets + 1) version.net = ap (λ (k : ℕ). version_of k version.net) count in (
-      state-parts (with_next_version old version) (with_accepted domain.editing) (Some (version_of (length domain.nets + 1) version.net)) None (ap with_accepted (sym edited)) (ap (λ (v : NumberedNet). Some v) one) refl,
+      state-parts (with_next_version old version) (with_accepted domain.editing) (Some (version_of (length domain.nets + 1) version.net)) (last_version domain.nets) None
+          (ap with_accepted (sym edited)) (ap (λ (v : NumberedNet). Some v) one) (ap (λ (x : State). x.current) (sym same)) refl,
       inr (omega (arith, room, number), inr (record { net = version.net; is_net = net; told_is = ap Version one; accepted = refl })),
       one,
     )
 
 -- the state whose tentative facts are rejected
-pub rejects-told : (now new : State) (rule : DomainRule) → number_of now.current < MOST_VERSIONS → IsFirstBrokenRule now.editing.tentative rule → new.editing ≡ with_none_staged now.editing → new.current ≡ now.current → new.draft ≡ now.draft → Moves Commits now new (Refused (Rule rule))
-rejects-told now new rule room broken editing current draft domain same =
+pub rejects-told : (now new : State) (rule : DomainRule) → number_of now.current < MOST_VERSION → IsFirstBrokenRule now.editing.tentative rule → new.editing ≡ with_none_staged now.editing → new.current ≡ now.current → new.previous ≡ now.previous → new.draft ≡ now.draft → Moves Commits now new (Refused (Rule rule))
+rejects-told now new rule room broken editing current previous draft domain same =
     let edited : domain.editing ≡ now.editing = ap (λ (x : State). x.editing) same in
     let number : number_of now.current ≡ length domain.nets = ap (λ (x : State). number_of x.current) (sym same) ∙ number-length domain.nets in (
       with_dropped domain,
-      state-parts new (with_none_staged domain.editing) (last_version domain.nets) domain.draft (editing ∙ ap with_none_staged (sym edited)) (current ∙ sym (ap (λ (x : State). x.current) same)) (draft ∙ sym (ap (λ (x : State). x.draft) same)),
+      state-parts new (with_none_staged domain.editing) (last_version domain.nets) (version_before domain.nets) domain.draft (editing ∙ ap with_none_staged (sym edited))
+          (current ∙ sym (ap (λ (x : State). x.current) same)) (previous ∙ sym (ap (λ (x : State). x.previous) same)) (draft ∙ sym (ap (λ (x : State). x.draft) same)),
       inr (
         omega (arith, room, number),
         inl (record { rule = rule; broken = subst (λ (e : Editing). IsFirstBrokenRule e.tentative rule) (sym edited) broken; told_is = refl; dropped = refl }),
@@ -211,7 +216,7 @@ rejects-told now new rule room broken editing current draft domain same =
     )
 
 -- as many commits as may be were accepted
-pub full-told : (old now : State) → old ≡ now → MOST_VERSIONS ≤ number_of old.current → Moves Commits now now (Refused VersionsFull)
+pub full-told : (old now : State) → old ≡ now → MOST_VERSION ≤ number_of old.current → Moves Commits now now (Refused VersionsFull)
 full-told old now is full domain same =
     let number : number_of old.current ≡ length domain.nets = ap (λ (x : State). number_of x.current) (is ∙ sym same) ∙ number-length domain.nets in
     (domain, same, inl (omega (arith, full, number), (refl, refl)))

@@ -29,6 +29,7 @@ pub mod CertificateLemmas
 pub mod DeterminedEdits
 pub mod DeterminedAsked
 pub mod DeterminedReasons
+mod DeterminedDifferences
 pub mod DeterminedReports
 pub mod DeterminedLines
 pub mod DeterminedScripts

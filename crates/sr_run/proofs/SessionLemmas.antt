@@ -24,7 +24,7 @@ use Rattle.sr_work.specs.declared.work.Work.TheVariants.{Idle, Holds, Watches}
 use Rattle.sr_base.specs.declared.SinkFault.{SinkFault}
 use Rattle.sr_engine.specs.Replies.{Gives, AtEnd}
 use Rattle.sr_engine.specs.Written.{Written, Puts}
-use Rattle.sr_run.specs.declared.commit.TheConstants.{MOST_VERSIONS}
+use Rattle.sr_script.specs.declared.command.TheConstants.{MOST_VERSION}
 use Rattle.sr_run.specs.declared.stop.Stop.{Stop}
 use Rattle.sr_run.specs.declared.stop.Stop.TheVariants.{Refused as Refusing, Memory}
 use Rattle.sr_run.specs.declared.session.Reply.{Reply}
@@ -190,7 +190,7 @@ usage-published nets (OfWatch begun) totals (Watches watched) usage version w s 
   enough = s.enough;
 }
 
-pub commit-accepted : (old : State) (work : Work) (usage : Usage) (searches count : ℕ) (version : NumberedNet) → IsNextVersion old version → number_of old.current < MOST_VERSIONS → CanReport work → IsCommitWork old.current version.net count
+pub commit-accepted : (old : State) (work : Work) (usage : Usage) (searches count : ℕ) (version : NumberedNet) → IsNextVersion old version → number_of old.current < MOST_VERSION → CanReport work → IsCommitWork old.current version.net count
     → SessionTells Commits (session old work usage searches) (session (with_next_version old version) (after_publishing work version) (usage_published work usage) (searches + count)) (Version version)
 commit-accepted old work usage searches count version next room can within = record {
   reports = can-published work version can;

@@ -11,8 +11,8 @@ use Rattle.sr_print.specs.Told.Told.{Refused}
 use Rattle.sr_repair.specs.Version.{NumberedNet, version_of}
 use Rattle.sr_work.specs.declared.work.Work.{Work}
 use Rattle.sr_store.specs.declared.usage.Usage.{Usage}
-use Rattle.sr_run.specs.declared.commit.TheConstants.{MOST_VERSIONS}
-use Rattle.sr_run.specs.Domain.{Domain, number_of, with_tried}
+use Rattle.sr_script.specs.declared.command.TheConstants.{MOST_VERSION}
+use Rattle.sr_run.specs.Domain.{Domain, last_version, number_of, with_tried}
 use Rattle.sr_run.specs.Searches.{CountsSearches, IsCommitWork}
 use Rattle.sr_run.specs.Asked.{TellsQuestion}
 use Rattle.sr_run.specs.Tries.{Tries}
@@ -42,8 +42,8 @@ refused-shown question state domain reason same (inr (room, (rule, broken, is)))
     )
 
 -- so is what the version tells that was made
-asked-shown : (question : Command) (state : State) (domain : Domain) (version : NumberedNet) (told : Told) → state_of domain ≡ state → number_of state.current < MOST_VERSIONS → IsNextVersion state version
-    → TellsQuestion question state.editing.tentative version told → Tries question domain told (with_tried domain version.net)
+asked-shown : (question : Command) (state : State) (domain : Domain) (version : NumberedNet) (told : Told) → state_of domain ≡ state → number_of state.current < MOST_VERSION → IsNextVersion state version
+    → TellsQuestion question state.editing.tentative state.current version told → Tries question domain told (with_tried domain version.net)
 asked-shown question state domain version told same room next tells =
     let count = nets-shown state domain same in
     let edited : domain.editing ≡ state.editing = ap (λ (s : State). s.editing) same in
@@ -53,8 +53,8 @@ asked-shown question state domain version told same room next tells =
       inr (record {
         net = version.net;
         is_net = subst (λ (e : Editing). IsNetOf e.tentative version.net) (sym edited) next.net;
-        tells = subst (λ (k : ℕ). TellsQuestion question domain.editing.tentative (version_of k version.net) told) number
-            (subst (λ (e : Editing). TellsQuestion question e.tentative version told) (sym edited) tells);
+        tells = subst (λ (k : ℕ). TellsQuestion question domain.editing.tentative (last_version domain.nets) (version_of k version.net) told) number
+            (subst (λ (s : State). TellsQuestion question s.editing.tentative s.current version told) (sym same) tells);
         tried = refl;
       }),
     )
@@ -70,8 +70,8 @@ module _ (question : Command) (state : State) (work : Work) (usage : Usage) (sea
     );
   }
 
-  asked-told : (version : NumberedNet) (count : ℕ) (told : Told) → number_of state.current < MOST_VERSIONS → IsNextVersion state version → now ≡ searches + count → IsCommitWork state.current version.net count
-      → TellsQuestion question state.editing.tentative version told → SessionTells (Tries question) (session state work usage searches) (session state work usage now) told
+  asked-told : (version : NumberedNet) (count : ℕ) (told : Told) → number_of state.current < MOST_VERSION → IsNextVersion state version → now ≡ searches + count → IsCommitWork state.current version.net count
+      → TellsQuestion question state.editing.tentative state.current version told → SessionTells (Tries question) (session state work usage searches) (session state work usage now) told
   asked-told version count told room next more within tells = record {
     reports = can;
     steps = λ lent domain like. (
@@ -92,7 +92,7 @@ module _ (question : Command) (state : State) (work : Work) (usage : Usage) (sea
   from-told told (inl (reason, refuses, is, same)) =
       subst (λ (t : Told). SessionTells (Tries question) (session state work usage searches) (session state work usage now) t) (sym is) (refused-told reason refuses same)
   from-told told (inr (tried, (version, some, room, next, work), tells)) =
-      asked-told version work.0 told room next work.1 work.2 (subst (λ (o : Option NumberedNet). TellsOf (TellsQuestion question state.editing.tentative) o told) some tells)
+      asked-told version work.0 told room next work.1 work.2 (subst (λ (o : Option NumberedNet). TellsOf (TellsQuestion question state.editing.tentative state.current) o told) some tells)
 
 -- the same of a session that is known to be of these parts
 pub tried-told : (question : Command) (old : Session) (state : State) (work : Work) (usage : Usage) (searches now : ℕ) → session state work usage searches ≡ old → CanReport work

@@ -63,6 +63,11 @@ abbrev pub last_version : List Net → Option NumberedNet
 last_version [] = None
 last_version (net ∷ earlier) = Some (version_of (length earlier + 1) net)
 
+-- the version before the last one
+abbrev pub version_before : List Net → Option NumberedNet
+version_before [] = None
+version_before (net ∷ earlier) = last_version earlier
+
 -- the number of the last version, and 0 before the first
 abbrev pub number_of : Option NumberedNet → ℕ
 number_of None = 0

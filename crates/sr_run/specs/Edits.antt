@@ -20,7 +20,7 @@ use Rattle.sr_print.specs.declared.refusal.Refusal.TheVariants.{Malformed as Mal
 use Rattle.sr_print.specs.Told.{Told}
 use Rattle.sr_print.specs.Told.Told.{Staged, Dropped, Version, Refused}
 use Rattle.sr_repair.specs.Version.{NumberedNet, version_of}
-use Rattle.sr_run.specs.declared.commit.TheConstants.{MOST_VERSIONS}
+use Rattle.sr_script.specs.declared.command.TheConstants.{MOST_VERSION}
 use Rattle.sr_run.specs.Domain.{Domain, last_version, with_staged, with_dropped, with_net}
 use Rattle.sr_run.specs.Names.{OfAnnounced}
 
@@ -82,5 +82,5 @@ pub record Accepts (old : Domain) (told : Told) (new : Domain) : Type 0 where
 -- `commit`: 65,535 commits were accepted already, or the tentative facts are rejected or accepted
 abbrev pub Commits : Domain → Told → Domain → Type 0
 Commits old told new =
-    ((MOST_VERSIONS ≤ length old.nets) × Refuses old told new VersionsFull)
-    ⊎ ((length old.nets < MOST_VERSIONS) × (Rejects old told new ⊎ Accepts old told new))
+    ((MOST_VERSION ≤ length old.nets) × Refuses old told new VersionsFull)
+    ⊎ ((length old.nets < MOST_VERSION) × (Rejects old told new ⊎ Accepts old told new))

@@ -19,7 +19,7 @@ use Rattle.sr_script.specs.declared.name.LinkName.{LinkName}
 use Rattle.sr_script.specs.declared.name.RepairName.{RepairName}
 use Rattle.sr_script.specs.declared.command.Command.{Command}
 use Rattle.sr_model.specs.declared.link.TheConstants.{MOST_METRIC}
-use Rattle.sr_script.specs.declared.command.TheConstants.{MOST_DEPTH, MOST_WATCHERS, MOST_ROUNDS, MOST_WORKERS, MOST_EACH}
+use Rattle.sr_script.specs.declared.command.TheConstants.{MOST_DEPTH, MOST_WATCHERS, MOST_ROUNDS, MOST_WORKERS, MOST_EACH, MOST_VERSION}
 use Rattle.sr_script.specs.declared.command.Command.TheVariants.{Cost, Depth, Load, Prove, ProofOpen, ProofVia, ProofNode, ProofAdj, ProofRow, ProofDone, Commit, AuditFull, Hold, Watch, Join, Why}
 use Rattle.sr_script.specs.Says.{is_question}
 use Rattle.sr_print.specs.declared.refusal.Refusal.{Refusal}
@@ -52,7 +52,6 @@ use Rattle.sr_store.specs.declared.usage.Usage.{Usage}
 use Rattle.sr_work.specs.declared.work.Work.{Work}
 use Rattle.sr_work.specs.declared.work.Work.TheVariants.{Idle, Holds, Watches}
 use Rattle.sr_work.specs.Works.{after_publishing, usage_published}
-use Rattle.sr_run.specs.declared.commit.TheConstants.{MOST_VERSIONS}
 use Rattle.sr_run.specs.Domain.{Domain, number_of}
 use Rattle.sr_domain.specs.Rules.{IsFirstBrokenRule}
 use Rattle.sr_run.specs.Edits.{Commits}
@@ -302,7 +301,7 @@ IsReply told result = MatchResult told (λ _. result ≡ Ok Text) (λ stop. resu
 abbrev pub CommitsVersion : State → State → List ℕ → List ℕ → Result (Unit {0}) Stop → Type 0
 CommitsVersion old new before after (Ok done) =
     (version : NumberedNet) × IsNextVersion old version × (new ≡ with_next_version old version)
-    × (number_of old.current < MOST_VERSIONS) × ((number : ℕ) → after ≡ before ++ spelled number (Version version))
+    × (number_of old.current < MOST_VERSION) × ((number : ℕ) → after ≡ before ++ spelled number (Version version))
 CommitsVersion old new before after (Err (Refused reason)) =
     (new.current ≡ old.current) × Moves Commits old new (RefusedTold reason)
 CommitsVersion old new before after (Err (Memory error)) = new.current ≡ old.current
@@ -374,15 +373,15 @@ pub record RunsLent (old new : Devices) (lent back : Lent) (end : End) : Type 0 
 -- no version would be made of the tentative facts for this reason: all versions were made, or the facts break a rule
 abbrev pub RefusesTry : State → Refusal → Type 0
 RefusesTry state reason =
-    ((MOST_VERSIONS ≤ number_of state.current) × (reason ≡ refusal.VersionsFull))
-    ⊎ ((number_of state.current < MOST_VERSIONS)
+    ((MOST_VERSION ≤ number_of state.current) × (reason ≡ refusal.VersionsFull))
+    ⊎ ((number_of state.current < MOST_VERSION)
     × ((rule : DomainRule) × IsFirstBrokenRule state.editing.tentative rule × (reason ≡ refusal.Rule rule)))
 
 -- the version after the last one was made of the tentative facts, and the counter of searches went no further than its
 -- commit would let it go
 abbrev pub MakesTried : State → ℕ → ℕ → Option NumberedNet → Type 0
 MakesTried state counted count tried =
-    (version : NumberedNet) × (tried ≡ Some version) × (number_of state.current < MOST_VERSIONS)
+    (version : NumberedNet) × (tried ≡ Some version) × (number_of state.current < MOST_VERSION)
     × IsNextVersion state version × CountsCommitWork state.current version.net counted count
 
 -- why there is none: all versions were made, or the tentative facts break a rule, and nothing was searched; or memory
@@ -397,7 +396,7 @@ abbrev pub TriesFrom : Command → State → ℕ → ℕ → Told → Type 0
 TriesFrom question state counted count told =
     ((reason : Refusal) × RefusesTry state reason × (told ≡ RefusedTold reason) × (count ≡ counted))
     ⊎ ((tried : Option NumberedNet) × MakesTried state counted count tried
-    × TellsOf (TellsQuestion question state.editing.tentative) tried told)
+    × TellsOf (TellsQuestion question state.editing.tentative state.current) tried told)
 
 -- how a question that is tried is answered: by what was appended, or by an audit that is yet to be written, or not
 abbrev pub TriedAs : Command → State → ℕ → ℕ → List ℕ → List ℕ → Result Tried Stop → Type 0

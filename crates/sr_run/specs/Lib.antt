@@ -8,6 +8,7 @@ pub mod Certificates
 pub mod Account
 pub mod Insight
 pub mod Reasons
+pub mod Differences
 pub mod Asked
 pub mod Tries
 pub mod Session

@@ -1,11 +1,13 @@
 -- What is told to each line of a script, and the state after it.
 use Rattle.std.specs.Prelude.{◌≡◌, ℕ, ◌⊎◌, Bool, true, false, List, Option, Some, None}
+use Rattle.sr_model.specs.declared.rule.DomainRule.{DomainRule}
 use Rattle.sr_model.specs.Key.{pair_of}
 use Rattle.sr_model.specs.Graph.{node_count, link_count}
+use Rattle.sr_lsdb.specs.declared.facts.Facts.{Facts}
 use Rattle.sr_lsdb.specs.Edit.Edit.{SetCost, TakeDown, BringUp, SetDepth}
-use Rattle.sr_script.specs.declared.name.RepairName.{RepairName}
+use Rattle.sr_rules.specs.Broken.{AreBrokenRules}
 use Rattle.sr_script.specs.declared.command.Command.{Command}
-use Rattle.sr_script.specs.declared.command.Command.TheVariants.{Lsp, Cost, Down, Up, Depth, Commit, DropStaged, Prove, ProofOpen, ProofVia, ProofNode, ProofAdj, ProofRow, ProofDone, Hold, Watch, Join, Show, Why}
+use Rattle.sr_script.specs.declared.command.Command.TheVariants.{Lsp, Cost, Down, Up, Depth, Commit, DropStaged, Prove, ProofOpen, ProofVia, ProofNode, ProofAdj, ProofRow, ProofDone, Hold, Watch, Join, Show, Why, Check}
 use Rattle.sr_script.specs.declared.line.Line.TheVariants.{Nothing as NoWord, Word, Try}
 use Rattle.sr_script.specs.declared.line.LineFault.{LineFault}
 use Rattle.sr_script.specs.declared.line.LineFault.TheVariants as fault
@@ -13,12 +15,12 @@ use Rattle.sr_script.specs.LineSays.{LineSays, IsLineFault}
 use Rattle.sr_print.specs.declared.refusal.Refusal.{Refusal}
 use Rattle.sr_print.specs.declared.refusal.Refusal.TheVariants as refusal
 use Rattle.sr_print.specs.Told.{Shown, Told, spelled, is_refusal}
-use Rattle.sr_print.specs.Told.Told.{Nothing, Refused, Show as ShowTold}
+use Rattle.sr_print.specs.Told.Told.{Nothing, Refused, Show as ShowTold, Check as CheckTold}
 use Rattle.sr_repair.specs.Version.{NumberedNet}
 use Rattle.sr_engine.specs.Replies.{Conduct}
 use Rattle.sr_cert.specs.declared.draft.CertLine.TheVariants.{Via, AdjSegment}
 use Rattle.sr_cert.specs.Draft.{CertDraft}
-use Rattle.sr_run.specs.Domain.{Domain, last_version, number_of, with_draft, with_asked}
+use Rattle.sr_run.specs.Domain.{Domain, last_version, version_before, number_of, with_draft, with_asked}
 use Rattle.sr_run.specs.Edits.{Refuses, Announces, EditsLink, StagesEdit, DropsStaged, Commits}
 use Rattle.sr_run.specs.Background.{BeginsHold, BeginsWatch, JoinsWork, EndsWork}
 use Rattle.sr_run.specs.Asked.{TellsQuestion}
@@ -75,6 +77,14 @@ shown_of domain = record {
 abbrev pub Shows : Domain → Told → Domain → Type 0
 Shows old told new = (told ≡ ShowTold (shown_of old)) × (new ≡ old)
 
+-- all rules that the facts break
+abbrev pub TellsBroken : Facts → Told → Type 0
+TellsBroken facts told = (rules : List DomainRule) × AreBrokenRules facts rules × (told ≡ CheckTold rules)
+
+-- `check`: all rules that the tentative facts break, and nothing changes
+abbrev pub ChecksRules : Domain → Told → Domain → Type 0
+ChecksRules old told new = TellsBroken old.editing.tentative told × (new ≡ old)
+
 -- what is told to a command, and the state after it; each command that isn't named here is a question about the last
 -- version
 abbrev pub Tells : Domain → Command → Told → Domain → Type 0
@@ -97,7 +107,9 @@ Tells old Hold told new = BeginsHold old told new
 Tells old (Watch watchers rounds) told new = BeginsWatch watchers rounds old told new
 Tells old Join told new = JoinsWork old told new
 Tells old Show told new = Shows old told new
-Tells old question told new = Asks (TellsQuestion question old.editing.accepted) old told new
+Tells old Check told new = ChecksRules old told new
+Tells old question told new =
+    Asks (TellsQuestion question old.editing.accepted (version_before old.nets)) old told new
 
 -- a line with this fault is refused for this reason; running out of memory ends the run
 abbrev pub IsRefusedAs : LineFault → Refusal → Type 0

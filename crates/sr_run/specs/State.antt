@@ -7,29 +7,34 @@ use Rattle.sr_domain.specs.Net.{IsNetOf}
 use Rattle.sr_repair.specs.Version.{NumberedNet}
 use Rattle.sr_cert.specs.Draft.{CertDraft, IsDraftWithin}
 use Rattle.sr_audit.specs.Counted.{AreAuditCounts}
-use Rattle.sr_script.specs.declared.command.TheConstants.{MOST_ROUNDS}
+use Rattle.sr_script.specs.declared.command.TheConstants.{MOST_ROUNDS, MOST_VERSION}
 use Rattle.sr_store.specs.Counts.{counted}
 use Rattle.sr_store.specs.declared.usage.Usage.{Usage}
 use Rattle.sr_work.specs.Watched.{Watched}
 use Rattle.sr_work.specs.Works.{MayFollow}
 use Rattle.sr_work.specs.declared.work.Work.{Work}
 use Rattle.sr_work.specs.declared.work.Work.TheVariants.{Idle, Holds, Watches}
-use Rattle.sr_run.specs.declared.commit.TheConstants.{MOST_VERSIONS}
-use Rattle.sr_run.specs.Domain.{Domain, opening_domain, Background, BegunWatch, WatchTotals, last_version, number_of, versions_since}
+use Rattle.sr_run.specs.Domain.{Domain, opening_domain, Background, BegunWatch, WatchTotals, last_version, version_before, number_of, versions_since}
 use Rattle.sr_run.specs.Domain.Background.{AtRest, OfHold, OfWatch}
 use Rattle.sr_run.specs.Usage.{Lent, unused}
 use Rattle.sr_run.specs.Searches.{CountsSearches}
 
--- the accepted and the tentative facts with how many edits are staged, the version of the last accepted commit, and the
--- certificate that is open, where one is
+-- the accepted and the tentative facts with how many edits are staged, the version of the last accepted commit, that of
+-- the one before, and the certificate that is open, where one is
 pub record State : Type 0 where
   pub editing : Editing
   pub current : Option NumberedNet
+  pub previous : Option NumberedNet
   pub draft : Option CertDraft
 
--- what a session shows of the domain: of its nets the last one, with their number
+-- what a session shows of the domain: of its nets the last two, with their numbers
 abbrev pub state_of : Domain → State
-state_of domain = record { editing = domain.editing; current = last_version domain.nets; draft = domain.draft }
+state_of domain = record {
+  editing = domain.editing;
+  current = last_version domain.nets;
+  previous = version_before domain.nets;
+  draft = domain.draft;
+}
 
 -- the nodes and links of the open certificate, where one is, are those of this version
 abbrev pub IsDraftOf : Option NumberedNet → Option CertDraft → Type 0
@@ -40,7 +45,7 @@ IsDraftOf (Some version) (Some draft) = IsDraftWithin version.net draft
 -- what a session keeps: no more versions than there may be, counted from 1; the last net is that of the accepted facts,
 -- and an open certificate speaks of it
 pub record IsKeptState (state : State) : Type 0 where
-  pub few : number_of state.current ≤ MOST_VERSIONS
+  pub few : number_of state.current ≤ MOST_VERSION
   pub counted : IfSome state.current (λ version. 0 < version.number)
   pub fresh : IfSome state.current (λ version. IsNetOf state.editing.accepted version.net)
   pub drafted : IsDraftOf state.current state.draft
@@ -48,7 +53,7 @@ pub record IsKeptState (state : State) : Type 0 where
 -- the state after the tentative facts are accepted with this version
 abbrev pub with_next_version : State → NumberedNet → State
 with_next_version state version =
-    record { editing = with_accepted state.editing; current = Some version; draft = None }
+    record { editing = with_accepted state.editing; current = Some version; previous = state.current; draft = None }
 
 -- the version after the last one, of the net of the tentative facts
 pub record IsNextVersion (state : State) (version : NumberedNet) : Type 0 where

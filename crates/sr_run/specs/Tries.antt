@@ -8,8 +8,8 @@ use Rattle.sr_script.specs.declared.command.Command.{Command}
 use Rattle.sr_print.specs.declared.refusal.Refusal.TheVariants.{VersionsFull, Rule}
 use Rattle.sr_print.specs.Told.{Told}
 use Rattle.sr_repair.specs.Version.{version_of}
-use Rattle.sr_run.specs.declared.commit.TheConstants.{MOST_VERSIONS}
-use Rattle.sr_run.specs.Domain.{Domain, with_tried}
+use Rattle.sr_script.specs.declared.command.TheConstants.{MOST_VERSION}
+use Rattle.sr_run.specs.Domain.{Domain, last_version, with_tried}
 use Rattle.sr_run.specs.Edits.{Refuses}
 use Rattle.sr_run.specs.Asked.{TellsQuestion}
 
@@ -23,12 +23,13 @@ pub record TriesInVain (old : Domain) (told : Told) (new : Domain) : Type 0 wher
 pub record TriesNet (question : Command) (old : Domain) (told : Told) (new : Domain) : Type 0 where
   pub net : Net
   pub is_net : IsNetOf old.editing.tentative net
-  pub tells : TellsQuestion question old.editing.tentative (version_of (length old.nets + 1) net) told
+  pub tells : TellsQuestion question old.editing.tentative (last_version old.nets)
+      (version_of (length old.nets + 1) net) told
   pub tried : new ≡ with_tried old net
 
 -- `try`: no commit would be accepted since 65,535 were, or the tentative facts break a rule, or the question is put to
 -- the version that they would give
 abbrev pub Tries : Command → Domain → Told → Domain → Type 0
 Tries question old told new =
-    ((MOST_VERSIONS ≤ length old.nets) × Refuses old told new VersionsFull)
-    ⊎ ((length old.nets < MOST_VERSIONS) × (TriesInVain old told new ⊎ TriesNet question old told new))
+    ((MOST_VERSION ≤ length old.nets) × Refuses old told new VersionsFull)
+    ⊎ ((length old.nets < MOST_VERSION) × (TriesInVain old told new ⊎ TriesNet question old told new))

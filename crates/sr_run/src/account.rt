@@ -6,7 +6,7 @@ ghost use Rattle.sr_run.specs.Session.{TellsOf};
 ghost use Rattle.sr_run.specs.Account.{TellsAsides, TellsLinks, TellsNodes};
 ghost use Rattle.sr_run.specs.Handlers.{Carries};
 
-use crate::current::{CurrentVersion, last_version};
+use crate::kept::{KeptVersion, last_version};
 use crate::stop::{Stop, found};
 use sr_account::{are_in_order, asides_of, nothing_is_lost, sources_of};
 use sr_lsdb::Facts;
@@ -14,7 +14,7 @@ use sr_print::{put_asides, put_links, put_nodes};
 use std::alloc::Global;
 
 /// `nodes`: appends the nodes of the version, each with what it announces.
-pub(crate) fn nodes(current: &CurrentVersion, out: &mut Vec<u8>) -> Result<(), Stop>
+pub(crate) fn nodes(current: &KeptVersion, out: &mut Vec<u8>) -> Result<(), Stop>
     ensures { Carries (TellsOf TellsNodes current.now) out.old.items out.new.items result }
 {
     let version = found!(last_version(current));
@@ -26,7 +26,7 @@ pub(crate) fn nodes(current: &CurrentVersion, out: &mut Vec<u8>) -> Result<(), S
 pub(crate) fn links(
     alloc: Global,
     facts: &Facts,
-    current: &CurrentVersion,
+    current: &KeptVersion,
     out: &mut Vec<u8>,
 ) -> Result<(), Stop>
     requires { IfSome current.now (λ version. IsNetOf facts.now version.net) }
@@ -42,7 +42,7 @@ pub(crate) fn links(
 pub(crate) fn aside(
     alloc: Global,
     facts: &Facts,
-    current: &CurrentVersion,
+    current: &KeptVersion,
     out: &mut Vec<u8>,
 ) -> Result<(), Stop>
     requires range { AreInRange facts.now }

@@ -6,7 +6,7 @@ ghost use Rattle.sr_run.specs.Session.{TellsOf};
 ghost use Rattle.sr_run.specs.Failures.{IsActiveOf, TellsAdjBackup, TellsAdjRepair};
 ghost use Rattle.sr_run.specs.Handlers.{Carries};
 
-use crate::current::{CurrentVersion, last_version};
+use crate::kept::{KeptVersion, last_version};
 use crate::names::find_link;
 use crate::stop::{Stop, found};
 use sr_adjprot::{AdjAnswer, adj_repair, backup, eligible};
@@ -37,7 +37,7 @@ fn active_answer<'a>(
 pub(crate) fn adjrepair(
     alloc: Global,
     facts: &Facts,
-    current: &CurrentVersion,
+    current: &KeptVersion,
     name: &LinkName,
     out: &mut Vec<u8>,
 ) -> Result<(), Stop>
@@ -56,7 +56,7 @@ pub(crate) fn adjrepair(
 pub(crate) fn adjbackup(
     alloc: Global,
     facts: &Facts,
-    current: &CurrentVersion,
+    current: &KeptVersion,
     name: &LinkName,
     out: &mut Vec<u8>,
 ) -> Result<(), Stop>

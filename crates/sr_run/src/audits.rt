@@ -7,7 +7,7 @@ ghost use Rattle.sr_run.specs.Session.{TellsOf};
 ghost use Rattle.sr_run.specs.Failures.{TellsSummary};
 ghost use Rattle.sr_run.specs.Handlers.{BeginsAudit, Carries, WritesAudit, WritesCases, WritesCounts};
 
-use crate::current::{CurrentVersion, last_version};
+use crate::kept::{KeptVersion, last_version};
 use crate::session::Reply;
 use crate::stop::{Stop, found};
 use sr_audit::counts;
@@ -38,7 +38,7 @@ pub(crate) fn put_audit_counts(
 }
 
 /// `audit`: appends how many answers of each sort the audit of the last version has.
-pub(crate) fn audit_counts(current: &CurrentVersion, out: &mut Vec<u8>) -> Result<(), Stop>
+pub(crate) fn audit_counts(current: &KeptVersion, out: &mut Vec<u8>) -> Result<(), Stop>
     ensures { Carries (TellsOf TellsSummary current.now) out.old.items out.new.items result }
 {
     let version = found!(last_version(current));
@@ -47,7 +47,7 @@ pub(crate) fn audit_counts(current: &CurrentVersion, out: &mut Vec<u8>) -> Resul
 }
 
 /// `audit full`: whether there is a version of which the audit can be written.
-pub(crate) fn begin_audit(current: &CurrentVersion) -> Result<Reply, Stop>
+pub(crate) fn begin_audit(current: &KeptVersion) -> Result<Reply, Stop>
     ensures { BeginsAudit current.now result }
 {
     let _version = found!(last_version(current));
@@ -102,7 +102,7 @@ fn write_counts<K: Sink>(
 /// Writes the audit of the version, which there is: the answers of all cases, and how many there are of each sort.
 pub(crate) fn put_audit<K: Sink>(
     alloc: Global,
-    current: &CurrentVersion,
+    current: &KeptVersion,
     text: &mut Vec<u8>,
     out: &mut Answers,
     sink: &mut K,

@@ -21,7 +21,7 @@ ghost use Rattle.sr_run.specs.Handlers.{Carries, GivesCommand, GivesTold, IsAske
 
 use crate::audits::put_audit;
 use crate::certificates::prove;
-use crate::current::{CurrentVersion, has_audit};
+use crate::kept::{KeptVersion, has_audit};
 use crate::reasons::reason;
 use crate::session::{DomainSession, Reply, accepted, refusal_of_fault, replied, write_refusal};
 use crate::stop::Stop;
@@ -94,7 +94,7 @@ fn put_all_joined(reports: &[RoundReport], out: &mut Vec<u8>) -> Result<(), Allo
 /// work is given up.
 fn publish_last(
     rt: &impl Runtime,
-    current: &CurrentVersion,
+    current: &KeptVersion,
     work: &mut Work,
     usage: &mut Usage,
 ) -> Result<(), AllocError>

@@ -7,7 +7,7 @@ ghost use Rattle.sr_run.specs.State.{IsDraftOf};
 ghost use Rattle.sr_run.specs.Certificates.{DecidesDraft, DraftsOf, IsDecided, KeepsLine, KeepsLink, KeepsNode, KeepsRow, OpensDraft, TellsProof};
 ghost use Rattle.sr_run.specs.Handlers.{Carries, CountsQuestion, MayGrowBy};
 
-use crate::current::{CurrentVersion, last_version};
+use crate::kept::{KeptVersion, last_version};
 use crate::names::{answer_of, find_affected, find_failure, find_link, find_node};
 use crate::session::DomainSession;
 use crate::stop::{Stop, found};
@@ -25,7 +25,7 @@ use std::sync::ledger::Ledger;
 /// one search is counted, and none where the line is refused.
 pub(crate) fn prove<L: Ledger>(
     alloc: Global,
-    current: &CurrentVersion,
+    current: &KeptVersion,
     repair: &RepairName,
     steps: &mut Steps<L>,
     out: &mut Vec<u8>,
@@ -44,7 +44,7 @@ pub(crate) fn prove<L: Ledger>(
 /// `proof open KIND A B n D`: begins a certificate, and appends that one line is kept.
 fn open_draft(
     alloc: Global,
-    current: &CurrentVersion,
+    current: &KeptVersion,
     draft: &mut Option<CertDraft>,
     repair: &RepairName,
     out: &mut Vec<u8>,
@@ -92,7 +92,7 @@ fn keep(draft: &mut Option<CertDraft>, line: CertLine, out: &mut Vec<u8>) -> Res
 
 /// `proof via A B n`: keeps the link on which the packet leaves.
 fn keep_via(
-    current: &CurrentVersion,
+    current: &KeptVersion,
     draft: &mut Option<CertDraft>,
     name: &LinkName,
     out: &mut Vec<u8>,
@@ -109,7 +109,7 @@ fn keep_via(
 
 /// `proof adj A B n`: keeps an adjacency segment.
 fn keep_adj(
-    current: &CurrentVersion,
+    current: &KeptVersion,
     draft: &mut Option<CertDraft>,
     name: &LinkName,
     out: &mut Vec<u8>,
@@ -126,7 +126,7 @@ fn keep_adj(
 
 /// `proof node A`: keeps a node segment.
 fn keep_node(
-    current: &CurrentVersion,
+    current: &KeptVersion,
     draft: &mut Option<CertDraft>,
     system: SystemId,
     out: &mut Vec<u8>,
@@ -143,7 +143,7 @@ fn keep_node(
 
 /// `proof row V V ..`: keeps a row of distances.
 fn keep_row(
-    current: &CurrentVersion,
+    current: &KeptVersion,
     draft: &mut Option<CertDraft>,
     cells: Seq<u64>,
     out: &mut Vec<u8>,
@@ -186,7 +186,7 @@ fn verdict_on(
 /// then.
 fn decide(
     alloc: Global,
-    current: &CurrentVersion,
+    current: &KeptVersion,
     draft: &mut Option<CertDraft>,
     labels: Seq<u32>,
     out: &mut Vec<u8>,

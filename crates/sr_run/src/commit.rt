@@ -9,7 +9,7 @@ ghost use Rattle.sr_run.specs.State.{IsKeptState, IsNextVersion, with_next_versi
 ghost use Rattle.sr_run.specs.Searches.{CountsCommitWork};
 ghost use Rattle.sr_run.specs.Handlers.{CommitsVersion, CountsCommit, CountsMaking};
 
-use crate::current::{CurrentVersion, last_number, last_version};
+use crate::kept::{KeptVersion, last_number, last_version};
 use crate::session::DomainSession;
 use crate::stop::Stop;
 use sr_base::Runtime;
@@ -18,22 +18,21 @@ use sr_labels::Net;
 use sr_model::DomainRule;
 use sr_print::{Refusal, put_version};
 use sr_repair::Version;
+use sr_script::MOST_VERSION;
 use sr_spf::Steps;
 use std::alloc::{AllocError, Global};
+use std::mem::replace;
 use std::sync::ledger::Ledger;
-
-/// The most commits that a session accepts.
-pub(crate) const MOST_VERSIONS: u32 = 65_535;
 
 /// The version of this net after the last one. The searches are counted whether it is made or memory runs out.
 fn version_after<L: Ledger>(
     rt: &impl Runtime,
     alloc: Global,
-    current: &CurrentVersion,
+    current: &KeptVersion,
     net: Net,
     steps: &mut Steps<L>,
 ) -> Result<Version, AllocError>
-    requires { number_of current.now < MOST_VERSIONS }
+    requires { number_of current.now < MOST_VERSION }
     ensures version { IfOk result (λ version. version ≡ version_of (number_of current.now + 1) net) }
     ensures searches { CountsCommitWork current.now net steps.old steps.new }
 {
@@ -47,7 +46,7 @@ impl DomainSession {
     /// The last version with the next number, where nothing was staged after it: its net is that of the tentative facts
     /// too. None where something was staged, or nothing was committed yet. Fails only out of memory.
     fn renumbered_version(&self) -> Result<Option<Version>, AllocError>
-        requires { number_of self.now.current < MOST_VERSIONS }
+        requires { number_of self.now.current < MOST_VERSION }
         ensures { IfOk result (λ found. IfSome found (IsNextVersion self.now)) }
     {
         if self.editor.staged() != 0 {
@@ -68,7 +67,7 @@ impl DomainSession {
         rt: &impl Runtime,
         steps: &mut Steps<L>,
     ) -> Result<Result<Version, DomainRule>, AllocError>
-        requires { number_of self.now.current < MOST_VERSIONS }
+        requires { number_of self.now.current < MOST_VERSION }
         ensures made { IfOk result (λ made. MatchResult made
             (IsNextVersion self.now)
             (IsFirstBrokenRule self.now.editing.tentative)) }
@@ -92,7 +91,7 @@ impl DomainSession {
         rt: &impl Runtime,
         steps: &mut Steps<L>,
     ) -> Result<Result<Version, DomainRule>, AllocError>
-        requires { number_of self.now.current < MOST_VERSIONS }
+        requires { number_of self.now.current < MOST_VERSION }
         ensures made { IfOk result (λ made. MatchResult made
             (IsNextVersion self.now)
             (IsFirstBrokenRule self.now.editing.tentative)) }
@@ -120,9 +119,9 @@ impl DomainSession {
             graph.link_count(),
             out,
         )?;
-        let current = CurrentVersion::new(self.alloc, version)?;
+        let current = KeptVersion::new(self.alloc, version)?;
         self.editor.accept();
-        self.current = current;
+        self.previous = replace(&mut self.current, current);
         // A certificate speaks of the version before.
         self.draft = None;
         Ok(())
@@ -139,7 +138,7 @@ impl DomainSession {
         ensures version { CommitsVersion self.old self.new out.old.items out.new.items result }
         ensures searches { CountsCommit self.old self.new steps.old steps.new result }
     {
-        if last_number(&self.current) >= MOST_VERSIONS {
+        if last_number(&self.current) >= MOST_VERSION {
             return Err(Stop::Refused(Refusal::VersionsFull));
         }
         match self.make_version(rt, steps)? {

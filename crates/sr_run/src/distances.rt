@@ -3,7 +3,7 @@ ghost use Rattle.sr_run.specs.Session.{TellsOf};
 ghost use Rattle.sr_run.specs.Questions.{TellsDistance, TellsNextHops};
 ghost use Rattle.sr_run.specs.Handlers.{Carries};
 
-use crate::current::{CurrentVersion, last_version};
+use crate::kept::{KeptVersion, last_version};
 use crate::names::find_ends;
 use crate::stop::{Stop, found};
 use crate::version::{distance, next_hops};
@@ -11,7 +11,7 @@ use sr_print::{put_dist, put_next};
 use sr_script::EndNames;
 
 /// `dist A B`: appends the distance from A to B.
-pub(crate) fn dist(current: &CurrentVersion, ends: &EndNames, out: &mut Vec<u8>) -> Result<(), Stop>
+pub(crate) fn dist(current: &KeptVersion, ends: &EndNames, out: &mut Vec<u8>) -> Result<(), Stop>
     ensures { Carries (TellsOf (TellsDistance ends.now) current.now) out.old.items out.new.items result }
 {
     let version = found!(last_version(current));
@@ -21,7 +21,7 @@ pub(crate) fn dist(current: &CurrentVersion, ends: &EndNames, out: &mut Vec<u8>)
 }
 
 /// `next A B`: appends the next hops of A towards B.
-pub(crate) fn next(current: &CurrentVersion, ends: &EndNames, out: &mut Vec<u8>) -> Result<(), Stop>
+pub(crate) fn next(current: &KeptVersion, ends: &EndNames, out: &mut Vec<u8>) -> Result<(), Stop>
     ensures { Carries (TellsOf (TellsNextHops ends.now) current.now) out.old.items out.new.items result }
 {
     let version = found!(last_version(current));

@@ -6,7 +6,7 @@ ghost use Rattle.sr_script.specs.declared.command.TheConstants.{MOST_DEPTH};
 ghost use Rattle.sr_run.specs.Edits.{EditsLink, malformed_pdu};
 ghost use Rattle.sr_run.specs.Handlers.{Carries, CarriesOut, IsLinkEdit, Moves, TellsStaged, edit_of};
 
-use crate::current::last_version;
+use crate::kept::last_version;
 use crate::names::find_announced;
 use crate::session::DomainSession;
 use crate::stop::{Stop, found};

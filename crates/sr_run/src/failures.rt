@@ -6,7 +6,7 @@ ghost use Rattle.sr_run.specs.Session.{TellsOf};
 ghost use Rattle.sr_run.specs.Failures.{AreCaseSpaces, TellsRepair, TellsSpaces};
 ghost use Rattle.sr_run.specs.Handlers.{Carries};
 
-use crate::current::{CurrentVersion, last_version};
+use crate::kept::{KeptVersion, last_version};
 use crate::names::{Failure, answer_of, find_affected, find_failure};
 use crate::stop::{Stop, found};
 use sr_print::{put_repair, put_spaces};
@@ -44,7 +44,7 @@ fn space_sets(alloc: Global, version: &Version, failure: Failure) -> Result<Spac
 /// `spaces KIND A B n D`: appends P and extended P of the source of the failure, and Q of the destination.
 pub(crate) fn spaces(
     alloc: Global,
-    current: &CurrentVersion,
+    current: &KeptVersion,
     repair: &RepairName,
     out: &mut Vec<u8>,
 ) -> Result<(), Stop>
@@ -60,7 +60,7 @@ pub(crate) fn spaces(
 /// `repair KIND A B n D`: appends the answer of the failure for the destination, with the labels of its stack.
 pub(crate) fn repair(
     alloc: Global,
-    current: &CurrentVersion,
+    current: &KeptVersion,
     repair: &RepairName,
     out: &mut Vec<u8>,
 ) -> Result<(), Stop>

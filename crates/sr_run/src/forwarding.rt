@@ -6,7 +6,7 @@ ghost use Rattle.sr_run.specs.Session.{TellsOf};
 ghost use Rattle.sr_run.specs.Questions.{TellsLookup, TellsWalk, TellsWalkOf};
 ghost use Rattle.sr_run.specs.Handlers.{Carries};
 
-use crate::current::{CurrentVersion, last_version};
+use crate::kept::{KeptVersion, last_version};
 use crate::names::{EndNodes, find_ends, find_node};
 use crate::stop::{Stop, found};
 use crate::version::{forwarded, look_up};
@@ -18,7 +18,7 @@ use std::alloc::Global;
 
 /// `label A X`: appends what label X does at A.
 pub(crate) fn label(
-    current: &CurrentVersion,
+    current: &KeptVersion,
     system: SystemId,
     label: u32,
     out: &mut Vec<u8>,
@@ -53,7 +53,7 @@ fn put_walk_of(
 /// `walk A D K`: appends the walk of a packet from A under D's label, by choice number K.
 pub(crate) fn walk_packet(
     alloc: Global,
-    current: &CurrentVersion,
+    current: &KeptVersion,
     ends: &EndNames,
     choice: u32,
     out: &mut Vec<u8>,

@@ -5,7 +5,7 @@ ghost use Rattle.sr_run.specs.Insight.{TellsCaseRepairs, TellsCoverage, TellsNod
 ghost use Rattle.sr_run.specs.Handlers.{Carries};
 
 use crate::audits::put_audit_counts;
-use crate::current::{CurrentVersion, last_version};
+use crate::kept::{KeptVersion, last_version};
 use crate::names::{find_link, find_node};
 use crate::stop::{Stop, found};
 use sr_audit::counts;
@@ -22,7 +22,7 @@ use std::alloc::Global;
 pub(crate) fn audit_by(
     rt: &impl Runtime,
     alloc: Global,
-    current: &CurrentVersion,
+    current: &KeptVersion,
     grouping: Grouping,
     out: &mut Vec<u8>,
 ) -> Result<(), Stop>
@@ -41,7 +41,7 @@ pub(crate) fn audit_by(
 pub(crate) fn audit_labels(
     rt: &impl Runtime,
     alloc: Global,
-    current: &CurrentVersion,
+    current: &KeptVersion,
     out: &mut Vec<u8>,
 ) -> Result<(), Stop>
     ensures { Carries (TellsOf TellsStacks current.now) out.old.items out.new.items result }
@@ -56,7 +56,7 @@ pub(crate) fn audit_labels(
 /// `repair KIND A B n`: appends the answers of the failure for all destinations that it affects.
 pub(crate) fn repair_case(
     alloc: Global,
-    current: &CurrentVersion,
+    current: &KeptVersion,
     kind: Kind,
     name: &LinkName,
     out: &mut Vec<u8>,
@@ -72,7 +72,7 @@ pub(crate) fn repair_case(
 /// `fails node F`: appends the answers of all node cases in which the node fails.
 pub(crate) fn fails_node(
     alloc: Global,
-    current: &CurrentVersion,
+    current: &KeptVersion,
     system: SystemId,
     out: &mut Vec<u8>,
 ) -> Result<(), Stop>

@@ -6,7 +6,7 @@ ghost use Rattle.sr_run.specs.Session.{TellsOf};
 ghost use Rattle.sr_run.specs.Questions.{TellsLoads};
 ghost use Rattle.sr_run.specs.Handlers.{Carries};
 
-use crate::current::{CurrentVersion, last_version};
+use crate::kept::{KeptVersion, last_version};
 use crate::stop::{Stop, found};
 use sr_base::Runtime;
 use sr_loads::{Loads, loads};
@@ -34,7 +34,7 @@ fn loads_of(
 pub(crate) fn load(
     rt: &impl Runtime,
     alloc: Global,
-    current: &CurrentVersion,
+    current: &KeptVersion,
     workers: u32,
     each: u32,
     out: &mut Vec<u8>,

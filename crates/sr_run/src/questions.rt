@@ -9,11 +9,12 @@ ghost use Rattle.sr_run.specs.Handlers.{Carries, CarriesOut, IsAsked, IsTextQues
 use crate::account::{aside, links, nodes};
 use crate::adjacencies::{adjbackup, adjrepair};
 use crate::audits::audit_counts;
-use crate::current::CurrentVersion;
+use crate::differences::diff;
 use crate::distances::{dist, next};
 use crate::failures::{repair, spaces};
 use crate::forwarding::{label, walk_packet};
 use crate::insight::{audit_by, audit_labels, fails_node, repair_case};
+use crate::kept::KeptVersion;
 use crate::loaded::load;
 use crate::repaired::walk_repair;
 use crate::session::DomainSession;
@@ -23,13 +24,14 @@ use sr_lsdb::Facts;
 use sr_script::Command;
 use std::alloc::Global;
 
-/// Puts a question to the version, where there is one, and appends the answer. The version has the net of the facts. The
-/// answer to `audit full` is written elsewhere.
+/// Puts a question to the version, where there is one, and appends the answer. The version has the net of the facts, and
+/// `previous` is the one before it. The answer to `audit full` is written elsewhere.
 pub(crate) fn ask(
     rt: &impl Runtime,
     alloc: Global,
     facts: &Facts,
-    current: &CurrentVersion,
+    previous: &KeptVersion,
+    current: &KeptVersion,
     question: Command,
     out: &mut Vec<u8>,
 ) -> Result<(), Stop>
@@ -37,7 +39,8 @@ pub(crate) fn ask(
     requires question { IsTextQuestion question }
     requires range { AreInRange facts.now }
     requires net { IfSome current.now (λ version. IsNetOf facts.now version.net) }
-    ensures { Carries (TellsOf (TellsQuestion question facts.now) current.now) out.old.items out.new.items result }
+    ensures { Carries (TellsOf (TellsQuestion question facts.now previous.now) current.now)
+        out.old.items out.new.items result }
 {
     match question {
         Command::Dist { ends } => dist(current, &ends, out),
@@ -61,6 +64,7 @@ pub(crate) fn ask(
         Command::Nodes => nodes(current, out),
         Command::Links => links(alloc, facts, current, out),
         Command::Aside => aside(alloc, facts, current, out),
+        Command::Diff { version } => diff(rt, alloc, previous, current, version, out),
         _ => unreachable!(),
     }
 }
@@ -81,6 +85,7 @@ impl DomainSession {
             rt,
             self.alloc,
             self.editor.accepted(),
+            &self.previous,
             &self.current,
             question,
             out,

@@ -3,7 +3,7 @@ ghost use Rattle.sr_run.specs.Session.{TellsOf};
 ghost use Rattle.sr_run.specs.Reasons.{TellsReason};
 ghost use Rattle.sr_run.specs.Handlers.{Carries, CountsQuestion};
 
-use crate::current::{CurrentVersion, last_version};
+use crate::kept::{KeptVersion, last_version};
 use crate::names::find_affected;
 use crate::stop::{Stop, found};
 use sr_print::put_reason;
@@ -17,7 +17,7 @@ use std::sync::ledger::Ledger;
 /// is counted, and none where the line is refused.
 pub(crate) fn reason<L: Ledger>(
     alloc: Global,
-    current: &CurrentVersion,
+    current: &KeptVersion,
     repair: &RepairName,
     steps: &mut Steps<L>,
     out: &mut Vec<u8>,

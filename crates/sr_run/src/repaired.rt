@@ -8,7 +8,7 @@ ghost use Rattle.sr_run.specs.Session.{TellsOf};
 ghost use Rattle.sr_run.specs.Failures.{IsAnswerOf, IsRepairWalked, TellsRepairWalk};
 ghost use Rattle.sr_run.specs.Handlers.{Carries};
 
-use crate::current::{CurrentVersion, last_version};
+use crate::kept::{KeptVersion, last_version};
 use crate::names::{Failure, answer_of, find_affected};
 use crate::stop::{Stop, found};
 use sr_forward::walk;
@@ -74,7 +74,7 @@ fn walk_answer(
 /// `walk KIND A B n D K`: appends the walk of the repaired packet by choice number K, or why there is no repair.
 pub(crate) fn walk_repair(
     alloc: Global,
-    current: &CurrentVersion,
+    current: &KeptVersion,
     repair: &RepairName,
     choice: u32,
     out: &mut Vec<u8>,

@@ -1,4 +1,4 @@
-//! The session: the facts that a script edits, the version of the last commit, and the certificate that is open.
+//! The session: the facts that a script edits, the versions of the last two commits, and the certificate that is open.
 ghost use Rattle.std.specs.Prelude.{◌≡◌, MatchOption};
 ghost use Rattle.sr_script.specs.LineSays.{IsMemory};
 ghost use Rattle.sr_engine.specs.Written.{written};
@@ -6,8 +6,8 @@ ghost use Rattle.sr_run.specs.Session.{IsRefusedAs, version_links, version_nodes
 ghost use Rattle.sr_run.specs.Handlers.{IsNoRefusal, IsReply, WritesRefusal};
 
 use crate::audits::begin_audit;
-use crate::current::{CurrentVersion, last_number, last_version};
 use crate::edits::LinkEdit;
+use crate::kept::{KeptVersion, last_number, last_version};
 use crate::stop::Stop;
 use sr_base::{Runtime, Sink, SinkFault};
 use sr_cert::CertDraft;
@@ -18,13 +18,14 @@ use sr_script::{Command, LineFault};
 use std::alloc::Global;
 use std::marker::Model;
 
-/// The facts that a script edits, the version of the last accepted commit, and the certificate that is open, where one
-/// is. Contracts see these alone.
+/// The facts that a script edits, the version of the last accepted commit, that of the one before, and the certificate
+/// that is open, where one is. Contracts see these alone.
 #[derive(Drop)]
 pub(crate) struct DomainSession {
     pub(crate) alloc: Global,
     pub(crate) editor: Editor,
-    pub(crate) current: CurrentVersion,
+    pub(crate) current: KeptVersion,
+    pub(crate) previous: KeptVersion,
     pub(crate) draft: Option<CertDraft>,
 }
 
@@ -43,10 +44,10 @@ impl Model for DomainSession {
     ghost Value = { State };
 
     ghost view = { λ s.
-        record { editing = s.editor; current = s.current; draft = s.draft } };
+        record { editing = s.editor; current = s.current; previous = s.previous; draft = s.draft } };
 
     ghost invariant = { λ s.
-        IsKeptState (record { editing = s.editor; current = s.current; draft = s.draft }) };
+        IsKeptState (record { editing = s.editor; current = s.current; previous = s.previous; draft = s.draft }) };
 }
 
 /// Writes the refusal of the line of this number.
@@ -112,7 +113,7 @@ struct NetSize {
 }
 
 /// How many nodes and links the net of the last version has: none before the first.
-fn size_of(current: &CurrentVersion) -> NetSize
+fn size_of(current: &KeptVersion) -> NetSize
     ensures nodes { result.nodes ≡ version_nodes current.now }
     ensures links { result.links ≡ version_links current.now }
 {
@@ -138,7 +139,8 @@ impl DomainSession {
         DomainSession {
             alloc,
             editor: Editor::new(alloc),
-            current: CurrentVersion::none(),
+            current: KeptVersion::none(),
+            previous: KeptVersion::none(),
             draft: None,
         }
     }
@@ -149,7 +151,7 @@ impl DomainSession {
     }
 
     /// The last version, where there is one.
-    pub(crate) fn current(&self) -> &CurrentVersion
+    pub(crate) fn current(&self) -> &KeptVersion
         ensures { result.now ≡ self.now.current }
     {
         &self.current
@@ -173,7 +175,7 @@ impl DomainSession {
         Ok(())
     }
 
-    /// Carries out an edit, `drop` or `show`, or puts a question to the last version.
+    /// Carries out an edit, `drop`, `show` or `check`, or puts a question to the last version.
     fn tell_plain(
         &mut self,
         rt: &impl Runtime,
@@ -193,6 +195,7 @@ impl DomainSession {
             Command::Depth { depth } => self.depth(depth, out),
             Command::DropStaged => self.drop_staged(out),
             Command::Show => self.show(out),
+            Command::Check => self.check(out),
             other => self.ask_last(rt, other, out),
         }
     }

@@ -4,14 +4,13 @@ ghost use Rattle.sr_script.specs.Says.{is_question};
 ghost use Rattle.std.specs.Prelude.{◌≡◌, true};
 ghost use Rattle.sr_run.specs.Handlers.{IsAsked, MakesTried, TriedAs, TriesNone};
 
-use crate::commit::MOST_VERSIONS;
-use crate::current::{CurrentVersion, last_number};
+use crate::kept::{KeptVersion, last_number};
 use crate::questions::ask;
 use crate::session::DomainSession;
 use crate::stop::Stop;
 use sr_base::Runtime;
 use sr_print::Refusal;
-use sr_script::Command;
+use sr_script::{Command, MOST_VERSION};
 use sr_spf::Steps;
 use std::sync::ledger::Ledger;
 
@@ -21,7 +20,7 @@ pub(crate) enum Tried {
     /// By what was appended.
     Text,
     /// By the audit of this version, which is written case by case.
-    Audit(CurrentVersion),
+    Audit(KeptVersion),
 }
 
 impl DomainSession {
@@ -30,16 +29,16 @@ impl DomainSession {
         &self,
         rt: &impl Runtime,
         steps: &mut Steps<L>,
-    ) -> Result<CurrentVersion, Stop>
+    ) -> Result<KeptVersion, Stop>
         ensures { MatchResult result
             (MakesTried self.now steps.old steps.new)
             (TriesNone self.now steps.old steps.new) }
     {
-        if last_number(&self.current) >= MOST_VERSIONS {
+        if last_number(&self.current) >= MOST_VERSION {
             return Err(Stop::Refused(Refusal::VersionsFull));
         }
         match self.make_version(rt, steps)? {
-            Ok(version) => Ok(CurrentVersion::new(self.alloc, version)?),
+            Ok(version) => Ok(KeptVersion::new(self.alloc, version)?),
             Err(rule) => Err(Stop::Refused(Refusal::Rule(rule))),
         }
     }
@@ -63,10 +62,13 @@ impl DomainSession {
         };
         match question {
             Command::AuditFull => Ok(Tried::Audit(tried)),
-            other => match ask(rt, self.alloc, self.editor.tentative(), &tried, other, out) {
-                Ok(()) => Ok(Tried::Text),
-                Err(stop) => Err(stop),
-            },
+            other => {
+                let facts = self.editor.tentative();
+                match ask(rt, self.alloc, facts, &self.current, &tried, other, out) {
+                    Ok(()) => Ok(Tried::Text),
+                    Err(stop) => Err(stop),
+                }
+            }
         }
     }
 }

@@ -11,7 +11,7 @@ use Rattle.sr_script.specs.declared.name.EndNames.{EndNames}
 use Rattle.sr_script.specs.declared.name.LinkName.{LinkName}
 use Rattle.sr_script.specs.declared.name.RepairName.{RepairName}
 use Rattle.sr_script.specs.declared.command.Command.{Command}
-use Rattle.sr_script.specs.declared.command.Command.TheVariants.{Lsp, Cost, Down, Up, Depth, Commit, DropStaged, Dist, Next, Label, Spaces, Repair, AdjRepair, AdjBackup, Walk, Load, Prove, ProofDone, Audit, Hold, Watch, Join, Show, Nodes, Links, Aside, FailsNode, Why}
+use Rattle.sr_script.specs.declared.command.Command.TheVariants.{Lsp, Cost, Down, Up, Depth, Commit, DropStaged, Dist, Next, Label, Spaces, Repair, AdjRepair, AdjBackup, Walk, Load, Prove, ProofDone, Audit, Hold, Watch, Join, Show, Nodes, Links, Aside, FailsNode, Why, Diff, Check}
 
 -- two nodes of an example
 abbrev pub example_ends : EndNames
@@ -56,6 +56,8 @@ example_commands =
     ∷ Aside
     ∷ FailsNode 0
     ∷ Why example_repair
+    ∷ Diff 1
+    ∷ Check
     ∷ []
 
 -- one of the commands begins with the word

@@ -1,6 +1,7 @@
 -- What a line says, and why it is refused.
-use Rattle.std.proofs.Common.{◌≡◌, ◌≢◌, ℕ, ◌<◌, Bool, true, List, [], ◌∷◌, length, refl, sym, ap, ◌∙◌, subst, arith, ◌⊎◌, ⊎_elim, inl, inr}
-use Rattle.std.specs.Prelude.{codes, drop, slice_index, IsErr, slice_index_or, IsTrue, None, ◌↔◌}
+use Rattle.std.proofs.Common.{◌≡◌, ◌≢◌, ℕ, ◌<◌, Bool, true, false, List, Option, Some, [], ◌∷◌, length, refl, sym, ap, ◌∙◌, subst, arith, ◌⊎◌, ⊎_elim, inl, inr}
+use Rattle.std.specs.Prelude.{codes, drop, slice_index, IsErr, slice_index_or, IsTrue, None, MatchOption, ◌↔◌}
+use Rattle.std.proofs.lemmas.Bool.{false≢true}
 use Rattle.std.specs.declared.result.Result.TheVariants.{Err}
 use Rattle.hex.specs.Hex.{decode_of}
 use Rattle.sr_script.specs.declared.command.Command.{Command}
@@ -137,6 +138,12 @@ proof-refused ws BadHex first none = absurd none
 proof-refused ws (Memory error) first none = tt
 
 -- ---- questions that are tried
+
+-- a command is the question that the words say where it is a question, and else they say none
+pub question-of : (ws : List (List ℕ)) (command : Command) (found : Option Command) → SaysCommand ws command → MatchOption found (is_question command ≡ false) (λ question. (question ≡ command) × (is_question question ≡ true)) → IsQuestionOf ws found
+question-of ws command None says none = λ question asks other.
+    absurd (false≢true (sym none ∙ subst (λ (c : Command). is_question c ≡ true) (said-once ws question command other says) asks))
+question-of ws command (Some question) says one = (one.1, subst (SaysCommand ws) (sym one.0) says)
 
 -- behind `try` stand the words of the question
 pub try-said : (ws : List (List ℕ)) (question : Command) → word_at ws 0 ≡ codes "try" → is_question question ≡ true → SaysCommand (drop 1 ws) question → SaysTry ws question

@@ -9,13 +9,13 @@ use Rattle.sr_model.specs.SystemText.{system_read}
 use Rattle.sr_script.specs.Number.{number_in, cell_read}
 use Rattle.sr_script.specs.Words.{word_at}
 use Rattle.sr_model.specs.declared.link.TheConstants.{MOST_METRIC}
-use Rattle.sr_script.specs.declared.command.TheConstants.{MOST_DEPTH, MOST_LABEL, MOST_CHOICE, MOST_WATCHERS, MOST_ROUNDS, MOST_WORKERS, MOST_EACH, MOST_CELLS, MOST_LABELS}
+use Rattle.sr_script.specs.declared.command.TheConstants.{MOST_DEPTH, MOST_LABEL, MOST_CHOICE, MOST_VERSION, MOST_WATCHERS, MOST_ROUNDS, MOST_WORKERS, MOST_EACH, MOST_CELLS, MOST_LABELS}
 use Rattle.sr_script.specs.declared.name.TheConstants.{MOST_LINK_NUMBER}
 use Rattle.sr_script.specs.declared.name.EndNames.{EndNames}
 use Rattle.sr_script.specs.declared.name.LinkName.{LinkName}
 use Rattle.sr_script.specs.declared.name.RepairName.{RepairName}
 use Rattle.sr_script.specs.declared.command.Command.{Command}
-use Rattle.sr_script.specs.declared.command.Command.TheVariants.{Lsp, Cost, Down, Up, Depth, Commit, DropStaged, Dist, Next, Label, Spaces, Repair, AdjRepair, AdjBackup, Walk, WalkRepair, Load, Prove, ProofOpen, ProofVia, ProofNode, ProofAdj, ProofRow, ProofDone, Audit, AuditFull, AuditBy, AuditLabels, Hold, Watch, Join, Show, Nodes, Links, Aside, RepairCase, FailsNode, Why}
+use Rattle.sr_script.specs.declared.command.Command.TheVariants.{Lsp, Cost, Down, Up, Depth, Commit, DropStaged, Dist, Next, Label, Spaces, Repair, AdjRepair, AdjBackup, Walk, WalkRepair, Load, Prove, ProofOpen, ProofVia, ProofNode, ProofAdj, ProofRow, ProofDone, Audit, AuditFull, AuditBy, AuditLabels, Hold, Watch, Join, Show, Nodes, Links, Aside, RepairCase, FailsNode, Why, Diff, Check}
 
 -- the word for a kind of failure
 abbrev pub kind_word : Kind → List ℕ
@@ -111,6 +111,8 @@ form AuditLabels = (codes "audit", Itself (codes "labels") ∷ [])
 form (RepairCase kind link) = (codes "repair", Failure kind ∷ link_arguments link)
 form (FailsNode node) = (codes "fails", Itself (codes "node") ∷ System node ∷ [])
 form (Why repair) = (codes "why", repair_arguments repair)
+form (Diff version) = (codes "diff", Number 1 MOST_VERSION version ∷ [])
+form Check = (codes "check", [])
 
 -- the word with which a command begins
 abbrev pub first_word : Command → List ℕ
@@ -138,6 +140,7 @@ is_question AuditFull = true
 is_question AuditLabels = true
 is_question (AuditBy grouping) = true
 is_question (FailsNode node) = true
+is_question (Diff version) = true
 is_question Nodes = true
 is_question Links = true
 is_question Aside = true

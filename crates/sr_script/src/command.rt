@@ -33,6 +33,9 @@ pub const MOST_EACH: u32 = 4;
 /// links, whose metrics have 24 bits.
 pub const MOST_DISTANCE: u64 = 8_589_934_591;
 
+/// The greatest number of a version: that of the last commit that is accepted (this project's rule).
+pub const MOST_VERSION: u32 = 65_535;
+
 /// The most cells of a row: one for each node.
 pub const MOST_CELLS: usize = MOST_NODES;
 
@@ -120,6 +123,10 @@ pub enum Command {
     FailsNode { node: SystemId },
     /// `why KIND A B n D`: asks why a failure has no repair for a destination.
     Why { repair: RepairName },
+    /// `diff V`: asks what differs between the repairs of a version and those of the last one.
+    Diff { version: u32 },
+    /// `check`: asks for all rules that the staged facts break.
+    Check,
 }
 
 impl Command {
@@ -134,7 +141,7 @@ impl Command {
             Command::AdjRepair { .. } | Command::AdjBackup { .. } => true,
             Command::Walk { .. } | Command::WalkRepair { .. } | Command::Load { .. } => true,
             Command::Audit | Command::AuditFull | Command::AuditLabels => true,
-            Command::AuditBy { .. } | Command::FailsNode { .. } => true,
+            Command::AuditBy { .. } | Command::FailsNode { .. } | Command::Diff { .. } => true,
             Command::Nodes | Command::Links | Command::Aside => true,
             _ => false,
         }

@@ -14,8 +14,8 @@ use crate::argument::{
     repair_argument, system_argument,
 };
 use crate::command::{
-    Command, MOST_CHOICE, MOST_DEPTH, MOST_EACH, MOST_LABEL, MOST_ROUNDS, MOST_WATCHERS,
-    MOST_WORKERS,
+    Command, MOST_CHOICE, MOST_DEPTH, MOST_EACH, MOST_LABEL, MOST_ROUNDS, MOST_VERSION,
+    MOST_WATCHERS, MOST_WORKERS,
 };
 use crate::line::LineFault;
 use crate::words::Words;
@@ -74,6 +74,8 @@ pub(crate) fn read_command(words: &Words<'_>) -> Result<Command, LineFault>
         b"aside" => read_lone(words, Command::Aside),
         b"fails" => read_fails(words),
         b"why" => read_why(words),
+        b"diff" => read_diff(words),
+        b"check" => read_lone(words, Command::Check),
     }
     Err(LineFault::UnknownWord)
 }
@@ -315,6 +317,18 @@ fn read_fails(words: &Words<'_>) -> Option<Command>
     }
     let node = system_argument(words, 2)?;
     Some(Command::FailsNode { node })
+}
+
+/// `diff V`
+fn read_diff(words: &Words<'_>) -> Option<Command>
+    requires { word_at words.now 0 ≡ codes "diff" }
+    ensures { IsCommandOf words.now result }
+{
+    if words.len() != 2 {
+        return None;
+    }
+    let version = number_argument(words, 1, 1, MOST_VERSION)?;
+    Some(Command::Diff { version })
 }
 
 /// `watch T R`

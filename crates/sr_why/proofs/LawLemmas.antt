@@ -10,8 +10,8 @@ use Rattle.sr_model.specs.Repair.{Path}
 use Rattle.sr_walks.proofs.Distances.{distance-unique}
 use Rattle.sr_laws.proofs.Answers.{case-answer-one, least-one}
 use Rattle.sr_laws.proofs.Failures.{failed-one, test-same, tests-same}
-use Rattle.sr_why.specs.declared.reason.Reason.{Reason}
-use Rattle.sr_why.specs.declared.reason.Reason.TheVariants.{NoPath as NoPathLeft, NoList as NoListSound, TooDeep as ListTooDeep}
+use Rattle.sr_why.specs.declared.reason.Cause.{Cause}
+use Rattle.sr_why.specs.declared.reason.Cause.TheVariants.{NoPath as NoPathLeft, NoList as NoListSound, TooDeep as ListTooDeep}
 use Rattle.sr_why.specs.declared.whole.WholeList.{WholeList}
 use Rattle.sr_why.specs.Laws.{ReasonsAreDetermined}
 use Rattle.sr_why.specs.Reasons.{AreReached, Explains, IsLeastIfLabelled, IsLeastList, IsReachedCount, IsReasonOf, path_of_list}
@@ -47,7 +47,7 @@ labelled_list_one n x s d a b p q =
     least_list_one q.0 x s d a b (list-agree p.0 q.0 (agree-labelled n p.0 q.0 p.1 q.1) x s d a p.2) q.2
 
 -- reasons of one answer that explain the same are the same
-explained_one : (n : Net) (x : List Bool) (s d : ℕ) (answer : Answer) (one two : Reason) → IsReasonOf answer one → IsReasonOf answer two → Explains n x s d one → Explains n x s d two → one ≡ two
+explained_one : (n : Net) (x : List Bool) (s d : ℕ) (answer : Answer) (one two : Cause) → IsReasonOf answer one → IsReasonOf answer two → Explains n x s d one → Explains n x s d two → one ≡ two
 explained_one n x s d (Least list) one two p q a b = p ∙ sym q
 explained_one n x s d NoPath one two p q a b =
     p.1 ∙ ap NoPathLeft (count_one n.graph x s p.0 q.0 (rw p.1 at a) (rw q.1 at b)) ∙ sym q.1

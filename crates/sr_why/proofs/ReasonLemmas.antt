@@ -9,7 +9,7 @@ use Rattle.sr_model.specs.Case.{IsFailedSet, source_of}
 use Rattle.sr_model.specs.Repair.{Path, IsCaseAnswer, IsLeast}
 use Rattle.sr_laws.proofs.Failures.{failed-one}
 use Rattle.sr_laws.proofs.Answers.{least-one}
-use Rattle.sr_why.specs.declared.reason.Reason.TheVariants.{Covered, NoPath as NoPathLeft, NoList as NoListSound, TooDeep as ListTooDeep}
+use Rattle.sr_why.specs.declared.reason.Cause.TheVariants.{Covered, NoPath as NoPathLeft, NoList as NoListSound, TooDeep as ListTooDeep}
 use Rattle.sr_why.specs.declared.whole.WholeList.{WholeList}
 use Rattle.sr_why.specs.Labelled.{IsLabelled, IsUnlimited}
 use Rattle.sr_why.specs.Reasons.{IsLeastList, IsReachedCount, IsReason, path_of_list}

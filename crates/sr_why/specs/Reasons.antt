@@ -8,8 +8,8 @@ use Rattle.sr_model.specs.Walk.{IsWalk, IsDistance}
 use Rattle.sr_model.specs.Case.{IsFailedSet, source_of}
 use Rattle.sr_model.specs.Label.{Net}
 use Rattle.sr_model.specs.Repair.{Path, IsLeast, IsCaseAnswer}
-use Rattle.sr_why.specs.declared.reason.Reason.{Reason}
-use Rattle.sr_why.specs.declared.reason.Reason.TheVariants.{Covered, NoPath as NoPathLeft, NoList as NoListSound, TooDeep as ListTooDeep}
+use Rattle.sr_why.specs.declared.reason.Cause.{Cause}
+use Rattle.sr_why.specs.declared.reason.Cause.TheVariants.{Covered, NoPath as NoPathLeft, NoList as NoListSound, TooDeep as ListTooDeep}
 use Rattle.sr_why.specs.declared.whole.WholeList.{WholeList}
 use Rattle.sr_why.specs.Labelled.{IsLabelled}
 
@@ -40,21 +40,21 @@ IsLeastIfLabelled n x s d list = (m : Net) × IsLabelled n m × IsLeastList m x 
 -- what is told beside the answer from s to d without the failed links: nothing where it is a list; how many nodes are
 -- still reached where no walk is left; the list that would be the least if no index and no label were lacking where no
 -- list is sound; the least list where it is too deep (this project's rule)
-abbrev pub Explains : Net → List Bool → ℕ → ℕ → Reason → Type 0
+abbrev pub Explains : Net → List Bool → ℕ → ℕ → Cause → Type 0
 Explains n x s d Covered = Unit {0}
 Explains n x s d (NoPathLeft reached) = IsReachedCount n.graph x s reached
 Explains n x s d (NoListSound list) = IsLeastIfLabelled n x s d list
 Explains n x s d (ListTooDeep list) = IsLeastList n x s d list
 
 -- the reason is of the answer's sort
-abbrev pub IsReasonOf : Answer → Reason → Type 0
+abbrev pub IsReasonOf : Answer → Cause → Type 0
 IsReasonOf (Least list) reason = reason ≡ Covered
 IsReasonOf NoPath reason = (reached : ℕ) × (reason ≡ NoPathLeft reached)
 IsReasonOf NoList reason = (list : WholeList) × (reason ≡ NoListSound list)
 IsReasonOf (TooDeep k) reason = (list : WholeList) × (reason ≡ ListTooDeep list) × (length list.segments ≡ k)
 
 -- why the case has no repair for d, or that it has one: the reason of its answer, with what it tells
-pub record IsReason (n : Net) (case : Case) (d : ℕ) (reason : Reason) : Type 0 where
+pub record IsReason (n : Net) (case : Case) (d : ℕ) (reason : Cause) : Type 0 where
   pub answer : Answer
   pub answer_is : IsCaseAnswer n case d answer
   pub of : IsReasonOf answer reason

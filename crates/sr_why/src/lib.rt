@@ -12,5 +12,5 @@ mod unlimited;
 mod whole;
 
 pub use laws::reasons_are_determined;
-pub use reason::{Reason, why};
+pub use reason::{Cause, why};
 pub use whole::WholeList;

@@ -20,7 +20,7 @@ use std::sync::ledger::Ledger;
 
 /// Why a case has no repair for a destination, or that it has one.
 #[derive(Debug, Drop)]
-pub enum Reason {
+pub enum Cause {
     /// There is a repair.
     Covered,
     /// The failure leaves no way to the destination; that many other nodes but the source are still reached.
@@ -38,7 +38,7 @@ fn without_path<L: Ledger>(
     case: Case,
     destination: NodeNo,
     steps: &mut Steps<L>,
-) -> Result<Reason, AllocError>
+) -> Result<Cause, AllocError>
     requires case { IsCase version.now.net.graph case }
     requires answer { IsCaseAnswer version.now.net case destination.0 NoPathLeft }
     ensures reason { IfOk result (IsReason version.now.net case destination.0) }
@@ -47,7 +47,7 @@ fn without_path<L: Ledger>(
     let net = version.net();
     let left = post(alloc, net, version.trees(), case, steps)?;
     let source = net.graph().edge(case.link).from;
-    Ok(Reason::NoPath {
+    Ok(Cause::NoPath {
         reached: reached_count(left.cells(), source),
     })
 }
@@ -59,7 +59,7 @@ fn without_list<L: Ledger>(
     case: Case,
     destination: NodeNo,
     steps: &mut Steps<L>,
-) -> Result<Reason, AllocError>
+) -> Result<Cause, AllocError>
     requires case { IsCase version.now.net.graph case }
     requires destination { destination.0 < node_count version.now.net.graph }
     requires answer { IsAffected version.now.net case destination.0
@@ -71,7 +71,7 @@ fn without_list<L: Ledger>(
     let left = post(alloc, version.net(), trees, case, steps)?;
     let labelled = labelled_net(alloc, version.net())?;
     let list = least_list(alloc, &labelled, trees, &left, case, destination)?;
-    Ok(Reason::NoList(list))
+    Ok(Cause::NoList(list))
 }
 
 /// What is told where the least list is too deep: that list.
@@ -81,7 +81,7 @@ fn too_deep<L: Ledger>(
     case: Case,
     destination: NodeNo,
     steps: &mut Steps<L>,
-) -> Result<Reason, AllocError>
+) -> Result<Cause, AllocError>
     requires case { IsCase version.now.net.graph case }
     requires destination { destination.0 < node_count version.now.net.graph }
     requires answer { IsAffected version.now.net case destination.0
@@ -93,7 +93,7 @@ fn too_deep<L: Ledger>(
     let left = post(alloc, version.net(), trees, case, steps)?;
     let unlimited = unlimited_net(alloc, version.net())?;
     let list = least_list(alloc, &unlimited, trees, &left, case, destination)?;
-    Ok(Reason::TooDeep(list))
+    Ok(Cause::TooDeep(list))
 }
 
 /// The reason of the answer. A search is counted unless the answer is a list.
@@ -104,7 +104,7 @@ fn reason_of<L: Ledger>(
     destination: NodeNo,
     answer: Answer<'_>,
     steps: &mut Steps<L>,
-) -> Result<Reason, AllocError>
+) -> Result<Cause, AllocError>
     requires case { IsCase version.now.net.graph case }
     requires destination { destination.0 < node_count version.now.net.graph }
     requires answer { IsAffected version.now.net case destination.0
@@ -113,7 +113,7 @@ fn reason_of<L: Ledger>(
     ensures searches { (steps.old ≤ steps.new) × (steps.new ≤ steps.old + 1) }
 {
     match answer {
-        Answer::Least(_) => Ok(Reason::Covered),
+        Answer::Least(_) => Ok(Cause::Covered),
         Answer::NoPath => without_path(alloc, version, case, destination, steps),
         Answer::NoList => without_list(alloc, version, case, destination, steps),
         Answer::TooDeep { .. } => too_deep(alloc, version, case, destination, steps),
@@ -128,12 +128,13 @@ pub fn why<L: Ledger>(
     case: Case,
     destination: NodeNo,
     steps: &mut Steps<L>,
-) -> Result<Option<Reason>, AllocError>
+) -> Result<Option<Cause>, AllocError>
     requires case { IsCase version.now.net.graph case }
     requires destination { destination.0 < node_count version.now.net.graph }
     ensures reason { IfOk result (λ found. MatchOption found
         (IsAffected version.now.net case destination.0 → ⊥)
-        (IsReason version.now.net case destination.0)) }
+        (λ reason. IsAffected version.now.net case destination.0
+        × IsReason version.now.net case destination.0 reason)) }
     ensures most { steps.new ≤ steps.old + 1 }
     ensures least { steps.old ≤ steps.new }
 {

@@ -45,6 +45,11 @@ fn refusals_are_printed(rt: HostRuntime) -> Result<(), AllocError> {
         ),
         (6, Refusal::NoProof, "refused 6 30 NoProof\n"),
         (7, Refusal::ProofFull, "refused 7 31 ProofFull\n"),
+        (
+            8,
+            Refusal::NoSuchVersion { version: 65_535 },
+            "refused 8 32 NoSuchVersion 65535\n",
+        ),
     ] {
         let mut out = Vec::new(rt.alloc());
         put_refused(line, &refusal, &mut out)?;

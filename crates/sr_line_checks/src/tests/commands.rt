@@ -90,7 +90,7 @@ const QUESTIONS: [(&str, &str); 12] = [
 ];
 
 /// Words alone, words of audits and of background work, and tables of a domain.
-const OTHERS: [(&str, &str); 19] = [
+const OTHERS: [(&str, &str); 22] = [
     ("audit", "Audit"),
     ("audit \tfull\r", "AuditFull"),
     ("hold", "Hold"),
@@ -119,6 +119,9 @@ const OTHERS: [(&str, &str); 19] = [
         "fails node 0000.0000.0005",
         "FailsNode { node: SystemId { value: 5 } }",
     ),
+    ("diff 1", "Diff { version: 1 }"),
+    ("diff\t00065535 ", "Diff { version: 65535 }"),
+    ("check\r", "Check"),
 ];
 
 /// The lines of a certificate but its rows and labels.

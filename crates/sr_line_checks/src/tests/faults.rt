@@ -84,7 +84,7 @@ const RANGES: [&str; 31] = [
 ];
 
 /// Names in another form, and too few or too many words.
-const COUNTS: [&str; 38] = [
+const COUNTS: [&str; 43] = [
     "dist 0000.0000.0001",
     "dist 0000.0000.001 0000.0000.0002",
     "next 0000.0000.0001 0000.0000.000g",
@@ -118,6 +118,11 @@ const COUNTS: [&str; 38] = [
     "fails link 0000.0000.0001",
     "fails node 0000.0000.001",
     "fails node 0000.0000.0001 1",
+    "diff",
+    "diff 0",
+    "diff 65536",
+    "diff 1 2",
+    "check 1",
     "spaces path 0000.0000.0001 0000.0000.0002 1 0000.0000.0004",
     "lsp",
     "lsp 00 00",

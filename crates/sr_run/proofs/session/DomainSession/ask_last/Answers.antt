@@ -15,8 +15,8 @@ ask-requires-clause-net g c = λ lifetimes bounds.
 
 pub returns : goal.returns
 returns g c =
-    carries-weaker (TellsOf (TellsQuestion c.args.question c.accepted.result.now) c.self.inside.current) _ _ _ _
+    carries-weaker (TellsOf (TellsQuestion c.args.question c.accepted.result.now c.self.inside.previous) c.self.inside.current) _ _ _ _
     (λ told is. question-told c.args.question c.args.self.now told c.requires.question
-    (subst (λ (s : State). TellsOf (TellsQuestion c.args.question s.editing.accepted) s.current told) c.self.view_is
-    (subst (λ (f : Facts). TellsOf (TellsQuestion c.args.question f) c.self.inside.current told) c.accepted.ensures.facts is)))
+    (subst (λ (s : State). TellsOf (TellsQuestion c.args.question s.editing.accepted s.previous) s.current told) c.self.view_is
+    (subst (λ (f : Facts). TellsOf (TellsQuestion c.args.question f c.self.inside.previous) c.self.inside.current told) c.accepted.ensures.facts is)))
     c.ask.ensures

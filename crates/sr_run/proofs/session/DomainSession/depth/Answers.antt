@@ -6,7 +6,7 @@ use Rattle.sr_run.proofs.session.DomainSession.depth.Goals as goal
 
 pub returns-clause-told : goal.returns-clause-told
 returns-clause-told c =
-    let old : State = record { editing = c.self.inside.editor; current = c.self.inside.current; draft = c.self.inside.draft } in
+    let old : State = record { editing = c.self.inside.editor; current = c.self.inside.current; previous = c.self.inside.previous; draft = c.self.inside.draft } in
     let staged = c.stage_depth-staged.result in
     carries-weaker (TellsStaged staged) _ _ _ _
     (λ told is. stages-told (SetDepth c.args.depth) old c.args.self.now c.stage_depth-staged.new.self staged told c.self.view_is c.stage_depth-staged.ensures is)

@@ -6,5 +6,5 @@ use Rattle.sr_run.proofs.session.DomainSession.proof_node.Goals as goal
 
 pub returns-clause-told : goal.returns-clause-told
 returns-clause-told c =
-    let old : State = record { editing = c.self.inside.editor; current = c.self.inside.current; draft = c.self.inside.draft } in
+    let old : State = record { editing = c.self.inside.editor; current = c.self.inside.current; previous = c.self.inside.previous; draft = c.self.inside.draft } in
     drafted-told (ProofNode c.args.system) (KeepsNode c.args.system) old c.args.self.now c.keep_node.new.draft _ _ _ (λ domain told next w. w) c.self.view_is c.keep_node.ensures.told

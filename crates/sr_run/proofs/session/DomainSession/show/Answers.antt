@@ -7,7 +7,7 @@ use Rattle.sr_run.proofs.session.DomainSession.show.Goals as goal
 
 pub returns : goal.returns
 returns c =
-    let old : State = record { editing = c.self.inside.editor; current = c.self.inside.current; draft = c.self.inside.draft } in
+    let old : State = record { editing = c.self.inside.editor; current = c.self.inside.current; previous = c.self.inside.previous; draft = c.self.inside.draft } in
     record {
       told = Show (record { version = c.last_number.result; nodes = c.size_of-size.result.nodes; links = c.size_of-size.result.links; depth = c.accepted.result.now.depth; staged = c.staged-staged.result });
       is = shows-told old c.args.self.now c.last_number.result c.size_of-size.result.nodes c.size_of-size.result.links c.accepted.result.now.depth c.staged-staged.result

@@ -1,7 +1,8 @@
-//! The version of the last accepted commit.
+//! The versions that a session keeps: those of the last two accepted commits.
 ghost use Rattle.std.specs.Prelude.{◌≡◌, Some, None, IfOk, MatchResult};
 ghost use Rattle.std.specs.Arc.{arc_value};
 ghost use Rattle.std.specs.Option.{option_map};
+ghost use Rattle.sr_run.specs.Differences.{numbered_of};
 ghost use Rattle.sr_run.specs.Domain.{number_of};
 ghost use Rattle.sr_run.specs.State.{HasAudit};
 
@@ -11,14 +12,13 @@ use std::alloc::{AllocError, Global};
 use std::marker::Model;
 use std::sync::Arc;
 
-/// The version of the last accepted commit, where there is one. Background work shares it. Contracts see the version
-/// alone.
+/// The version of an accepted commit, where there is one. Background work shares it. Contracts see the version alone.
 #[derive(Drop)]
-pub(crate) struct CurrentVersion {
+pub(crate) struct KeptVersion {
     shared: Option<Arc<Version>>,
 }
 
-impl Model for CurrentVersion {
+impl Model for KeptVersion {
     ghost use Rattle.std.specs.declared.option.Option.{Option};
     ghost use Rattle.std.specs.Option.{option_map};
     ghost use Rattle.std.specs.Arc.{arc_value};
@@ -29,20 +29,20 @@ impl Model for CurrentVersion {
     ghost view = { λ c. option_map (λ a. arc_value a) c.shared };
 }
 
-impl CurrentVersion {
+impl KeptVersion {
     /// There is none before the first commit.
-    pub(crate) fn none() -> CurrentVersion
+    pub(crate) fn none() -> KeptVersion
         ensures { result ≡ None }
     {
-        CurrentVersion { shared: None }
+        KeptVersion { shared: None }
     }
 
     /// This version, to be shared. Fails only out of memory.
-    pub(crate) fn new(alloc: Global, version: Version) -> Result<CurrentVersion, AllocError>
+    pub(crate) fn new(alloc: Global, version: Version) -> Result<KeptVersion, AllocError>
         ensures { IfOk result (λ current. current ≡ Some version) }
     {
         match Arc::new(alloc, version) {
-            Ok(shared) => Ok(CurrentVersion {
+            Ok(shared) => Ok(KeptVersion {
                 shared: Some(shared),
             }),
             Err(_) => Err(AllocError),
@@ -64,7 +64,7 @@ impl CurrentVersion {
 }
 
 /// The version of the last commit, or the refusal where nothing was committed yet.
-pub(crate) fn last_version(current: &CurrentVersion) -> Result<&Version, Refusal>
+pub(crate) fn last_version(current: &KeptVersion) -> Result<&Version, Refusal>
     ensures { MatchResult result
         (λ version. current.now ≡ Some version.now)
         (λ reason. (current.now ≡ None) × (reason ≡ Refusal.NoVersion)) }
@@ -72,6 +72,23 @@ pub(crate) fn last_version(current: &CurrentVersion) -> Result<&Version, Refusal
     match &current.shared {
         Some(shared) => Ok(&**shared),
         None => Err(Refusal::NoVersion),
+    }
+}
+
+/// Of a version and the one before it that of this number. None where neither has it.
+pub(crate) fn version_numbered<'a>(
+    previous: &'a KeptVersion,
+    version: &'a Version,
+    number: u32,
+) -> Option<&'a Version>
+    ensures { option_map (λ v. v.now) result ≡ numbered_of number previous.now version.now }
+{
+    if version.number() == number {
+        return Some(version);
+    }
+    match &previous.shared {
+        Some(shared) if shared.number() == number => Some(&**shared),
+        _ => None,
     }
 }
 
@@ -84,7 +101,7 @@ pub(crate) fn has_audit(version: &Version)
 }
 
 /// The number of the last version, and 0 before the first.
-pub(crate) fn last_number(current: &CurrentVersion) -> u32
+pub(crate) fn last_number(current: &KeptVersion) -> u32
     ensures { result ≡ number_of current.now }
 {
     match &current.shared {

@@ -1,5 +1,5 @@
 use Rattle.sr_audit.proofs.RestLemmas.{counts-there}
-use Rattle.sr_run.proofs.current.has_audit.Goals as goal
+use Rattle.sr_run.proofs.kept.has_audit.Goals as goal
 
 pub returns : goal.returns
 returns c = counts-there c.args.version.now.net c.net-net.ensures.net c.is_answered.ensures
