@@ -1,0 +1,134 @@
+#!/usr/bin/env python3
+"""Compares what `diff` answers with what the audits before and after it say.
+
+usage: bench/differences.py PROGRAM SCRIPT..
+
+After each `commit` of a script `links`, `audit full` and `diff` of the last two versions are asked, and before it
+`try diff` of the last one. From the lines of two audits, with links known by their ends and identities, the answer to
+`diff` is reckoned anew. The status is 1 where something differs.
+"""
+
+import re
+import subprocess
+import sys
+
+LINK = re.compile(r"\S+>\S+#\d+")
+
+
+def words(line):
+    return line.replace("\t", " ").rstrip("\r").split()
+
+
+def asking(lines):
+    """The script with these questions round each commit, a `show` before and behind each."""
+    out = []
+    for line in lines:
+        if words(line)[:1] in (["audit"], ["links"], ["show"], ["hold"], ["watch"], ["join"]):
+            continue
+        if words(line) != ["commit"]:
+            out.append(line)
+            continue
+        out += ["show", "TRY", "show", "commit", "show", "links", "show", "audit full", "show", "DIFF 1", "show", "DIFF 0", "show"]
+    return out
+
+
+def answers_of(program, lines):
+    """What stands between the answers to `show`, and the versions that these show."""
+    script = "\n".join(lines) + "\n"
+    ran = subprocess.run([program, "run"], input=script.encode("latin-1"), stdout=subprocess.PIPE, check=False)
+    if ran.returncode not in (0, 1):
+        sys.exit(f"the program ended with status {ran.returncode}")
+    text = ran.stdout.decode("latin-1")
+    pieces = re.split(r"(?m)^show version (\d+) .*\n", text)
+    return pieces[0::2], [int(it) for it in pieces[1::2]]
+
+
+def keys_of(links):
+    """Of the answer to `links` each link's name with its ends and its identity."""
+    found = {}
+    for line in links.splitlines():
+        if line.startswith("link "):
+            name = line.split()[1]
+            found[name] = name.split("#")[0] + " " + re.search(r" ident (.*) groups ", line)[1]
+    return found
+
+
+class Audit:
+    """The repairs of an audit, by names: each with its line, and what it says with links by their keys."""
+
+    def __init__(self, text, links):
+        keys = keys_of(links)
+        self.lines, self.said = {}, {}
+        for line in text.splitlines():
+            if line.startswith("repair ") and " uncovered " not in line:
+                plain = LINK.sub(lambda it: "<" + keys[it[0]] + ">", line)
+                name, said = plain.split(" via ", 1)
+                self.lines[name] = line
+                self.said[name] = said
+
+
+def diff_of(version, old, new):
+    """What `diff` is to answer of these audits."""
+    lost = [old.lines[name] for name in old.lines if name not in new.lines]
+    gained = [new.lines[name] for name in new.lines if name not in old.lines]
+    both = [name for name in new.lines if name in old.lines]
+    other = [name for name in both if old.said[name] != new.said[name]]
+    out = [f"lost {line}" for line in lost] + [f"gained {line}" for line in gained]
+    for name in other:
+        out += [f"was {old.lines[name]}", f"now {new.lines[name]}"]
+    out.append(f"diff version {version} lost {len(lost)} gained {len(gained)} other {len(other)} same {len(both) - len(other)}")
+    return "\n".join(out) + "\n"
+
+
+def compare(program, lines):
+    """How many answers were compared, and those that differ, each with what it is to be."""
+    asked = asking(lines)
+    blank = ["" if it in ("TRY",) or it.startswith("DIFF") else it for it in asked]
+    _, shown = answers_of(program, blank)
+    rounds = asked.count("TRY")
+    per = len(shown) // rounds if rounds else 0
+    before = [shown[k * per] for k in range(rounds)]
+    after = [shown[k * per + 2] for k in range(rounds)]
+    full, at = [], -1
+    for line in asked:
+        if line == "TRY":
+            at += 1
+            line = f"try diff {max(before[at], 1)}"
+        elif line.startswith("DIFF"):
+            line = f"diff {max(after[at] - int(line[-1]), 1)}"
+        full.append(line)
+    said, _ = answers_of(program, full)
+    count, wrong, audits = 0, [], {}
+    for k in range(rounds):
+        tried, _, links, audit, one, none = said[k * per + 1:k * per + 7]
+        if after[k] == 0:
+            continue
+        audits[after[k]] = Audit(audit, links)
+        old, new = max(after[k] - 1, 1), audits[after[k]]
+        wanted = [(one, diff_of(old, audits[old], new)), (none, diff_of(after[k], new, new))]
+        if after[k] == before[k] + 1 and before[k]:
+            wanted.append((tried, diff_of(before[k], audits[before[k]], new)))
+        for got, want in wanted:
+            count += 1
+            if got != want:
+                wrong.append((got, want))
+    return count, wrong
+
+
+def main():
+    program, scripts = sys.argv[1], sys.argv[2:]
+    total, bad = 0, 0
+    for script in scripts:
+        with open(script, encoding="latin-1") as it:
+            lines = it.read().split("\n")
+        count, wrong = compare(program, lines)
+        total += count
+        bad += len(wrong)
+        for got, want in wrong[:1]:
+            print(f"{script}: answered\n{got}\nwhere the audits say\n{want}")
+    print(f"{total} answers compared, {bad} differ")
+    sys.exit(bad > 0)
+
+
+if __name__ == "__main__":
+    main()
