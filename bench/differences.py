@@ -12,7 +12,7 @@ import re
 import subprocess
 import sys
 
-LINK = re.compile(r"\S+>\S+#\d+")
+LINK = re.compile(r"[0-9a-f.]+>[0-9a-f.]+#\d+")
 
 
 def words(line):

@@ -29,7 +29,7 @@ from scripts import octets, tlv
 RULES = "overload"
 
 # Raised where a seed makes another script than before, so that no log tells of scripts that weren't run.
-GENERATION = 2
+GENERATION = 3
 PATIENCE = 60
 LOGGED = 100
 
@@ -224,6 +224,18 @@ def spoilt_whole(text):
     return text
 
 
+def is_newer(line):
+    """Whether the line is `repair` without a destination, which independent programs don't know."""
+    words = re.sub(rb"\r$", b"", line).replace(b"\t", b" ").split(b" ")
+    words = [word for word in words if word]
+    return len(words) == 5 and words[0] == b"repair"
+
+
+def known(text):
+    """The text with remarks in place of such lines."""
+    return b"\n".join(b"#" + line if is_newer(line) else line for line in text.split(b"\n"))
+
+
 def made(seed):
     """The script of a seed."""
     draw.seed(seed)
@@ -235,7 +247,7 @@ def made(seed):
         often = draw.choice([0.05, 0.2, 0.6])
         lines = [spoilt_line(line) if draw.random() < often else line for line in lines]
     text = b"".join(line + b"\n" for line in lines)
-    return spoilt_whole(text) if sort > 0.85 else text
+    return known(spoilt_whole(text) if sort > 0.85 else text)
 
 
 class Model:

@@ -71,7 +71,8 @@ def differences(program, lines, seed):
         commit = parts[at + 1 + len(some)]
         after = parts[at + 2 + len(some):at + 2 + 2 * len(some)]
         for question, one, other in zip(some, before, after):
-            wanted = other if commit.startswith("version ") else commit
+            # words of a bad form are refused as such, whatever a commit would be
+            wanted = other if commit.startswith("version ") or plain(other) == "refused 2 BadForm\n" else commit
             compared += 1
             if plain(one) != plain(wanted):
                 found.append((question, one, wanted))
