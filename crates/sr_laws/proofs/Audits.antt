@@ -14,20 +14,20 @@ use Rattle.sr_laws.proofs.Answers.{case-answer-one}
 use Rattle.sr_laws.proofs.Stacks.{stack-one}
 use Rattle.sr_laws.proofs.Parts.{node_is}
 
-labels_one : (n : Net) (d : ℕ) (answer : Answer) (one two : List ℕ) → AreLabelsOf n d answer one → AreLabelsOf n d answer two → one ≡ two
+pub labels_one : (n : Net) (d : ℕ) (answer : Answer) (one two : List ℕ) → AreLabelsOf n d answer one → AreLabelsOf n d answer two → one ≡ two
 labels_one n d (Least list) one two p q =
     sym (reverse-reverse one) ∙ ap reverse (stack-one n d list.first.0 list.segments (reverse one) (reverse two) p q) ∙ reverse-reverse two
 labels_one n d NoPath one two p q = p ∙ sym q
 labels_one n d NoList one two p q = p ∙ sym q
 labels_one n d (TooDeep k) one two p q = p ∙ sym q
 
-item_is : (a b : Item) → a.case ≡ b.case → a.dest ≡ b.dest → a.answer ≡ b.answer → a.labels ≡ b.labels → a ≡ b
+pub item_is : (a b : Item) → a.case ≡ b.case → a.dest ≡ b.dest → a.answer ≡ b.answer → a.labels ≡ b.labels → a ≡ b
 item_is a b c d e f =
     let q : record { case = a.case; dest = a.dest; answer = a.answer; labels = a.labels } ≡ record { case = b.case; dest = b.dest; answer = b.answer; labels = b.labels } = rw (c, d, e, f) refl in
     q
 
 -- a case and a destination have one item
-item_one : (n : Net) (a b : Item) → IsItem n a → IsItem n b → a.case ≡ b.case → a.dest.0 ≡ b.dest.0 → a ≡ b
+pub item_one : (n : Net) (a b : Item) → IsItem n a → IsItem n b → a.case ≡ b.case → a.dest.0 ≡ b.dest.0 → a ≡ b
 item_one n a b p q c d =
     let answer : IsCaseAnswer n b.case b.dest.0 a.answer = subst (λ k. IsCaseAnswer n b.case k a.answer) d (subst (λ (k : Case). IsCaseAnswer n k a.dest.0 a.answer) c p.answer) in
     let same : a.answer ≡ b.answer = case-answer-one n b.case b.dest.0 a.answer b.answer answer q.answer in

@@ -1,5 +1,5 @@
 -- Kept trees and kept cases: rows, next hops, affected destinations and answers are those of the new net, by key.
-use Rattle.std.proofs.Common.{◌≡◌, ◌≢◌, ℕ, ◌+◌, ◌<◌, ◌≤◌, ⊎_elim, Bool, List, [], ◌∷◌, ◌++◌, length, refl, arith, ap, sym, ◌∙◌, subst}
+use Rattle.std.proofs.Common.{◌≡◌, ◌≢◌, ℕ, ◌+◌, ◌<◌, ◌≤◌, ◌⊎◌, ⊎_elim, inl, inr, Bool, List, [], ◌∷◌, ◌++◌, length, refl, arith, ap, sym, ◌∙◌, subst}
 use Rattle.std.specs.Prelude.{slice_index, ◌↔◌}
 use Rattle.std.proofs.lemmas.Bool.{cases_lt, cases_eq}
 use Rattle.sr_model.specs.declared.case.Case.{Case}
@@ -13,7 +13,7 @@ use Rattle.sr_model.specs.declared.repair.Answer.TheVariants.{Least, NoPath, NoL
 use Rattle.sr_model.specs.Key.{KeyLt}
 use Rattle.sr_model.specs.Graph.{Graph, node_count, link_count, link_at, tail, head, IsGraph, IsLink, IsNamed}
 use Rattle.sr_model.specs.Walk.{IsOnWay, IsWalk, cost, IsDistance, IsNextHop, IsRow}
-use Rattle.sr_model.specs.Case.{IsAffected, key_at, IsFailedSet, IsOutside, source_of}
+use Rattle.sr_model.specs.Case.{Touches, IsAffected, key_at, IsFailedSet, IsOutside, source_of}
 use Rattle.sr_model.specs.Label.{Net}
 use Rattle.sr_model.specs.Rule.{IsNet}
 use Rattle.sr_model.specs.Repair.{Fits, path_of, IsAnswer, IsCaseAnswer}
@@ -22,7 +22,9 @@ use Rattle.sr_walks.proofs.Walks.{IsWalk-append, cost-append, Begins, begins-sel
 use Rattle.sr_walks.proofs.Distances.{distance-self, distance-from_shortest, IsShortest-from_cost, walk-into}
 use Rattle.sr_laws.proofs.Keys.{KeyLt-trans, KeyLt-irrefl, key-one, nodes-same, name-ends, pairs-agree, IsPairSet}
 use Rattle.sr_walks.proofs.Rows.{Keeps, AreLike, AgreeOnLoad, agree-sym, way-kept, row-one, row-stays}
-use Rattle.sr_laws.proofs.KeptLists.{in_row, TreeStays, tree-sym, OnWay, Stays, AreSegmentsAlike}
+use Rattle.sr_laws.specs.Steady.{IsSameFar, IsSteadyCase, KeepsStep, pivot_of}
+use Rattle.sr_laws.proofs.Pivots.{far-sym, lie-at_pivot, pivot-by_ends, pivot-known, pivot-within, step-by_pivot}
+use Rattle.sr_laws.proofs.KeptLists.{in_row, step-by_tree, TreeStays, tree-sym, OnWay, Stays, AreSegmentsAlike}
 use Rattle.sr_laws.proofs.KeptOrder.{Ordered, length-alike, least-kept, none-kept}
 use Rattle.sr_laws.proofs.Failures.{failed-one, failed-pairs}
 use Rattle.sr_laws.proofs.Changes.{AreVersions, NamesAgree, keeps-there, keeps-back}
@@ -122,20 +124,73 @@ fits-back n m s k same f =
     same
 
 module _ (n m : Net) (case : Case) (nn : IsNet n) (nm : IsNet m) (c : IsKeptCase n m case) where
+  v : AreVersions n.graph m.graph
+  v = record { old = nn.graph; new = nm.graph; named = nn.named; named' = nm.named; same = c.nodes }
+
+  nodes_at : node_count m.graph ≡ node_count n.graph
+  nodes_at = nodes-same n.graph m.graph c.nodes
+
+  source_in : tail n.graph case.link.0 < node_count n.graph
+  source_in = let a : IsLink n.graph (link_at n.graph case.link.0) = nn.graph.each case.link.0 c.within in a.0
+
+  s_tree : TreeStays n.graph m.graph (tail n.graph case.link.0)
+  s_tree = kept-tree n.graph m.graph v (tail n.graph case.link.0) source_in c.tree
+
+  ends_at : (tail m.graph c.link.0 ≡ tail n.graph case.link.0) × (head m.graph c.link.0 ≡ head n.graph case.link.0)
+  ends_at = name-ends n.graph m.graph nn.graph nm.graph nn.named nm.named c.nodes case.link.0 c.link.0 c.protected
+
+  -- the same destinations are affected
+  pub affected_there : (d : ℕ) → d < node_count n.graph → IsAffected n case d → IsAffected m (case_with case c.link) d
+  affected_there d within a = record {
+    index = sym (c.index d within a.outside a.hop) ∙ a.index;
+    outside = record { source = λ e. a.outside.source (e ∙ ends_at.0); failed = λ is e. a.outside.failed is (e ∙ ends_at.1) };
+    hop =
+        let r = hop-stays n.graph m.graph nn.graph c.nodes.overloaded nodes_at (tail n.graph case.link.0) d case.link.0 source_in within s_tree a.hop in
+        let same : r.0 ≡ c.link.0 = key-one m.graph nm.named r.0 c.link.0 r.1 c.protected.1 (ap (λ j. j.key) r.2 ∙ sym c.protected.2) in
+        rw ends_at.0 (subst (λ j. IsNextHop m.graph [] (tail n.graph case.link.0) d j) same r.3);
+  }
+
+  pub affected_back : (d : ℕ) → d < node_count n.graph → IsAffected m (case_with case c.link) d → IsAffected n case d
+  affected_back d within a =
+      let r = hop-stays m.graph n.graph nm.graph (agree-sym n.graph m.graph nodes_at c.nodes.overloaded) (sym nodes_at) (tail n.graph case.link.0) d c.link.0 (omega (arith, nodes_at, source_in)) (omega (arith, nodes_at)) (tree-sym n.graph m.graph (tail n.graph case.link.0) s_tree) (subst (λ j. IsNextHop m.graph [] j d c.link.0) ends_at.0 a.hop) in
+      let same : r.0 ≡ case.link.0 = key-one n.graph nn.named r.0 case.link.0 r.1 c.protected.0 (ap (λ j. j.key) r.2 ∙ c.protected.2) in
+      let hop : IsNextHop n.graph [] (tail n.graph case.link.0) d case.link.0 = subst (λ j. IsNextHop n.graph [] (tail n.graph case.link.0) d j) same r.3 in
+      let outside : IsOutside n.graph case d = record { source = λ e. a.outside.source (e ∙ sym ends_at.0); failed = λ is e. a.outside.failed is (e ∙ sym ends_at.1) } in
+      record { index = c.index d within outside hop ∙ a.index; outside = outside; hop = hop }
+
+-- a case that stays is steady
+abbrev pub steady-from_kept : (n m : Net) → IsNet n → IsNet m → (case : Case) → IsKeptCase n m case → IsSteadyCase n m case
+steady-from_kept n m nn nm case c = record {
+  within = c.within;
+  nodes = c.nodes;
+  link = c.link;
+  protected = c.protected;
+  x = c.x;
+  y = c.y;
+  failed = c.failed;
+  failed' = c.failed';
+  pairs = c.pairs;
+  depth = c.depth;
+  affected = λ d within. (affected_there n m case nn nm c d within, affected_back n m case nn nm c d within);
+  post = c.post;
+  row = c.row;
+  idle = c.idle;
+  segments = λ w within on. record { index = (c.way w within on).index; adj = (c.way w within on).adj };
+  steps = λ u v at to on more other. inl (c.way u at on).tree;
+}
+
+module _ (n m : Net) (case : Case) (nn : IsNet n) (nm : IsNet m) (c : IsSteadyCase n m case) where
   source : ℕ
   source = source_of n.graph case
 
-  v : AreVersions n.graph m.graph
-  v = record { old = nn.graph; new = nm.graph; named = nn.named; named' = nm.named; same = c.nodes }
+  v0 : AreVersions n.graph m.graph
+  v0 = record { old = nn.graph; new = nm.graph; named = nn.named; named' = nm.named; same = c.nodes }
 
   pub nodes_same : node_count m.graph ≡ node_count n.graph
   nodes_same = nodes-same n.graph m.graph c.nodes
 
   pub source_within : tail n.graph case.link.0 < node_count n.graph
   source_within = let a : IsLink n.graph (link_at n.graph case.link.0) = nn.graph.each case.link.0 c.within in a.0
-
-  s_tree : TreeStays n.graph m.graph (tail n.graph case.link.0)
-  s_tree = kept-tree n.graph m.graph v (tail n.graph case.link.0) source_within c.tree
 
   pub ends : (tail m.graph c.link.0 ≡ tail n.graph case.link.0) × (head m.graph c.link.0 ≡ head n.graph case.link.0)
   ends = name-ends n.graph m.graph nn.graph nm.graph nn.named nm.named c.nodes case.link.0 c.link.0 c.protected
@@ -150,10 +205,10 @@ module _ (n m : Net) (case : Case) (nn : IsNet n) (nm : IsNet m) (c : IsKeptCase
   agree = pairs-agree n.graph c.x m.graph c.y px py c.pairs
 
   there : Keeps n.graph c.x m.graph c.y c.post
-  there = keeps-there n.graph m.graph v c.x c.y c.post px agree c.idle
+  there = keeps-there n.graph m.graph v0 c.x c.y c.post px agree c.idle
 
   back : Keeps m.graph c.y n.graph c.x c.post
-  back = keeps-back n.graph m.graph v c.x c.y c.post py agree c.pairs c.idle
+  back = keeps-back n.graph m.graph v0 c.x c.y c.post py agree c.pairs c.idle
 
   -- the row after the failure is that of the new net
   pub post-stays : IsRow m.graph c.y (tail n.graph case.link.0) c.post
@@ -161,22 +216,42 @@ module _ (n m : Net) (case : Case) (nn : IsNet n) (nm : IsNet m) (c : IsKeptCase
 
   -- the same destinations are affected
   pub affected-there : (d : ℕ) → d < node_count n.graph → IsAffected n case d → IsAffected m (case_with case c.link) d
-  affected-there d within a = record {
-    index = sym (c.index d within a.outside a.hop) ∙ a.index;
-    outside = record { source = λ e. a.outside.source (e ∙ ends.0); failed = λ is e. a.outside.failed is (e ∙ ends.1) };
-    hop =
-        let r = hop-stays n.graph m.graph nn.graph c.nodes.overloaded nodes_same (tail n.graph case.link.0) d case.link.0 source_within within s_tree a.hop in
-        let same : r.0 ≡ c.link.0 = key-one m.graph nm.named r.0 c.link.0 r.1 c.protected.1 (ap (λ j. j.key) r.2 ∙ sym c.protected.2) in
-        rw ends.0 (subst (λ j. IsNextHop m.graph [] (tail n.graph case.link.0) d j) same r.3);
-  }
+  affected-there d within a = (c.affected d within).0 a
 
   pub affected-back : (d : ℕ) → d < node_count n.graph → IsAffected m (case_with case c.link) d → IsAffected n case d
-  affected-back d within a =
-      let r = hop-stays m.graph n.graph nm.graph (agree-sym n.graph m.graph nodes_same c.nodes.overloaded) (sym nodes_same) (tail n.graph case.link.0) d c.link.0 (omega (arith, nodes_same, source_within)) (omega (arith, nodes_same)) (tree-sym n.graph m.graph (tail n.graph case.link.0) s_tree) (subst (λ j. IsNextHop m.graph [] j d c.link.0) ends.0 a.hop) in
-      let same : r.0 ≡ case.link.0 = key-one n.graph nn.named r.0 case.link.0 r.1 c.protected.0 (ap (λ j. j.key) r.2 ∙ c.protected.2) in
-      let hop : IsNextHop n.graph [] (tail n.graph case.link.0) d case.link.0 = subst (λ j. IsNextHop n.graph [] (tail n.graph case.link.0) d j) same r.3 in
-      let outside : IsOutside n.graph case d = record { source = λ e. a.outside.source (e ∙ sym ends.0); failed = λ is e. a.outside.failed is (e ∙ sym ends.1) } in
-      record { index = c.index d within outside hop ∙ a.index; outside = outside; hop = hop }
+  affected-back d within a = (c.affected d within).1 a
+
+  -- the node at which the failed links lie is the same
+  pivot_same : pivot_of m.graph (case_with case c.link) ≡ pivot_of n.graph case
+  pivot_same = pivot-by_ends n.graph m.graph case.kind case.link.0 c.link.0 ends.0 ends.1
+
+  pivot_in : pivot_of n.graph case < node_count n.graph
+  pivot_in = let k : IsLink n.graph (link_at n.graph case.link.0) = nn.graph.each case.link.0 c.within in pivot-within n.graph case.kind case.link.0 k.0 k.1
+
+  -- a step of a list leads on in the new net, and one of the new net in the old one
+  step_there : (u v : ℕ) → u < node_count n.graph → v < node_count n.graph → IsKeptTree n.graph m.graph u ⊎ (IsSameFar n.graph m.graph u (pivot_of n.graph case) × IsSameFar n.graph m.graph (pivot_of n.graph case) v) → KeepsStep n.graph c.x m.graph c.y (tail n.graph case.link.0) u v × KeepsStep m.graph c.y n.graph c.x (tail n.graph case.link.0) u v
+  step_there u v at to how =
+      let load : AgreeOnLoad m.graph n.graph = agree-sym n.graph m.graph nodes_same c.nodes.overloaded in
+      ⊎_elim
+      (λ tree.
+      let t : TreeStays n.graph m.graph u = kept-tree n.graph m.graph v0 u at tree in (
+        step-by_tree n.graph c.x m.graph c.y (tail n.graph case.link.0) u v nm.graph load t nodes_same (λ i j p q e. agree i j (p, q, ap (λ k. k.key) e)) at to,
+        step-by_tree m.graph c.y n.graph c.x (tail n.graph case.link.0) u v nn.graph c.nodes.overloaded (tree-sym n.graph m.graph u t) (sym nodes_same) (λ i j p q e. sym (agree j i (q, p, ap (λ k. k.key) (sym e)))) (omega (arith, nodes_same)) (omega (arith, nodes_same)),
+      ))
+      (λ far. (
+        step-by_pivot n.graph c.x m.graph c.y (tail n.graph case.link.0) (pivot_of n.graph case) c.post nn.graph nm.graph c.nodes.overloaded c.row post-stays there nodes_same pivot_in
+            (λ l lw failed. subst (λ k. Touches m.graph l k) pivot_same (lie-at_pivot m.graph nm.graph nm.named (case_with case c.link) c.y c.protected.1 c.failed' l lw failed))
+            (pivot-known n.graph case c.x c.failed)
+            u v at to far.0 far.1,
+        step-by_pivot m.graph c.y n.graph c.x (tail n.graph case.link.0) (pivot_of n.graph case) c.post nm.graph nn.graph load post-stays c.row back (sym nodes_same) (omega (arith, nodes_same, pivot_in))
+            (λ l lw failed. lie-at_pivot n.graph nn.graph nn.named case c.x c.within c.failed l lw failed)
+            (⊎_elim
+            (λ own. inl (sym pivot_same ∙ own ∙ ends.0))
+            (λ all. inr (λ l lw touch. all l lw (subst (λ k. Touches m.graph l k) (sym pivot_same) touch)))
+            (pivot-known m.graph (case_with case c.link) c.y c.failed'))
+            u v (omega (arith, nodes_same)) (omega (arith, nodes_same)) (far-sym n.graph m.graph u (pivot_of n.graph case) far.0) (far-sym n.graph m.graph (pivot_of n.graph case) v far.1),
+      ))
+      how
 
   -- what one destination needs
   pub stays-at : (d : ℕ) → d < node_count n.graph → IsAffected n case d → Stays n c.x m c.y (tail n.graph case.link.0) d c.post
@@ -191,11 +266,11 @@ module _ (n m : Net) (case : Case) (nn : IsNet n) (nm : IsNet m) (c : IsKeptCase
     there = there;
     back = back;
     same = λ i j p q e. agree i j (p, q, ap (λ t. t.key) e);
-    trees = λ w inside o. kept-tree n.graph m.graph v w inside (c.way w inside (d, a, on-way n.graph c.x (tail n.graph case.link.0) d w o)).tree;
-    index = λ w inside o. (c.way w inside (d, a, on-way n.graph c.x (tail n.graph case.link.0) d w o)).index;
+    steps = λ u v at to o p other. step_there u v at to (c.steps u v at to (d, a, on-way n.graph c.x (tail n.graph case.link.0) d u o) (d, a, on-way n.graph c.x (tail n.graph case.link.0) d v p) other);
+    index = λ w inside o. (c.segments w inside (d, a, on-way n.graph c.x (tail n.graph case.link.0) d w o)).index;
     adj = λ i j p q o e.
         let b : IsLink n.graph (link_at n.graph i) = nn.graph.each i p in
-        (c.way (tail n.graph i) b.0 (d, a, on-way n.graph c.x (tail n.graph case.link.0) d (tail n.graph i) o)).adj i j (p, q, ap (λ t. t.key) e) refl;
+        (c.segments (tail n.graph i) b.0 (d, a, on-way n.graph c.x (tail n.graph case.link.0) d (tail n.graph i) o)).adj i j (p, q, ap (λ t. t.key) e) refl;
   }
 
   -- the distance after the failure stays
@@ -302,11 +377,11 @@ hop-there g h gg ng gh nh u w l at within t hop =
     let inside : l < link_count g = hop.shortest.0.0 in
     (r.0, (inside, r.1, ap (λ j. j.key) r.2))
 
-pub affected-same : (n m : Net) → IsNet n → IsNet m → (case : Case) → (c : IsKeptCase n m case) → (d : ℕ) → d < node_count n.graph → IsAffected n case d ↔ IsAffected m (case_with case c.link) d
+pub affected-same : (n m : Net) → IsNet n → IsNet m → (case : Case) → (c : IsSteadyCase n m case) → (d : ℕ) → d < node_count n.graph → IsAffected n case d ↔ IsAffected m (case_with case c.link) d
 affected-same n m nn nm case c d within = (affected-there n m case nn nm c d within, affected-back n m case nn nm c d within)
 
 -- the old answer with the links of the new net is the new answer
-pub answer-renumbered : (n m : Net) → IsNet n → IsNet m → (case : Case) → (c : IsKeptCase n m case) → (d : ℕ) → d < node_count n.graph → IsAffected n case d → (a b : Answer) → IsCaseAnswer n case d a → IsSameAnswer n.graph m.graph a b → IsCaseAnswer m (case_with case c.link) d b
+pub answer-renumbered : (n m : Net) → IsNet n → IsNet m → (case : Case) → (c : IsSteadyCase n m case) → (d : ℕ) → d < node_count n.graph → IsAffected n case d → (a b : Answer) → IsCaseAnswer n case d a → IsSameAnswer n.graph m.graph a b → IsCaseAnswer m (case_with case c.link) d b
 answer-renumbered n m nn nm case c d within af a b old same =
     let r = answer-kept n m case nn nm c d within af a (subst (λ j. IsAnswer n j (tail n.graph case.link.0) d a) (failed-one n.graph case old.failed c.x old.set c.failed) old.answers) in
     let ends = name-ends n.graph m.graph nn.graph nm.graph nn.named nm.named c.nodes case.link.0 c.link.0 c.protected in
@@ -318,7 +393,7 @@ answer-renumbered n m nn nm case c d within af a b old same =
     }
 
 -- so what was kept is what is computed afresh
-pub answers-same : (n m : Net) → IsNet n → IsNet m → (case : Case) → (c : IsKeptCase n m case) → (d : ℕ) → d < node_count n.graph → IsAffected n case d → (a b : Answer) → IsCaseAnswer n case d a → IsCaseAnswer m (case_with case c.link) d b → IsSameAnswer n.graph m.graph a b
+pub answers-same : (n m : Net) → IsNet n → IsNet m → (case : Case) → (c : IsSteadyCase n m case) → (d : ℕ) → d < node_count n.graph → IsAffected n case d → (a b : Answer) → IsCaseAnswer n case d a → IsCaseAnswer m (case_with case c.link) d b → IsSameAnswer n.graph m.graph a b
 answers-same n m nn nm case c d within af a b old new =
     let r = answer-kept n m case nn nm c d within af a (subst (λ j. IsAnswer n j (tail n.graph case.link.0) d a) (failed-one n.graph case old.failed c.x old.set c.failed) old.answers) in
     let ends = name-ends n.graph m.graph nn.graph nm.graph nn.named nm.named c.nodes case.link.0 c.link.0 c.protected in
@@ -327,7 +402,7 @@ answers-same n m nn nm case c d within af a b old new =
     subst (λ j. IsSameAnswer n.graph m.graph a j) same r.1
 
 -- the row after the failure is that of the new net
-pub post-same : (n m : Net) → IsNet n → IsNet m → (case : Case) → (c : IsKeptCase n m case) → (x y : List Bool) → IsFailedSet n.graph case x → IsFailedSet m.graph (case_with case c.link) y → (cells : List ℕ) → IsRow n.graph x (source_of n.graph case) cells → IsRow m.graph y (source_of m.graph (case_with case c.link)) cells
+pub post-same : (n m : Net) → IsNet n → IsNet m → (case : Case) → (c : IsSteadyCase n m case) → (x y : List Bool) → IsFailedSet n.graph case x → IsFailedSet m.graph (case_with case c.link) y → (cells : List ℕ) → IsRow n.graph x (source_of n.graph case) cells → IsRow m.graph y (source_of m.graph (case_with case c.link)) cells
 post-same n m nn nm case c x y sx sy cells row =
     let ex : x ≡ c.x = failed-one n.graph case x c.x sx c.failed in
     let ey : c.y ≡ y = failed-one m.graph (case_with case c.link) c.y y c.failed' sy in

@@ -1,5 +1,5 @@
 -- Sound lists that outlast a change of links.
-use Rattle.std.proofs.Common.{◌≡◌, ℕ, ◌+◌, ◌<◌, ⊎_elim, Bool, false, true, List, [], ◌∷◌, ◌++◌, refl, arith, ap, sym, ◌∙◌, subst}
+use Rattle.std.proofs.Common.{◌≡◌, ◌≢◌, ℕ, ◌+◌, ◌<◌, ⊎_elim, Bool, false, true, List, [], ◌∷◌, ◌++◌, refl, arith, ap, sym, ◌∙◌, subst}
 use Rattle.std.specs.Prelude.{slice_index, is_some}
 use Rattle.std.proofs.lemmas.Bool.{cases_lt}
 use Rattle.std.proofs.lemmas.List.Elements.{All-nil, All-cons, All-head, All-tail}
@@ -12,10 +12,11 @@ use Rattle.sr_model.specs.declared.link.TheConstants.{FAR}
 use Rattle.sr_model.specs.declared.repair.Segment.{Segment}
 use Rattle.sr_model.specs.declared.repair.Segment.TheVariants.{Adj, Node}
 use Rattle.sr_walks.proofs.Walks.{IsWalk-append, cost-append, carries-clear, passes-clear, passes-join, Begins, begins-self, begins-passes}
-use Rattle.sr_walks.proofs.Distances.{distance-unique, distance-from_shortest, IsShortest-from_cost}
+use Rattle.sr_walks.proofs.Distances.{distance-self, distance-unique, distance-from_shortest, IsShortest-from_cost}
+use Rattle.sr_laws.specs.Steady.{KeepsStep}
 use Rattle.sr_laws.proofs.Waypoints.{Routes, IsRouted, routed-from_sound, sound-from_routed, space-walk, last-walk}
 use Rattle.sr_laws.proofs.Exact.{routes-walk, distance-before}
-use Rattle.sr_walks.proofs.Rows.{Keeps, AreLike, AgreeOnLoad, agree-sym, carries-agree, way-kept}
+use Rattle.sr_walks.proofs.Rows.{Keeps, AreLike, AgreeOnLoad, carries-agree, way-kept}
 
 -- alike links are in both sets or in neither
 abbrev pub Agrees : Graph → List Bool → Graph → List Bool → Type 0
@@ -69,6 +70,17 @@ InP-stays g x h y u v graph agree t nodes same at within inside =
           like-avoids g x h y same u r.0 v u q v r.1 s.0 r.3 (inside.avoids r.0 shortest);
     }
 
+-- a step from a node whose tree stays
+pub step-by_tree : (g : Graph) (x : List Bool) (h : Graph) (y : List Bool) (s u v : ℕ) → IsGraph h → AgreeOnLoad h g → TreeStays g h u → node_count h ≡ node_count g → Agrees g x h y → u < node_count g → v < node_count g → KeepsStep g x h y s u v
+step-by_tree g x h y s u v graph agree t nodes same at within a e above far whole carry inside goes =
+    (InP-stays g x h y u v graph agree t nodes same at within inside, distance-stays g h u v e t nodes within goes)
+
+-- a node with a distance above 0 isn't the source
+not-source : (g : Graph) (x : List Bool) (s u a : ℕ) → 0 < a → IsDistance g x s u a → u ≢ s
+not-source g x s u a above far e =
+    let zero : a ≡ 0 = distance-unique g x s s a 0 (subst (λ k. IsDistance g x s k a) e far) (distance-self g x s) in
+    absurd (omega (arith, zero, above))
+
 -- w stands on a shortest walk without x from s to d: the sum is right, and w is s, or d, or isn't overloaded
 pub record OnWay (g : Graph) (x : List Bool) (s d w : ℕ) : Type 0 where
   pub far : ℕ
@@ -89,7 +101,7 @@ pub record Stays (n : Net) (x : List Bool) (m : Net) (y : List Bool) (s d : ℕ)
   pub there : Keeps n.graph x m.graph y post
   pub back : Keeps m.graph y n.graph x post
   pub same : Agrees n.graph x m.graph y
-  pub trees : (w : ℕ) → w < node_count n.graph → OnWay n.graph x s d w → TreeStays n.graph m.graph w
+  pub steps : (u v : ℕ) → u < node_count n.graph → v < node_count n.graph → OnWay n.graph x s d u → OnWay n.graph x s d v → u ≢ s → KeepsStep n.graph x m.graph y s u v × KeepsStep m.graph y n.graph x s u v
   pub index : (w : ℕ) → w < node_count n.graph → OnWay n.graph x s d w → (labels_at n w).index ≡ (labels_at m w).index
   pub adj : (l k : ℕ) → l < link_count n.graph → k < link_count m.graph → OnWay n.graph x s d (tail n.graph l) → link_at m.graph k ≡ link_at n.graph l → adj_at n l ≡ adj_at m k
 
@@ -115,9 +127,9 @@ link-kept g x h y s post l a graph row keeps within outside d e =
     let to : (slice_index post (head g l) < FAR) × (slice_index post (head g l) ≡ a + metric g l) = in_row g x s (head g l) (a + metric g l) post row k.1 e in
     ⊎_elim (λ kept. kept) (λ idle. absurd (⊎_elim (λ far. omega (arith, far)) (λ more. omega (arith, more.1)) idle)) (keeps l within outside)
 
-leads-kept : (n : Net) (x : List Bool) (m : Net) (y : List Bool) (s d : ℕ) (post : List ℕ) → Stays n x m y s d post → (u a : ℕ) (ss : List Segment) (w c e : ℕ) → u < node_count n.graph → IsDistance n.graph x s u a → Routes n x u ss w c → carries n.graph d w ≡ true → InP n.graph x w d → IsDistance n.graph [] w d e → IsDistance n.graph x s d (a + (c + e)) → (ts : List Segment) × AreSegmentsAlike n.graph m.graph ss ts × Routes m y u ts w c
-leads-kept n x m y s d post st u a [] w c e at far leads free ends goes whole = ([], refl, leads)
-leads-kept n x m y s d post st u a (Node v ∷ ss) w c e at far leads free ends goes whole =
+leads-kept : (n : Net) (x : List Bool) (m : Net) (y : List Bool) (s d : ℕ) (post : List ℕ) → Stays n x m y s d post → (u a : ℕ) (ss : List Segment) (w c e : ℕ) → 0 < a → u < node_count n.graph → IsDistance n.graph x s u a → Routes n x u ss w c → carries n.graph d w ≡ true → InP n.graph x w d → IsDistance n.graph [] w d e → IsDistance n.graph x s d (a + (c + e)) → (ts : List Segment) × AreSegmentsAlike n.graph m.graph ss ts × Routes m y u ts w c
+leads-kept n x m y s d post st u a [] w c e above at far leads free ends goes whole = ([], refl, leads)
+leads-kept n x m y s d post st u a (Node v ∷ ss) w c e above at far leads free ends goes whole =
     let q = last-walk n.graph x w d e free ends goes in
     let p = routes-walk n x v.0 ss w leads.1 leads.7 in
     let hop = space-walk n.graph x u v.0 leads.0 leads.5 leads.6 in
@@ -135,8 +147,8 @@ leads-kept n x m y s d post st u a (Node v ∷ ss) w c e at far leads free ends 
       whole = subst (λ k. IsDistance n.graph x s d k) (omega arith) whole';
     } in
     let on_v : OnWay n.graph x s d v.0 = record { far = a + leads.0; rest = leads.1 + e; to = far'; from = (p.0 ++ q.0, after, after_cost, begins-passes n.graph s v.0 (p.0 ++ q.0) pass); whole = whole' } in
-    let t : TreeStays n.graph m.graph u = st.trees u at on_u in
-    let r = leads-kept n x m y s d post st v.0 (a + leads.0) ss w leads.1 e leads.3 far' leads.7 free ends goes whole' in (
+    let step = (st.steps u v.0 at leads.3 on_u on_v (not-source n.graph x s u a above far)).0 a leads.0 above far far' (carries-clear n.graph v.0 u leads.9) leads.5 leads.6 in
+    let r = leads-kept n x m y s d post st v.0 (a + leads.0) ss w leads.1 e (omega (arith, above)) leads.3 far' leads.7 free ends goes whole' in (
       Node v ∷ r.0,
       (refl, r.1),
       (
@@ -145,14 +157,14 @@ leads-kept n x m y s d post st u a (Node v ∷ ss) w c e at far leads free ends 
         subst (λ o. is_some o ≡ true) (st.index v.0 leads.3 on_v) leads.2,
         omega (arith, st.nodes, leads.3),
         leads.4,
-        InP-stays n.graph x m.graph y u v.0 st.graph' (agree-sym n.graph m.graph st.nodes st.agree) t st.nodes st.same at leads.3 leads.5,
-        distance-stays n.graph m.graph u v.0 leads.0 t st.nodes leads.3 leads.6,
+        step.0,
+        step.1,
         r.2,
         leads.8,
         sym (st.agree u at) ∙ leads.9,
       ),
     )
-leads-kept n x m y s d post st u a (Adj l ∷ ss) w c e at far leads free ends goes whole =
+leads-kept n x m y s d post st u a (Adj l ∷ ss) w c e above at far leads free ends goes whole =
     let q = last-walk n.graph x w d e free ends goes in
     let p = routes-walk n x (head n.graph l.0) ss w leads.0 leads.5 in
     let after : IsWalk n.graph x (head n.graph l.0) (p.0 ++ q.0) d = IsWalk-append n.graph x (head n.graph l.0) p.0 w q.0 d p.1 q.1 q.3 in
@@ -175,7 +187,7 @@ leads-kept n x m y s d post st u a (Adj l ∷ ss) w c e at far leads free ends g
     let to : head m.graph kept.0 ≡ head n.graph l.0 = ap (λ k. k.to.0) kept.3 in
     let from : tail m.graph kept.0 ≡ tail n.graph l.0 = ap (λ k. k.from.0) kept.3 in
     let cost_same : metric m.graph kept.0 ≡ metric n.graph l.0 = ap (λ k. k.metric) kept.3 in
-    let r = leads-kept n x m y s d post st (head n.graph l.0) (a + metric n.graph l.0) ss w leads.0 e inside.1 far' leads.5 free ends goes whole' in
+    let r = leads-kept n x m y s d post st (head n.graph l.0) (a + metric n.graph l.0) ss w leads.0 e (omega (arith, above)) inside.1 far' leads.5 free ends goes whole' in
     let label : adj_at n l.0 ≡ adj_at m kept.0 = st.adj l.0 kept.0 leads.1 kept.1 (rw begins on_u) kept.3 in (
       Adj (record { 0 = kept.0 }) ∷ r.0,
       ((leads.1, kept.1, kept.3), r.1),
@@ -204,12 +216,14 @@ routed-kept n x m y s d post st within a i =
     let to : head m.graph kept.0 ≡ head n.graph a.first = ap (λ j. j.to.0) kept.3 in
     let from : tail m.graph kept.0 ≡ tail n.graph a.first = ap (λ j. j.from.0) kept.3 in
     let same_cost : metric m.graph kept.0 ≡ metric n.graph a.first = ap (λ j. j.metric) kept.3 in
-    let r = leads-kept n x m y s d post st (head n.graph a.first) (metric n.graph a.first) a.segments i.last i.middle i.rest k.1 first_far i.leads i.free i.ends i.goes_on whole in
+    let r = leads-kept n x m y s d post st (head n.graph a.first) (metric n.graph a.first) a.segments i.last i.middle i.rest k.2 k.1 first_far i.leads i.free i.ends i.goes_on whole in
     let last_within : i.last < node_count n.graph = leads-within n x (head n.graph a.first) a.segments i.last i.middle st.graph k.1 i.leads in
     let last_far : IsDistance n.graph x s i.last (metric n.graph a.first + i.middle) =
     distance-before n.graph x s i.last d (metric n.graph a.first + i.middle) i.rest (a.first ∷ p.0) (i.within, i.outside, i.begins, p.1, p.3) (omega (arith, p.2)) q.0 q.1 q.2 q.3 i.fits in
     let on_last : OnWay n.graph x s d i.last = record { far = metric n.graph a.first + i.middle; rest = i.rest; to = last_far; from = (q.0, q.1, q.2, begins-passes n.graph s i.last q.0 q.3); whole = i.fits } in
-    let t : TreeStays n.graph m.graph i.last = st.trees i.last last_within on_last in
+    let on_d : OnWay n.graph x s d d = record { far = metric n.graph a.first + i.middle + i.rest; rest = 0; to = i.fits; from = ([], refl, refl, begins-passes n.graph s d [] tt); whole = subst (λ j. IsDistance n.graph x s d j) (omega arith) i.fits } in
+    let above : 0 < metric n.graph a.first + i.middle = omega (arith, k.2) in
+    let step = (st.steps i.last d last_within within on_last on_d (not-source n.graph x s i.last (metric n.graph a.first + i.middle) above last_far)).0 (metric n.graph a.first + i.middle) i.rest above last_far i.fits i.free i.ends i.goes_on in
     let d_row : (slice_index post d < FAR) × (slice_index post d ≡ metric n.graph a.first + i.middle + i.rest) = in_row n.graph x s d _ post st.row within i.fits in (
       record { first = kept.0; segments = r.0 },
       record {
@@ -221,8 +235,8 @@ routed-kept n x m y s d post st within a i =
         rest = i.rest;
         leads = rw to r.2;
         free = sym (carries-agree n.graph m.graph st.agree d i.last last_within) ∙ i.free;
-        ends = InP-stays n.graph x m.graph y i.last d st.graph' (agree-sym n.graph m.graph st.nodes st.agree) t st.nodes st.same last_within within i.ends;
-        goes_on = distance-stays n.graph m.graph i.last d i.rest t st.nodes within i.goes_on;
+        ends = step.0;
+        goes_on = step.1;
         fits = subst (λ j. IsDistance m.graph y s d j) (omega (arith, d_row.1)) ((st.row'.each d (omega (arith, st.nodes))).near d_row.0);
       },
       (i.within, kept.1, kept.3),

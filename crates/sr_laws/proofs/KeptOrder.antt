@@ -9,7 +9,7 @@ use Rattle.sr_model.specs.declared.link.TheConstants.{FAR}
 use Rattle.sr_model.specs.declared.repair.Segment.{Segment}
 use Rattle.sr_model.specs.declared.repair.Segment.TheVariants.{Adj, Node}
 use Rattle.sr_walks.proofs.Rows.{agree-sym, like-begins, way-kept}
-use Rattle.sr_laws.proofs.KeptLists.{in_row, tree-sym, OnWay, Stays, AreLinksAlike, AreSegmentsAlike, sound-kept}
+use Rattle.sr_laws.proofs.KeptLists.{in_row, OnWay, Stays, AreLinksAlike, AreSegmentsAlike, sound-kept}
 
 -- the links that are alike stand in one order, and each has one like
 pub record Ordered (g h : Graph) : Type 0 where
@@ -114,7 +114,9 @@ stays-sym n x m y s d post st inside =
       there = st.back;
       back = st.there;
       same = λ l k a b e. sym (st.same k l b a (sym e));
-      trees = λ w within o. tree-sym n.graph m.graph w (st.trees w (omega (arith, st.nodes)) (way-sym n x m y s d post st w within inside' o));
+      steps = λ u v at to o p other.
+          let r = st.steps u v (omega (arith, st.nodes)) (omega (arith, st.nodes)) (way-sym n x m y s d post st u at inside' o) (way-sym n x m y s d post st v to inside' p) other in
+          (r.1, r.0);
       index = λ w within o. sym (st.index w (omega (arith, st.nodes)) (way-sym n x m y s d post st w within inside' o));
       adj = λ l k a b o e. sym (st.adj k l b a (subst (λ j. OnWay n.graph x s d j) (ap (λ j. j.from.0) (sym e)) (way-sym n x m y s d post st (tail m.graph l) ((st.graph'.each l a).0) inside' o)) (sym e));
     }

@@ -12,10 +12,11 @@ use Rattle.sr_model.specs.Case.{IsAffected, IsFailedSet, IsOnRepairWay}
 use Rattle.sr_model.specs.Label.{Labels, Net, labels_at, nameless}
 use Rattle.sr_model.specs.Rule.{IsNet}
 use Rattle.sr_model.specs.Repair.{IsAnswer, IsCaseAnswer}
-use Rattle.sr_model.specs.Stay.{HaveSameName, IsKeptTree, IsKeptCase, case_with, IsSameAnswer}
+use Rattle.sr_model.specs.Stay.{HaveSameName, IsKeptTree, case_with, IsSameAnswer}
 use Rattle.sr_walks.proofs.Walks.{cost-append, walk-end, walk-within, Begins, begins-self, begins-passes}
 use Rattle.sr_walks.proofs.Distances.{shortest-cut, distance-from_shortest}
 use Rattle.sr_walks.proofs.Rows.{agree-sym}
+use Rattle.sr_laws.specs.Steady.{IsSteadyCase}
 use Rattle.sr_laws.proofs.Keys.{nodes-same}
 use Rattle.sr_laws.proofs.KeptLists.{TreeStays, tree-sym, OnWay, Stays}
 use Rattle.sr_laws.proofs.KeptOrder.{way-sym, stays-sym}
@@ -32,7 +33,7 @@ hop-old g h gg ng gh nh u w k at within t hop =
     (r.0, (r.1, inside, ap (λ j. j.key) (sym r.2)))
 
 -- the old answer has its like
-pub answer-there : (n m : Net) → IsNet n → IsNet m → (case : Case) → (c : IsKeptCase n m case) → (d : ℕ) → d < node_count n.graph → IsAffected n case d → (a : Answer) → IsCaseAnswer n case d a → (b : Answer) × IsSameAnswer n.graph m.graph a b
+pub answer-there : (n m : Net) → IsNet n → IsNet m → (case : Case) → (c : IsSteadyCase n m case) → (d : ℕ) → d < node_count n.graph → IsAffected n case d → (a : Answer) → IsCaseAnswer n case d a → (b : Answer) × IsSameAnswer n.graph m.graph a b
 answer-there n m nn nm case c d within af a old =
     let r = answer-kept n m case nn nm c d within af a (subst (λ j. IsAnswer n j (tail n.graph case.link.0) d a) (failed-one n.graph case old.failed c.x old.set c.failed) old.answers) in
     (r.0, r.1)
@@ -68,7 +69,7 @@ off-way g x s d w o =
       whole = subst (λ j. IsDistance g x s d j) (omega (arith, cost-append g o.before o.after)) whole;
     }
 
-module _ (n m : Net) (case : Case) (nn : IsNet n) (nm : IsNet m) (c : IsKeptCase n m case) where
+module _ (n m : Net) (case : Case) (nn : IsNet n) (nm : IsNet m) (c : IsSteadyCase n m case) where
   way_there : (w : ℕ) → IsOnRepairWay n case c.x w → IsOnRepairWay m (case_with case c.link) c.y w
   way_there w on =
       let d_within : on.0 < node_count n.graph = index-within n on.0 nn on.1.index in
@@ -90,7 +91,7 @@ module _ (n m : Net) (case : Case) (nn : IsNet n) (nm : IsNet m) (c : IsKeptCase
       (on.0, af, on-way n.graph c.x (tail n.graph case.link.0) on.0 w o)
 
 -- the same nodes stand on repair ways
-pub ways-same : (n m : Net) → IsNet n → IsNet m → (case : Case) → (c : IsKeptCase n m case) → (x y : List Bool) → IsFailedSet n.graph case x → IsFailedSet m.graph (case_with case c.link) y → (w : ℕ) → IsOnRepairWay n case x w ↔ IsOnRepairWay m (case_with case c.link) y w
+pub ways-same : (n m : Net) → IsNet n → IsNet m → (case : Case) → (c : IsSteadyCase n m case) → (x y : List Bool) → IsFailedSet n.graph case x → IsFailedSet m.graph (case_with case c.link) y → (w : ℕ) → IsOnRepairWay n case x w ↔ IsOnRepairWay m (case_with case c.link) y w
 ways-same n m nn nm case c x y sx sy w =
     let ex : x ≡ c.x = failed-one n.graph case x c.x sx c.failed in
     let ey : y ≡ c.y = failed-one m.graph (case_with case c.link) y c.y sy c.failed' in (

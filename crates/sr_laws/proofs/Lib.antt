@@ -25,3 +25,4 @@ pub mod Steering
 pub mod KeptWays
 pub mod StacksThere
 pub mod Places
+pub mod Pivots

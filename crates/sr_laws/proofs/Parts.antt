@@ -2,7 +2,6 @@
 use Rattle.std.proofs.Common.{◌≡◌, ◌⊎◌, inl, inr, Bool, true, false, refl}
 use Rattle.sr_model.specs.declared.link.LinkNo.{LinkNo}
 use Rattle.sr_model.specs.declared.link.NodeNo.{NodeNo}
-use Rattle.sr_model.specs.declared.name.LinkKey.{LinkKey}
 
 -- links of the same number are the same
 pub link_is : (a b : LinkNo) → a.0 ≡ b.0 → a ≡ b

@@ -1,7 +1,7 @@
 -- The test of keys is their order, and a key has one place among those announced.
 use Rattle.std.proofs.Common.{◌≡◌, ℕ, zero, suc, ◌+◌, ◌-◌, ◌<◌, ◌⊎◌, ⊎_elim, inl, inr, Bool, true, false, cond, List, [], ◌∷◌, refl, arith, ap, ◌∙◌, Option, Some, None, eq-eqb}
 use Rattle.std.proofs.lemmas.Option.{same_Some}
-use Rattle.std.specs.Prelude.{slice_get, filter, nat_lt, ◌==◌, ◌&&◌, if◌then◌else◌}
+use Rattle.std.specs.Prelude.{slice_get, map, filter, nat_lt, ◌==◌, ◌&&◌, if◌then◌else◌}
 use Rattle.std.specs.declared.cmp.Ordering.{Ordering}
 use Rattle.std.specs.declared.cmp.Ordering.TheVariants.{Less, Equal, Greater}
 use Rattle.std.specs.Ordering.{is_eq}
@@ -22,6 +22,12 @@ equal-from Greater e = absurd {0} (cc)
 
 pub key-told : (a b : LinkKey) → (same_key a b ≡ true → a ≡ b) × (a ≡ b → same_key a b ≡ true)
 key-told a b = (λ e. key-from_cmp a b (equal-from (key_cmp a b) e), λ e. ap is_eq (key_cmp-same a b e))
+
+-- ---- what stands in a mapped list is the image of what stood there
+pub map-from : {A B : Type 0} (f : A → B) (xs : List A) (i : ℕ) (b : B) → slice_get (map f xs) i ≡ Some b → (a : A) × (slice_get xs i ≡ Some a) × (f a ≡ b)
+map-from f [] i b e = absurd {0} (cc)
+map-from f (x ∷ xs) zero b e = (x, refl, cc)
+map-from f (x ∷ xs) (suc i) b e = map-from f xs i b e
 
 -- ---- what a filter keeps stands in the same order
 module _ {A : Type 0} where
@@ -67,7 +73,7 @@ module _ {A : Type 0} where
       (pick_two (f y) y (filter f ys) i j u v lt e h)
 
 -- ---- places
-get_from : (b : Bool) (o : Option LinkKey) (k : LinkKey) → (if b then o else None) ≡ Some k → (b ≡ true) × (o ≡ Some k)
+pub get_from : (b : Bool) (o : Option LinkKey) (k : LinkKey) → (if b then o else None) ≡ Some k → (b ≡ true) × (o ≡ Some k)
 get_from true o k e = (refl, e)
 get_from false o k e = absurd {0} (cc)
 
@@ -76,7 +82,7 @@ place-get keys k n is =
     let r = get_from (nat_lt 0 n) (slice_get (keys_between keys k.from k.to) (n - 1)) k is in
     (ltb-true 0 n r.0, r.1)
 
-place-at : (keys : List LinkKey) (k : LinkKey) (j : ℕ) → slice_get (keys_between keys k.from k.to) j ≡ Some k → IsPlace keys k (j + 1)
+pub place-at : (keys : List LinkKey) (k : LinkKey) (j : ℕ) → slice_get (keys_between keys k.from k.to) j ≡ Some k → IsPlace keys k (j + 1)
 place-at keys k j is =
     let above : nat_lt 0 (j + 1) ≡ true = lt-ltb 0 (j + 1) (omega arith) in
     let before : j + 1 - 1 ≡ j = omega arith in

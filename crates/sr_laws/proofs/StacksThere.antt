@@ -11,7 +11,7 @@ use Rattle.sr_model.specs.Repair.{Leads, Path, IsSound}
 use Rattle.sr_model.specs.Forward.{Crossing, IsLabels, IsStack}
 use Rattle.sr_laws.proofs.Parts.{true_or}
 
-some-of : (o : Option ℕ) → is_some o ≡ true → (i : ℕ) × (o ≡ Some i)
+pub some-of : (o : Option ℕ) → is_some o ≡ true → (i : ℕ) × (o ≡ Some i)
 some-of None e = absurd {0} (cc)
 some-of (Some i) e = (i, refl)
 

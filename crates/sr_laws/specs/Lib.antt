@@ -6,3 +6,4 @@ pub mod Tables
 pub mod Auditing
 pub mod Keys
 pub mod Exact
+pub mod Steady

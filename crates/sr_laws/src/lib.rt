@@ -9,6 +9,7 @@ ghost use Rattle.sr_laws.specs.Order.{ListsAreOrdered, OrderIsStrict, LeastLists
 ghost use Rattle.sr_laws.specs.Labels.{IndicesHaveLabels, LabelsHaveIndices, IndicesAreUnique, LabelsAreFree, AcceptedNetsAreNets};
 ghost use Rattle.sr_laws.specs.Keys.{KeysAreOrdered, KeysAreTold, PairsAgree, PlacesAreUnique};
 ghost use Rattle.sr_laws.specs.Staying.{RowsStay, NextHopsStay, NextHopsAreThere, NextHopsAreOld, PostRowsStay, AffectedStay, RepairWaysStay, AnswersStay, AnswersAreThere, AnswersCarryOver, NothingChangesInItself, NetsAreUnchanged, UnchangedTreesStay, UnchangedCasesStay};
+ghost use Rattle.sr_laws.specs.Steady.{KeptCasesAreSteady, SteadyRowsStay, SteadyWaysStay, SteadyAnswersStay};
 
 /// Every sound list delivers, whichever equal-cost link each node takes, and the way of the packet is loop-free.
 pub fn sound_lists_deliver()
@@ -85,6 +86,15 @@ pub fn answers_stay()
     ensures answers { AnswersStay }
     ensures there { AnswersAreThere }
     ensures carried { AnswersCarryOver }
+{}
+
+/// Steady cases have the same distances after the failure, nodes on repair ways and answers. Cases that stay are steady, and
+/// others too: on their walks a tree may change elsewhere.
+pub fn steady_cases_stay()
+    ensures kept { KeptCasesAreSteady }
+    ensures rows { SteadyRowsStay }
+    ensures ways { SteadyWaysStay }
+    ensures answers { SteadyAnswersStay }
 {}
 
 /// Where nothing changed, each tree and each case stays; nothing changes from a graph or a net to itself.
