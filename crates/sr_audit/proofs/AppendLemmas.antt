@@ -14,12 +14,6 @@ get-append (y ∷ xs) ys (suc k) x e = ⊎_elim
     (λ h. inr (h.0, omega (arith, h.1), h.2))
     (get-append xs ys k x e)
 
--- an item of the first list
-pub get-left : {X : Type 0} (xs ys : List X) (k : ℕ) (x : X) → slice_get xs k ≡ Some x → slice_get (xs ++ ys) k ≡ Some x
-get-left [] ys k x e = absurd (cc)
-get-left (y ∷ xs) ys zero x e = e
-get-left (y ∷ xs) ys (suc k) x e = get-left xs ys k x e
-
 -- an item of the second list
 pub get-right : {X : Type 0} (xs ys : List X) (j k : ℕ) (x : X) → k ≡ length xs + j → slice_get ys j ≡ Some x → slice_get (xs ++ ys) k ≡ Some x
 get-right [] ys j k x at e = let same : j ≡ k = omega (arith, at) in subst (λ i. slice_get ys i ≡ Some x) same e

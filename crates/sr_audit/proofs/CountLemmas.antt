@@ -33,7 +33,7 @@ counted n case test (a ∷ answers) (x ∷ items) zip =
     omega (arith, one, two, more, here)
 
 -- two counts are one where they are so sort by sort
-counts-one : (a b : Counts) → a.covered ≡ b.covered → a.nopath ≡ b.nopath → a.nolist ≡ b.nolist → a.toodeep ≡ b.toodeep → a ≡ b
+pub counts-one : (a b : Counts) → a.covered ≡ b.covered → a.nopath ≡ b.nopath → a.nolist ≡ b.nolist → a.toodeep ≡ b.toodeep → a ≡ b
 counts-one a b c d e f =
     let q : record { covered = a.covered; nopath = a.nopath; nolist = a.nolist; toodeep = a.toodeep } ≡ record { covered = b.covered; nopath = b.nopath; nolist = b.nolist; toodeep = b.toodeep } = rw (c, d, e, f) refl in
     q

@@ -1,5 +1,5 @@
 -- The labels of a certificate, from one segment on.
-use Rattle.std.proofs.Common.{◌≡◌, ℕ, zero, suc, ◌+◌, ◌-◌, ◌<◌, ◌≤◌, Bool, List, [], ◌∷◌, ◌++◌, length, drop, drop-cons, reverse, refl, arith, ap, sym, ◌∙◌, subst}
+use Rattle.std.proofs.Common.{◌≡◌, ℕ, suc, ◌+◌, ◌-◌, ◌<◌, ◌≤◌, Bool, List, [], ◌∷◌, ◌++◌, length, drop, drop-cons, reverse, refl, arith, ap, sym, ◌∙◌, subst}
 use Rattle.std.specs.Prelude.{◌↔◌, slice_index}
 use Rattle.std.proofs.lemmas.Option.{same_Some}
 use Rattle.std.proofs.lemmas.List.{length-append, length-reverse, get_or-reverse}
@@ -10,10 +10,11 @@ use Rattle.sr_model.specs.Graph.{head}
 use Rattle.sr_model.specs.Label.{Net, IsLabel}
 use Rattle.sr_model.specs.Forward.{IsLabels}
 use Rattle.sr_laws.proofs.Stacks.{label-same}
-use Rattle.sr_repair.specs.Stack.{segment_at, goes_to, IsSegmentLabel, CanLabel, HaveLabels}
+use Rattle.sr_repair.specs.Stack.{segment_at, goes_to, IsSegmentLabel, HaveLabels}
 use Rattle.sr_cert.specs.Clauses.{AreUsable}
 use Rattle.sr_cert.specs.Walked.{AreSegmentsWithin, last_segment}
 use Rattle.sr_cert.proofs.WalkedLemmas.{drop-segment, drop-all}
+use Rattle.sr_repair.proofs.StackLemmas.{have-cons}
 
 -- a segment has one label at a node
 pub segment-label-one : (n : Net) (u : ℕ) (s : Segment) (a b : ℕ) → IsSegmentLabel n u s a → IsSegmentLabel n u s b → a ≡ b
@@ -57,12 +58,8 @@ labels-end n ss k le ge u d labels e =
     rw (drop-all ss k le ge, drop-number (reverse labels) k (omega (arith, e, length-reverse labels)), last, from-top labels k 0 (omega (arith, e)))
     ((λ a. a.0, λ b. (b, refl)))
 
-have_cons : (n : Net) (s : Segment) (ss : List Segment) → CanLabel n s → HaveLabels n ss → HaveLabels n (s ∷ ss)
-have_cons n s ss here rest zero lt = here
-have_cons n s ss here rest (suc k) lt = rest k (omega arith)
-
 -- segments that may be used have labels
 pub usable-labels : (n : Net) (x : List Bool) (u : ℕ) (ss : List Segment) → AreUsable n x u ss → AreSegmentsWithin n ss → HaveLabels n ss
 usable-labels n x u [] a b = λ k lt. absurd (omega arith)
-usable-labels n x u (Node v ∷ ss) a b = have_cons n (Node v) ss (b 0 (omega arith), a.0) (usable-labels n x v.0 ss a.2 (λ k lt. b (suc k) (omega arith)))
-usable-labels n x u (Adj l ∷ ss) a b = have_cons n (Adj l) ss (b 0 (omega arith), a.2) (usable-labels n x (head n.graph l.0) ss a.3 (λ k lt. b (suc k) (omega arith)))
+usable-labels n x u (Node v ∷ ss) a b = have-cons n (Node v) ss (b 0 (omega arith), a.0) (usable-labels n x v.0 ss a.2 (λ k lt. b (suc k) (omega arith)))
+usable-labels n x u (Adj l ∷ ss) a b = have-cons n (Adj l) ss (b 0 (omega arith), a.2) (usable-labels n x (head n.graph l.0) ss a.3 (λ k lt. b (suc k) (omega arith)))

@@ -56,7 +56,7 @@ pub rows-few : (s : Segment) → rows_of s ≤ 2
 rows-few (Node v) = omega arith
 rows-few (Adj l) = omega arith
 
--- so many rows the headings ask for
+-- how many rows the headings ask for
 pub headings-length : (g : Graph) (u : ℕ) (ss : List Segment) (d : ℕ) → length (headings g u ss d) ≡ rows_asked ss
 headings-length g u [] d = refl
 headings-length g u (Node v ∷ ss) d = omega (arith, headings-length g v.0 ss d)
@@ -97,7 +97,7 @@ goes-on-drop n c (row ∷ rows) lt = (λ a. a, λ a. a)
 pub asked-begin : (n : Net) (c : Certificate) → HasRows n c → 1 + rows_asked c.segments ≡ length c.rows
 asked-begin n c has = omega (arith, has.count, headings-length n.graph (begin_of n c) c.segments c.dest.0)
 
--- a place stands where so many rows are left as the segments from number k on ask for
+-- a place stands where as many rows are left as the segments from number k on ask for
 abbrev pub Stands : List Segment → ℕ → ℕ → List (List ℕ) → Type 0
 Stands ss k place rows = place + rows_asked (drop k ss) ≡ length rows
 

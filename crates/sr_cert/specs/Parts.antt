@@ -3,7 +3,7 @@ use Rattle.std.specs.Prelude.{◌≡◌, ℕ, List, [], ◌∷◌, ◌++◌, Boo
 use Rattle.sr_model.specs.declared.repair.Segment.{Segment}
 use Rattle.sr_cert.specs.declared.draft.CertLine.{CertLine}
 use Rattle.sr_cert.specs.declared.draft.CertLine.TheVariants.{Via, Row}
-use Rattle.sr_cert.specs.declared.parts.Parts.{Parts}
+use Rattle.sr_cert.specs.declared.parts.Pieces.{Pieces}
 use Rattle.sr_cert.specs.Draft.{segment_line}
 
 -- the lines of segments, and behind them those of rows
@@ -17,10 +17,10 @@ IsPutWith lines line false segments rows =
     (rest : List CertLine) (s : List Segment) (r : List (List ℕ)) → body_lines s r ≡ lines ++ line ∷ rest → ⊥
 
 -- the lines of a first link, segments and rows
-abbrev pub part_lines : Parts → List CertLine
+abbrev pub part_lines : Pieces → List CertLine
 part_lines p = Via p.first ∷ body_lines p.segments p.rows
 
 -- the parts whose lines these are, or none where they are those of no parts
-abbrev pub ArePartsOf : List CertLine → Option Parts → Type 0
-ArePartsOf lines None = (p : Parts) → part_lines p ≡ lines → ⊥
+abbrev pub ArePartsOf : List CertLine → Option Pieces → Type 0
+ArePartsOf lines None = (p : Pieces) → part_lines p ≡ lines → ⊥
 ArePartsOf lines (Some p) = part_lines p ≡ lines

@@ -10,7 +10,7 @@ use std::alloc::{AllocError, Global};
 
 /// What the lines of a certificate say between the one that opens it and its labels.
 #[derive(Drop)]
-pub(crate) struct Parts {
+pub(crate) struct Pieces {
     pub(crate) first: LinkNo,
     pub(crate) segments: Seq<Segment>,
     pub(crate) rows: Seq<Seq<u64>>,
@@ -53,7 +53,7 @@ fn put_line(
 }
 
 /// The parts that the lines say. None exactly where they aren't a first link, then segments, then rows.
-pub(crate) fn parts_of(alloc: Global, lines: Vec<CertLine>) -> Result<Option<Parts>, AllocError>
+pub(crate) fn parts_of(alloc: Global, lines: Vec<CertLine>) -> Result<Option<Pieces>, AllocError>
     ensures { IfOk result (ArePartsOf lines.items) }
 {
     let mut behind = lines.into_iter();
@@ -68,7 +68,7 @@ pub(crate) fn parts_of(alloc: Global, lines: Vec<CertLine>) -> Result<Option<Par
             return Ok(None);
         }
     }
-    Ok(Some(Parts {
+    Ok(Some(Pieces {
         first,
         segments,
         rows,

@@ -21,18 +21,13 @@ use Rattle.sr_labels.proofs.Places.{stands-moved, apart-moved, not_less}
 use Rattle.sr_insight.specs.declared.group.Group.{Group}
 use Rattle.sr_insight.specs.declared.grouping.Grouping.{Grouping}
 use Rattle.sr_insight.specs.Groups.{coverage, group_of, items_in, AreGroups}
-use Rattle.sr_coverage.specs.Counting.{HasRoom, with_answer, AreWithin, group_for, no_group, AreCounted, IsNoLaterGroup, AreInOrder}
+use Rattle.sr_coverage.specs.Counting.{CanCountMore, with_answer, AreInGroups, group_for, no_group, AreCounted, IsNoLaterGroup, AreGroupsInOrder}
 use Rattle.sr_coverage.proofs.WithinLemmas.{group-within}
-
--- two counts are one where they are so sort by sort
-counts-same : (a b : Counts) → a.covered ≡ b.covered → a.nopath ≡ b.nopath → a.nolist ≡ b.nolist → a.toodeep ≡ b.toodeep → a ≡ b
-counts-same a b c d e f =
-    let q : record { covered = a.covered; nopath = a.nopath; nolist = a.nolist; toodeep = a.toodeep } ≡ record { covered = b.covered; nopath = b.nopath; nolist = b.nolist; toodeep = b.toodeep } = rw (c, d, e, f) refl in
-    q
+use Rattle.sr_audit.proofs.CountLemmas.{counts-one}
 
 -- the counts of one item more
 counts-push : (xs : List Item) (x : Item) → counts_of (xs ++ x ∷ []) ≡ with_answer (counts_of xs) x.answer
-counts-push xs x = counts-same (counts_of (xs ++ x ∷ [])) (with_answer (counts_of xs) x.answer)
+counts-push xs x = counts-one (counts_of (xs ++ x ∷ [])) (with_answer (counts_of xs) x.answer)
     (sum_by_push (λ (i : Item). cond (is_least i.answer) 1 0) xs x)
     (sum_by_push (λ (i : Item). cond (is_no_path i.answer) 1 0) xs x)
     (sum_by_push (λ (i : Item). cond (is_no_list i.answer) 1 0) xs x)
@@ -74,7 +69,7 @@ counted-push grouping g xs x groups place are own within = record {
 }
 
 -- the counts of fewer than 2^32 items have room for one more
-pub counts-room : (grouping : Grouping) (g : Graph) (items : List Item) (i k : ℕ) → i < length items → length items < 2 ^ 32 → HasRoom (counts_of (items_in grouping g (take i items) k))
+pub counts-room : (grouping : Grouping) (g : Graph) (items : List Item) (i k : ℕ) → i < length items → length items < 2 ^ 32 → CanCountMore (counts_of (items_in grouping g (take i items) k))
 counts-room grouping g items i k lt few =
     let kept = items_in grouping g (take i items) k in
     let passed = λ (x : Item). eqb (group_of grouping g x) k in
@@ -97,11 +92,11 @@ group_order : IsStrictWeakOrder group_lt
 group_order = ranks_by (then_total (on_total (λ (a : Group). coverage a.counts) nat_cmp_total) (on_total (λ (a : Group). a.number) nat_cmp_total)) (λ (a : Group). a)
 
 -- groups that are sorted are in order
-pub in_order-sorted : (list : List Group) → IsSortedBy group_lt list → AreInOrder list
+pub in_order-sorted : (list : List Group) → IsSortedBy group_lt list → AreGroupsInOrder list
 in_order-sorted list sorted j k le w = not_less _ _ _ _ (sorted_far group_lt group_order list sorted j k no_group le w)
 
 -- sorted, the groups of an audit are those that are told
-pub groups-sorted : (grouping : Grouping) (g : Graph) (items : List Item) (xs ys : List Group) → AreCounted grouping g items xs → IsPermutation xs ys → AreInOrder ys → AreGroups grouping g items ys
+pub groups-sorted : (grouping : Grouping) (g : Graph) (items : List Item) (xs ys : List Group) → AreCounted grouping g items xs → IsPermutation xs ys → AreGroupsInOrder ys → AreGroups grouping g items ys
 groups-sorted grouping g items xs ys are moved order =
     let back : IsPermutation ys xs = IsPermutation-sym xs ys moved in
     record {
@@ -129,5 +124,5 @@ groups-sorted grouping g items xs ys are moved order =
     }
 
 -- the items of an audit are in groups
-pub audit-within : (n : Net) (grouping : Grouping) (items : List Item) → IsNet n → IsAudit n items → AreWithin grouping n.graph items
+pub audit-within : (n : Net) (grouping : Grouping) (items : List Item) → IsNet n → IsAudit n items → AreInGroups grouping n.graph items
 audit-within n grouping items net audit k item e = ((audit.each k item e).within, group-within n grouping item net (audit.each k item e))

@@ -21,12 +21,13 @@ use Rattle.sr_model.specs.Repair.{IsCaseAnswer}
 use Rattle.sr_model.specs.Rule.{IsNet}
 use Rattle.sr_insight.specs.declared.stack_count.StackCount.{StackCount}
 use Rattle.sr_insight.specs.Stacks.{pushes, AreStackCounts}
-use Rattle.sr_audit.proofs.AppendLemmas.{get-append, get-left, get-right}
+use Rattle.sr_audit.proofs.AppendLemmas.{get-append, get-right}
 use Rattle.sr_coverage.proofs.PushesLemmas.{pushes-from, pushes-least, pushes-rank, pushes-many}
-use Rattle.sr_coverage.specs.Pushed.{IsWide, AreNarrow, slot_of, AreTallied, row_slot, AreRowsOf}
+use Rattle.sr_coverage.specs.Pushed.{IsWide, AreNarrow, pushed_slot, AreTallied, row_slot, AreRowsOf}
+use Rattle.sr_spf.proofs.HopsLemmas.{get_left}
 
 -- a slot of the table
-pub slot-within : (w : ℕ) (kind : Kind) (labels : ℕ) → labels < w → slot_of w kind labels < 3 * w
+pub slot-within : (w : ℕ) (kind : Kind) (labels : ℕ) → labels < w → pushed_slot w kind labels < 3 * w
 slot-within w LinkKind labels lt = omega arith
 slot-within w NodeKind labels lt = omega arith
 slot-within w RiskKind labels lt = omega arith
@@ -35,7 +36,7 @@ slot-within w RiskKind labels lt = omega arith
 abbrev IsOneSlot : Kind → Kind → ℕ → ℕ → Type 0
 IsOneSlot a b i j = (rank_of a ≡ rank_of b) × (i ≡ j)
 
-slot-one : (w : ℕ) (a b : Kind) (i j : ℕ) → i < w → j < w → slot_of w a i ≡ slot_of w b j → IsOneSlot a b i j
+slot-one : (w : ℕ) (a b : Kind) (i j : ℕ) → i < w → j < w → pushed_slot w a i ≡ pushed_slot w b j → IsOneSlot a b i j
 slot-one w LinkKind LinkKind i j li lj e = (refl, omega arith)
 slot-one w LinkKind NodeKind i j li lj e = absurd (omega arith)
 slot-one w LinkKind RiskKind i j li lj e = absurd (omega arith)
@@ -47,7 +48,7 @@ slot-one w RiskKind NodeKind i j li lj e = absurd (omega arith)
 slot-one w RiskKind RiskKind i j li lj e = (refl, omega arith)
 
 -- slots are in order of kind and then of labels
-slot-before : (w : ℕ) (a b : Kind) (i j : ℕ) → i < w → j < w → slot_of w a i < slot_of w b j → (rank_of a < rank_of b) ⊎ ((rank_of a ≡ rank_of b) × (i < j))
+slot-before : (w : ℕ) (a b : Kind) (i j : ℕ) → i < w → j < w → pushed_slot w a i < pushed_slot w b j → (rank_of a < rank_of b) ⊎ ((rank_of a ≡ rank_of b) × (i < j))
 slot-before w LinkKind LinkKind i j li lj lt = inr (refl, omega arith)
 slot-before w LinkKind NodeKind i j li lj lt = inl (omega arith)
 slot-before w LinkKind RiskKind i j li lj lt = inl (omega arith)
@@ -94,7 +95,7 @@ audit-narrow n items w net audit wide k item e holds =
 pub tallied-none : (w : ℕ) → AreTallied w [] (replicate (3 * w) 0)
 tallied-none w = record {
   long = length-replicate (3 * w) 0;
-  each = λ kind labels lt. get_or-replicate (3 * w) (slot_of w kind labels) 0 0 (slot-within w kind labels lt);
+  each = λ kind labels lt. get_or-replicate (3 * w) (pushed_slot w kind labels) 0 0 (slot-within w kind labels lt);
 }
 
 -- how many push a number of labels, with one item more
@@ -112,32 +113,32 @@ tallied-skip w xs x table other are = record {
 }
 
 -- the repair is counted in its slot
-pub tallied-push : (w : ℕ) (xs : List Item) (x : Item) (table : List ℕ) (slot : ℕ) → is_least x.answer ≡ true → length x.labels < w → slot ≡ slot_of w x.case.kind (length x.labels) → AreTallied w xs table → AreTallied w (xs ++ x ∷ []) (set table slot (get_or table slot 0 + 1))
+pub tallied-push : (w : ℕ) (xs : List Item) (x : Item) (table : List ℕ) (slot : ℕ) → is_least x.answer ≡ true → length x.labels < w → slot ≡ pushed_slot w x.case.kind (length x.labels) → AreTallied w xs table → AreTallied w (xs ++ x ∷ []) (set table slot (get_or table slot 0 + 1))
 tallied-push w xs x table slot holds few at are = record {
   long = length-set table slot (get_or table slot 0 + 1) ∙ are.long;
   each = λ kind labels lt.
       let within : slot < length table = omega (arith, at, slot-within w x.case.kind (length x.labels) few, are.long) in
       ⊎_elim
-      (λ (e : slot_of w kind labels ≡ slot).
+      (λ (e : pushed_slot w kind labels ≡ slot).
       let one = slot-one w x.case.kind kind (length x.labels) labels few lt (sym at ∙ sym e) in
       let passes : pushes kind labels x ≡ true = pushes-from kind labels x holds one.0 one.1 in
       let more : ◌≡◌ {A = ℕ} (cond (pushes kind labels x) 1 0) 1 = rw passes refl in
-      let here : get_or (set table slot (get_or table slot 0 + 1)) (slot_of w kind labels) 0 ≡ get_or table slot 0 + 1 = rw e (get_or-set_same table slot _ 0 within) in
+      let here : get_or (set table slot (get_or table slot 0 + 1)) (pushed_slot w kind labels) 0 ≡ get_or table slot 0 + 1 = rw e (get_or-set_same table slot _ 0 within) in
       let old : get_or table slot 0 ≡ count_by (pushes kind labels) xs = ap (λ (s : ℕ). get_or table s 0) (sym e) ∙ are.each kind labels lt in
       omega (arith, here, old, more, count-push kind labels xs x))
-      (λ (ne : slot_of w kind labels ≢ slot).
+      (λ (ne : pushed_slot w kind labels ≢ slot).
       let fails : pushes kind labels x ≡ false = ⊎_elim
       (λ (same : rank_of x.case.kind ≡ rank_of kind). pushes-many kind labels x (λ many. ne (ap (λ (r : ℕ). r * w + labels) (sym same) ∙ ap (λ (m : ℕ). rank_of x.case.kind * w + m) (sym many) ∙ sym at)))
       (λ other. pushes-rank kind labels x other)
       (cases_eq (rank_of x.case.kind) (rank_of kind)) in
       let none : ◌≡◌ {A = ℕ} (cond (pushes kind labels x) 1 0) 0 = rw fails refl in
-      let there : get_or (set table slot (get_or table slot 0 + 1)) (slot_of w kind labels) 0 ≡ get_or table (slot_of w kind labels) 0 = get_or-set_other table slot (slot_of w kind labels) _ 0 ne in
+      let there : get_or (set table slot (get_or table slot 0 + 1)) (pushed_slot w kind labels) 0 ≡ get_or table (pushed_slot w kind labels) 0 = get_or-set_other table slot (pushed_slot w kind labels) _ 0 ne in
       omega (arith, there, are.each kind labels lt, none, count-push kind labels xs x))
-      (cases_eq (slot_of w kind labels) slot);
+      (cases_eq (pushed_slot w kind labels) slot);
 }
 
 -- the count in a slot has room for one more
-pub tallied-room : (w : ℕ) (items : List Item) (i : ℕ) (table : List ℕ) (kind : Kind) (labels : ℕ) → labels < w → i < length items → length items < 2 ^ 32 → AreTallied w (take i items) table → get_or table (slot_of w kind labels) 0 + 1 < 2 ^ 32
+pub tallied-room : (w : ℕ) (items : List Item) (i : ℕ) (table : List ℕ) (kind : Kind) (labels : ℕ) → labels < w → i < length items → length items < 2 ^ 32 → AreTallied w (take i items) table → get_or table (pushed_slot w kind labels) 0 + 1 < 2 ^ 32
 tallied-room w items i table kind labels lt within few are =
     omega (arith, are.each kind labels lt, count_by-le-length (pushes kind labels) (take i items), length-take-le i items (omega (arith, within)), within, few)
 
@@ -191,7 +192,7 @@ rows-push w table m rows row few at is some are = record {
       (last-or rows row j a ea))
       (last-or rows row k b eb);
   all = λ slot lt here. ⊎_elim
-      (λ (low : slot < m). let old = are.all slot low here in (old.0, old.1, get-left rows (row ∷ []) old.0 old.1 old.2, old.3))
+      (λ (low : slot < m). let old = are.all slot low here in (old.0, old.1, get_left rows (row ∷ []) old.0 old.1 old.2, old.3))
       (λ (high : m ≤ slot). (length rows, row, get-right rows (row ∷ []) 0 (length rows) row (omega arith) refl, omega (arith, high, lt, at)))
       (cases_lt slot m);
 }
@@ -215,8 +216,8 @@ stacks-told w items table rows narrow tallied are = record {
       let labels = length item.labels in
       let few : labels < w = narrow k item e holds in
       let passes : pushes kind labels item ≡ true = pushes-from kind labels item holds refl refl in
-      let some : 0 < get_or table (slot_of w kind labels) 0 = omega (arith, tallied.each kind labels few, counts-it kind labels items k item e passes) in
-      let at = are.all (slot_of w kind labels) (slot-within w kind labels few) some in
+      let some : 0 < get_or table (pushed_slot w kind labels) 0 = omega (arith, tallied.each kind labels few, counts-it kind labels items k item e passes) in
+      let at = are.all (pushed_slot w kind labels) (slot-within w kind labels few) some in
       let one = slot-one w at.1.kind kind at.1.labels labels (are.each at.0 at.1 at.2).0 few at.3 in
       (at.0, at.1, at.2, pushes-from at.1.kind at.1.labels item holds (sym one.0) (sym one.1));
 }

@@ -11,7 +11,7 @@ use Rattle.sr_insight.specs.declared.grouping.Grouping.{Grouping}
 use Rattle.sr_insight.specs.Groups.{coverage, group_of, group_count, items_in}
 
 -- one more of each sort still fits 32 bits
-pub record HasRoom (counts : Counts) : Type 0 where
+pub record CanCountMore (counts : Counts) : Type 0 where
   pub covered : counts.covered + 1 < 2 ^ 32
   pub nopath : counts.nopath + 1 < 2 ^ 32
   pub nolist : counts.nolist + 1 < 2 ^ 32
@@ -27,8 +27,8 @@ with_answer counts answer = record {
 }
 
 -- each item is in one of the groups, and the case of each protects a link
-abbrev pub AreWithin : Grouping → Graph → List Item → Type 0
-AreWithin grouping g items = (k : ℕ) (item : Item) → slice_get items k ≡ Some item
+abbrev pub AreInGroups : Grouping → Graph → List Item → Type 0
+AreInGroups grouping g items = (k : ℕ) (item : Item) → slice_get items k ≡ Some item
     → IsCase g item.case × (group_of grouping g item < group_count grouping g)
 
 -- the group of this number with the counts of its items
@@ -51,6 +51,6 @@ IsNoLaterGroup a b =
     ⊎ ((coverage a.counts ≡ coverage b.counts) × (a.number ≤ b.number))
 
 -- groups in order of coverage and then of number
-abbrev pub AreInOrder : List Group → Type 0
-AreInOrder groups = (j k : ℕ) → j ≤ k → k < length groups
+abbrev pub AreGroupsInOrder : List Group → Type 0
+AreGroupsInOrder groups = (j k : ℕ) → j ≤ k → k < length groups
     → IsNoLaterGroup (slice_index_or groups j no_group) (slice_index_or groups k no_group)

@@ -19,18 +19,18 @@ AreNarrow items w = (k : ℕ) (item : Item) → slice_get items k ≡ Some item 
     → length item.labels < w
 
 -- the slot of a kind and a number of labels below w
-abbrev pub slot_of : ℕ → Kind → ℕ → ℕ
-slot_of w kind labels = rank_of kind * w + labels
+abbrev pub pushed_slot : ℕ → Kind → ℕ → ℕ
+pushed_slot w kind labels = rank_of kind * w + labels
 
 -- how many repairs push each number of labels, for each kind and each number below w
 pub record AreTallied (w : ℕ) (items : List Item) (table : List ℕ) : Type 0 where
   pub long : length table ≡ 3 * w
   pub each : (kind : Kind) (labels : ℕ) → labels < w
-      → slice_index table (slot_of w kind labels) ≡ count_by (pushes kind labels) items
+      → slice_index table (pushed_slot w kind labels) ≡ count_by (pushes kind labels) items
 
 -- the slot of a row
 abbrev pub row_slot : ℕ → StackCount → ℕ
-row_slot w row = slot_of w row.kind row.labels
+row_slot w row = pushed_slot w row.kind row.labels
 
 -- a row for each of the first m slots that isn't 0, in order
 pub record AreRowsOf (w : ℕ) (table : List ℕ) (m : ℕ) (rows : List StackCount) : Type 0 where

@@ -2,7 +2,7 @@
 ghost use Rattle.std.specs.Prelude.{IfOk};
 ghost use Rattle.sr_insight.specs.Groups.{IsCoverage};
 
-use crate::groups::groups_of;
+use crate::groups::audit_groups;
 use sr_audit::audit;
 use sr_insight::{Group, Grouping};
 use sr_repair::Version;
@@ -20,5 +20,5 @@ pub fn coverage(
     ensures { IfOk result (λ v. IsCoverage version.now.net grouping v.items) }
 {
     let report = audit(rt, alloc, version)?;
-    groups_of(alloc, version.net(), grouping, report.items())
+    audit_groups(alloc, version.net(), grouping, report.items())
 }

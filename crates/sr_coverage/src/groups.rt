@@ -3,7 +3,7 @@ ghost use Rattle.std.specs.Prelude.{◌≡◌, ◌<◌, ◌^◌, [], length, IfO
 ghost use Rattle.sr_model.specs.Audit.{IsAudit};
 ghost use Rattle.sr_model.specs.Case.{IsCase};
 ghost use Rattle.sr_insight.specs.Groups.{group_of, group_count, AreGroups};
-ghost use Rattle.sr_coverage.specs.Counting.{HasRoom, with_answer, AreWithin, AreCounted, AreInOrder};
+ghost use Rattle.sr_coverage.specs.Counting.{CanCountMore, with_answer, AreInGroups, AreCounted, AreGroupsInOrder};
 
 use sr_graph::Graph;
 use sr_insight::{Group, Grouping};
@@ -62,7 +62,7 @@ fn empty_groups(alloc: Global, graph: &Graph, grouping: Grouping) -> Result<Vec<
 
 /// The counts with one answer more.
 fn with_answer(counts: Counts, answer: &Answer<'_>) -> Counts
-    requires { HasRoom counts }
+    requires { CanCountMore counts }
     ensures { result ≡ with_answer counts answer.now }
 {
     let mut more = counts;
@@ -77,7 +77,7 @@ fn with_answer(counts: Counts, answer: &Answer<'_>) -> Counts
 
 /// Counts the items, each in its group.
 fn count_items(graph: &Graph, grouping: Grouping, items: &[Item<'_>], groups: &mut Vec<Group>)
-    requires within { AreWithin grouping graph.now items.now }
+    requires within { AreInGroups grouping graph.now items.now }
     requires few { length items.now < 2 ^ 32 }
     requires empty { AreCounted grouping graph.now [] groups.old.items }
     ensures { AreCounted grouping graph.now items.now groups.new.items }
@@ -91,14 +91,14 @@ fn count_items(graph: &Graph, grouping: Grouping, items: &[Item<'_>], groups: &m
 /// The groups in order of coverage and then of number.
 fn sorted(mut groups: Vec<Group>) -> Vec<Group>
     ensures same { IsPermutation groups.items result.items }
-    ensures order { AreInOrder result.items }
+    ensures order { AreGroupsInOrder result.items }
 {
     groups.sort_unstable_by_key(|group| (group.coverage(), group.number));
     groups
 }
 
 /// The groups of these items, which are an audit of the net, the least covered first.
-pub(crate) fn groups_of(
+pub(crate) fn audit_groups(
     alloc: Global,
     net: &Net,
     grouping: Grouping,

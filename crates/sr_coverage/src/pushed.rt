@@ -5,7 +5,7 @@ ghost use Rattle.sr_model.specs.Graph.{node_count};
 ghost use Rattle.sr_model.specs.Repair.{Fits};
 ghost use Rattle.sr_model.specs.Rule.{IsNet};
 ghost use Rattle.sr_insight.specs.Stacks.{AreStackCounts};
-ghost use Rattle.sr_coverage.specs.Pushed.{IsWide, AreNarrow, slot_of, AreTallied, AreRowsOf};
+ghost use Rattle.sr_coverage.specs.Pushed.{IsWide, AreNarrow, pushed_slot, AreTallied, AreRowsOf};
 
 use sr_insight::StackCount;
 use sr_labels::Net;
@@ -40,10 +40,10 @@ fn width_of(net: &Net) -> usize
 }
 
 /// The slot of a kind and a number of labels in a table of this width.
-fn slot_of(width: usize, kind: Kind, labels: usize) -> usize
+fn pushed_slot(width: usize, kind: Kind, labels: usize) -> usize
     requires labels { labels < width }
     requires few { width ≤ 257 }
-    ensures slot { result ≡ slot_of width kind labels }
+    ensures slot { result ≡ pushed_slot width kind labels }
     ensures within { result < 3 * width }
 {
     match kind {
@@ -54,7 +54,7 @@ fn slot_of(width: usize, kind: Kind, labels: usize) -> usize
 }
 
 /// Whether the item is a repair.
-fn is_repair(item: &Item<'_>) -> bool
+fn has_list(item: &Item<'_>) -> bool
     ensures { result ≡ is_least item.now.answer }
 {
     match item.answer {
@@ -72,8 +72,8 @@ fn tallied(alloc: Global, items: &[Item<'_>], width: usize) -> Result<Vec<u32>, 
 {
     let mut table = vec![in alloc; 0; 3 * width]?;
     for item in items {
-        if is_repair(item) {
-            let slot = slot_of(width, item.case.kind, item.labels.as_slice().len());
+        if has_list(item) {
+            let slot = pushed_slot(width, item.case.kind, item.labels.as_slice().len());
             table[slot] += 1;
         }
     }
@@ -93,7 +93,7 @@ fn kind_at(rank: usize) -> Kind
 }
 
 /// A row for each slot that isn't 0, in order.
-fn rows_of(alloc: Global, table: &[u32], width: usize) -> Result<Vec<StackCount>, AllocError>
+fn table_rows(alloc: Global, table: &[u32], width: usize) -> Result<Vec<StackCount>, AllocError>
     requires long { length table.now ≡ 3 * width }
     requires some { 0 < width }
     requires few { width ≤ 257 }
@@ -125,5 +125,5 @@ pub(crate) fn stack_counts_of(
 {
     let width = width_of(net);
     let table = tallied(alloc, items, width)?;
-    rows_of(alloc, &table, width)
+    table_rows(alloc, &table, width)
 }

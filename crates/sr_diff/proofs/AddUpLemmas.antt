@@ -27,7 +27,7 @@ IsKept n m item = PassesBut covered (IsLost n m) item
 lost-covered : (n m : Net) (item : Item) → IsLost n m item → covered item ≡ true
 lost-covered n m item lost = repaired-least n item lost.0.0 lost.0.1
 
--- ---- what is kept has the same names in both nets
+-- ---- repairs that are kept have the same names in both nets
 
 -- the other net's item under the name of a kept one is kept too
 kept-there : (n m : Net) (xs ys : List Item) → IsAudit n xs → IsAudit m ys → (k : ℕ) (x : Item) → slice_get xs k ≡ Some x → IsKept n m x
@@ -74,7 +74,7 @@ kept-many n m xs ys ps qs net net' p q a b =
     (names-among n m xs ys ps qs p q a b) (names-among m n ys xs qs ps q p b a) in
     sym (length-map ps (item_name n)) ∙ ap (λ (zs : List ItemName). length zs) names ∙ length-map qs (item_name m)
 
--- ---- what is kept is changed or the same
+-- ---- a repair that is kept is changed or the same
 
 either-kept : (old new : Net) (item : Item) → IsOther old new item ⊎ IsSame old new item → IsKept new old item
 either-kept old new item (inl other) = (repaired-least new item other.1 other.3, other-gained old new item other)

@@ -7,7 +7,8 @@ use Rattle.sr_model.specs.Label.{Net}
 use Rattle.sr_laws.proofs.Parts.{true_or}
 use Rattle.sr_diff.specs.Named.{ItemName, item_name}
 use Rattle.sr_diff.specs.Diff.{IsUnrepaired}
-use Rattle.sr_diff.proofs.NameLemmas.{item-one, repaired-least, name-cases}
+use Rattle.sr_diff.proofs.NameLemmas.{repaired-least, name-cases}
+use Rattle.sr_laws.proofs.Audits.{item_one}
 
 -- a list under this name
 abbrev pub IsListNamed : Net → ItemName → Item → Type 0
@@ -41,7 +42,7 @@ member-cases P cases (y ∷ xs) = ⊎_elim
 pub item-there : (n : Net) (items : List Item) (item : Item) → IsAudit n items → IsItem n item → (k : ℕ) × (slice_get items k ≡ Some item)
 item-there n items item audit is =
     let at = audit.all item.case item.dest.0 is.within is.affected in
-    let same : at.1 ≡ item = item-one n at.1 item (audit.each at.0 at.1 at.2) is at.3 at.4 in
+    let same : at.1 ≡ item = item_one n at.1 item (audit.each at.0 at.1 at.2) is at.3 at.4 in
     (at.0, at.2 ∙ ap Some same)
 
 -- a list of the audit under this name, or the net has no repair under it

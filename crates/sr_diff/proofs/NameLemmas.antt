@@ -1,58 +1,31 @@
 -- Items and their names: a name is one item's, and names ascend as items do.
 use Rattle.std.proofs.Common.{◌≡◌, ◌≢◌, ℕ, ◌<◌, ◌⊎◌, ⊎_elim, inl, inr, true, List, refl, sym, ap, ◌∙◌, subst, arith, Some}
-use Rattle.std.specs.Prelude.{reverse}
 use Rattle.std.proofs.lemmas.Bool.{cases_eq}
-use Rattle.std.proofs.lemmas.List.{reverse-reverse}
 use Rattle.std.proofs.lemmas.Option.{same_Some}
 use Rattle.sr_model.specs.declared.audit.Item.{Item}
 use Rattle.sr_model.specs.declared.case.Case.{Case}
 use Rattle.sr_model.specs.declared.case.Kind.{Kind}
 use Rattle.sr_model.specs.declared.case.Kind.TheVariants.{Link, Node, Risk}
-use Rattle.sr_model.specs.declared.name.LinkKey.{LinkKey}
 use Rattle.sr_model.specs.declared.repair.RepairList.{RepairList}
 use Rattle.sr_model.specs.declared.repair.Answer.{Answer}
 use Rattle.sr_model.specs.declared.repair.Answer.TheVariants.{Least, NoPath, NoList, TooDeep}
-use Rattle.sr_model.specs.Audit.{rank_of, is_least, ItemLt, AreLabelsOf, IsItem}
+use Rattle.sr_model.specs.Audit.{rank_of, is_least, ItemLt, IsItem}
 use Rattle.sr_model.specs.Case.{IsCase}
 use Rattle.sr_model.specs.Graph.{Graph, node_count}
 use Rattle.sr_model.specs.Key.{KeyLt}
-use Rattle.sr_model.specs.KeyOrder.{same_key}
 use Rattle.sr_model.specs.Label.{Net}
-use Rattle.sr_model.specs.Repair.{IsCaseAnswer}
 use Rattle.sr_model.specs.Rule.{IsNet}
-use Rattle.sr_laws.proofs.Answers.{case-answer-one}
 use Rattle.sr_laws.proofs.Keys.{KeyLt-irrefl, KeyLt-trans, key-one, system-one}
-use Rattle.sr_laws.proofs.Parts.{link_is, node_is, true_or}
-use Rattle.sr_laws.proofs.Places.{key-told}
-use Rattle.sr_laws.proofs.Stacks.{stack-one}
+use Rattle.sr_laws.proofs.Parts.{link_is}
 use Rattle.sr_encode.proofs.AnswerLemmas.{affected-within}
 use Rattle.sr_diff.specs.Named.{ItemName, NamedRepair, name_at, item_name, named_answer, named_list, repair_of}
 use Rattle.sr_diff.specs.Diff.{HasRepair, IsLost, IsOther, IsSame}
+use Rattle.sr_laws.proofs.Audits.{item_one}
+use Rattle.sr_laws.proofs.Changes.{key-cases}
 
 -- the destination of an item is a node
 pub dest-within : (n : Net) (item : Item) → IsNet n → IsItem n item → item.dest.0 < node_count n.graph
 dest-within n item net is = affected-within n item.case item.dest.0 net.nodes is.affected
-
--- an answer has one list of labels
-labels-one : (n : Net) (d : ℕ) (answer : Answer) (one two : List ℕ) → AreLabelsOf n d answer one → AreLabelsOf n d answer two → one ≡ two
-labels-one n d (Least list) one two p q =
-    sym (reverse-reverse one) ∙ ap reverse (stack-one n d list.first.0 list.segments (reverse one) (reverse two) p q) ∙ reverse-reverse two
-labels-one n d NoPath one two p q = p ∙ sym q
-labels-one n d NoList one two p q = p ∙ sym q
-labels-one n d (TooDeep k) one two p q = p ∙ sym q
-
-item-is : (a b : Item) → a.case ≡ b.case → a.dest ≡ b.dest → a.answer ≡ b.answer → a.labels ≡ b.labels → a ≡ b
-item-is a b c d e f =
-    let q : record { case = a.case; dest = a.dest; answer = a.answer; labels = a.labels } ≡ record { case = b.case; dest = b.dest; answer = b.answer; labels = b.labels } = rw (c, d, e, f) refl in
-    q
-
--- a case and a destination have one item
-pub item-one : (n : Net) (a b : Item) → IsItem n a → IsItem n b → a.case ≡ b.case → a.dest.0 ≡ b.dest.0 → a ≡ b
-item-one n a b p q c d =
-    let answer : IsCaseAnswer n b.case b.dest.0 a.answer = subst (λ k. IsCaseAnswer n b.case k a.answer) d (subst (λ (k : Case). IsCaseAnswer n k a.dest.0 a.answer) c p.answer) in
-    let same : a.answer ≡ b.answer = case-answer-one n b.case b.dest.0 a.answer b.answer answer q.answer in
-    let labels : AreLabelsOf n b.dest.0 b.answer a.labels = subst (λ k. AreLabelsOf n k b.answer a.labels) d (subst (λ (k : Answer). AreLabelsOf n a.dest.0 k a.labels) same p.labels) in
-    item-is a b c (node_is a.dest b.dest d) same (labels-one n b.dest.0 b.answer a.labels b.labels labels q.labels)
 
 -- a case is its kind and its link
 case-is : (a b : Case) → a.kind ≡ b.kind → a.link ≡ b.link → a ≡ b
@@ -70,7 +43,7 @@ purpose-one n a b d e net p q within within' same =
 pub name-one : (n : Net) (a b : Item) → IsNet n → IsItem n a → IsItem n b → item_name n a ≡ item_name n b → a ≡ b
 name-one n a b net p q same =
     let one = purpose-one n a.case b.case a.dest.0 b.dest.0 net p.within q.within (dest-within n a net p) (dest-within n b net q) same in
-    item-one n a b p q one.0 one.1
+    item_one n a b p q one.0 one.1
 
 -- a name has one repair
 pub repair-one : (n : Net) (name : ItemName) (a b : NamedRepair) → IsNet n → HasRepair n name a → HasRepair n name b → a ≡ b
@@ -161,9 +134,6 @@ kind-cases Node Risk = inr (λ e. cc (e))
 kind-cases Risk Link = inr (λ e. cc (e))
 kind-cases Risk Node = inr (λ e. cc (e))
 kind-cases Risk Risk = inl refl
-
-key-cases : (a b : LinkKey) → (a ≡ b) ⊎ (a ≢ b)
-key-cases a b = ⊎_elim (λ yes. inl ((key-told a b).0 yes)) (λ no. inr (λ e. cc ((key-told a b).1 e, no))) (true_or (same_key a b))
 
 name-is : (a b : ItemName) → a.kind ≡ b.kind → a.link ≡ b.link → a.dest ≡ b.dest → a ≡ b
 name-is a b k l d =

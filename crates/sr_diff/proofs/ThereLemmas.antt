@@ -47,7 +47,7 @@ list-named n name purpose item is list = record {
   least = list.least;
 }
 
--- what is found for the case and the destination is found under their name
+-- the item found for the case and the destination is found under their name
 pub found-named : (n : Net) (name : ItemName) (purpose : Purpose) (found : Option Item) → IsNet n → IsPurposeNamed n.graph name purpose → MatchOption found (HasNoList n purpose.case purpose.dest.0) (IsListFor n purpose.case purpose.dest.0) → MatchOption found (IsUnrepaired n name) (IsListNamed n name)
 found-named n name purpose None net is found = no_list-unrepaired n name purpose net is found
 found-named n name purpose (Some item) net is found = list-named n name purpose item is found

@@ -22,7 +22,8 @@ IsLost n m item = ((repair : NamedRepair) × (repair_of n item ≡ Some repair))
 -- the item of the new net is repaired, and the old net has another repair under its name
 abbrev pub IsOther : Net → Net → Item → Type 0
 IsOther old new item =
-    (a : NamedRepair) × (b : NamedRepair) × HasRepair old (item_name new item) a × (repair_of new item ≡ Some b) × (a ≢ b)
+    (a : NamedRepair) × (b : NamedRepair) × HasRepair old (item_name new item) a × (repair_of new item ≡ Some b)
+    × (a ≢ b)
 
 -- the item of the new net is repaired, and the old net has the same repair under its name
 abbrev pub IsSame : Net → Net → Item → Type 0

@@ -1,4 +1,5 @@
--- Repairs by names: numbers of nodes and links differ between nets, but system ids and keys don't (this project's rule).
+-- Repairs by names: numbers of nodes and links differ between nets, but system ids and keys don't (this project's
+-- rule).
 use Rattle.std.specs.Prelude.{ℕ, List, map, Option, Some, None}
 use Rattle.sr_model.specs.declared.audit.Item.{Item}
 use Rattle.sr_model.specs.declared.case.Case.{Case}

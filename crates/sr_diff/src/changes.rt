@@ -4,7 +4,7 @@ ghost use Rattle.sr_model.specs.Audit.{IsItem};
 ghost use Rattle.sr_diff.specs.Matched.{AreItems, IsLikeness, AreCompared};
 
 use crate::alike::same_repair;
-use crate::copied::copied;
+use crate::copied::copied_item;
 use crate::differences::Changed;
 use crate::lost::is_repair;
 use crate::there::repair_there;
@@ -77,7 +77,7 @@ pub(crate) fn compared_items<'a>(
             Likeness::Same => same += 1,
             Likeness::Other(before) => changed.push(Changed {
                 before,
-                after: copied(alloc, item)?,
+                after: copied_item(alloc, item)?,
             })?,
         }
     }

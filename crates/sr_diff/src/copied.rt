@@ -22,7 +22,7 @@ fn same_answer<'a>(answer: &Answer<'a>) -> Answer<'a>
 }
 
 /// A copy of the item.
-pub(crate) fn copied<'a>(alloc: Global, item: &Item<'a>) -> Result<Item<'a>, AllocError>
+pub(crate) fn copied_item<'a>(alloc: Global, item: &Item<'a>) -> Result<Item<'a>, AllocError>
     ensures { IfOk result (λ copy. copy ≡ item.now) }
 {
     let labels = item.labels.as_slice().to_vec(alloc)?;

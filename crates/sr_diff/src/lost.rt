@@ -4,7 +4,7 @@ ghost use Rattle.sr_model.specs.Audit.{IsItem, is_least};
 ghost use Rattle.sr_diff.specs.Diff.{IsLost, AreSuch};
 ghost use Rattle.sr_diff.specs.Matched.{AreItems};
 
-use crate::copied::copied;
+use crate::copied::copied_item;
 use crate::there::repair_there;
 use sr_labels::Net;
 use sr_model::{Answer, Item};
@@ -47,7 +47,7 @@ pub(crate) fn lost_of<'a>(
     let mut lost = Vec::new(alloc);
     for item in items {
         if is_lost(alloc, net, item, other)? {
-            lost.push(copied(alloc, item)?)?;
+            lost.push(copied_item(alloc, item)?)?;
         }
     }
     Ok(Seq::new(lost))

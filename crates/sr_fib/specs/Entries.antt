@@ -5,18 +5,18 @@ use Rattle.sr_model.specs.declared.link.NodeNo.{NodeNo}
 use Rattle.sr_model.specs.declared.entry.Entry.{Entry as Meaning}
 use Rattle.sr_model.specs.declared.entry.Entry.TheVariants as meaning
 use Rattle.sr_model.specs.Label.{Net, IsLabel}
-use Rattle.sr_fib.specs.declared.entry.Entry.{Entry}
-use Rattle.sr_fib.specs.declared.entry.Entry.TheVariants.{Own, Null, Adj, Node}
+use Rattle.sr_fib.specs.declared.entry.FibEntry.{FibEntry}
+use Rattle.sr_fib.specs.declared.entry.FibEntry.TheVariants.{Own, Null, Adj, Node}
 
 -- the entry that is meant
-abbrev pub entry_of : Entry → Meaning
+abbrev pub entry_of : FibEntry → Meaning
 entry_of Own = meaning.Own
 entry_of Null = meaning.Null
 entry_of (Adj l) = meaning.Adj l
 entry_of (Node b hops) = meaning.Node b hops.now
 
 -- the entry that is meant, where there is one
-abbrev pub found_of : Option Entry → Option Meaning
+abbrev pub found_of : Option FibEntry → Option Meaning
 found_of None = None
 found_of (Some e) = Some (entry_of e)
 

@@ -4,7 +4,7 @@ use sr_model::{LinkNo, NodeNo, Out};
 
 /// What a label does at a node, as the table lends it.
 #[derive(Clone, Copy, Debug)]
-pub enum Entry<'a> {
+pub enum FibEntry<'a> {
     /// It is the node's own: it is popped.
     Own,
     /// It is explicit null: it is popped.

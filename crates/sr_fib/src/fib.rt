@@ -9,7 +9,7 @@ ghost use Rattle.sr_fib.specs.Tables.{IsFib, table_count, table_at};
 ghost use Rattle.sr_fib.specs.Sorted.{HasNode, NoNode};
 ghost use Rattle.sr_fib.specs.Entries.{found_of, IsNodeOf};
 
-use crate::entry::Entry;
+use crate::entry::FibEntry;
 use crate::listed::indices;
 use crate::sorted::{IndexedNode, node_of_index};
 use crate::table::Table;
@@ -81,35 +81,35 @@ impl Fib {
     }
 
     /// What the label of node `end` does at node `node`.
-    fn towards(&self, node: NodeNo, end: NodeNo) -> Option<Entry<'_>>
+    fn towards(&self, node: NodeNo, end: NodeNo) -> Option<FibEntry<'_>>
         requires node { node.0 < table_count self.now }
         requires end { end.0 < table_count self.now }
         ensures { (n : Labelled) (label : ℕ) → IsNet n → IsFib n self.now → IsLabel n node.0 end.0 label
             → IsLookup n node.0 label (found_of result) }
     {
         if end.0 == node.0 {
-            return Some(Entry::Own);
+            return Some(FibEntry::Own);
         }
         let hops = self.table(node).towards(end);
         if hops.is_empty() {
             None
         } else {
-            Some(Entry::Node(end, hops))
+            Some(FibEntry::Node(end, hops))
         }
     }
 
     /// What the label does at the node (RFC 8660, 2.10 and 2.11). None exactly where no step is lawful on it there.
-    pub fn look(&self, node: NodeNo, label: u32) -> Option<Entry<'_>>
+    pub fn look(&self, node: NodeNo, label: u32) -> Option<FibEntry<'_>>
         requires { node.0 < table_count self.now }
         ensures { (n : Labelled) → IsNet n → IsFib n self.now → IsLookup n node.0 label (found_of result) }
     {
         if label == 0 {
-            return Some(Entry::Null);
+            return Some(FibEntry::Null);
         }
         match self.owner(node, label) {
             Some(end) => self.towards(node, end),
             None => match self.table(node).link(label) {
-                Some(link) => Some(Entry::Adj(link)),
+                Some(link) => Some(FibEntry::Adj(link)),
                 None => None,
             },
         }

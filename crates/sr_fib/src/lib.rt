@@ -8,6 +8,6 @@ mod listed;
 mod sorted;
 mod table;
 
-pub use entry::Entry;
+pub use entry::FibEntry;
 pub use fib::Fib;
 pub use sr_model::Out;

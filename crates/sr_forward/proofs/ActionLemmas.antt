@@ -19,7 +19,7 @@ use Rattle.sr_model.specs.Forward.{Step, AreLawful}
 use Rattle.sr_model.specs.Table.{leaves, AreHops, IsEntry, HasNoStep}
 use Rattle.sr_laws.proofs.Delivery.{same_node, not_adj}
 use Rattle.sr_laws.proofs.Entries.{entry-steps}
-use Rattle.sr_laws.proofs.Places.{filter-place, filter-order}
+use Rattle.sr_laws.proofs.Places.{filter-place, filter-order, map-from}
 use Rattle.sr_laws.proofs.Arrivals.{step_opens}
 use Rattle.sr_forward.specs.Choices.{open_hops, chosen_hop}
 use Rattle.sr_forward.specs.Steps.{IsAction, HasNoAction}
@@ -44,12 +44,6 @@ filter-from f (y ∷ ys) j v e = kept f (f y) y ys (filter f ys) j v refl (λ i.
 not_true : (b : Bool) → not b ≡ true → b ≡ false
 not_true true e = absurd {0} (cc)
 not_true false e = refl
-
--- what stands in a mapped list is the image of what stood there
-map-from : {A B : Type 0} (f : A → B) (xs : List A) (i : ℕ) (b : B) → slice_get (map f xs) i ≡ Some b → (a : A) × (slice_get xs i ≡ Some a) × (f a ≡ b)
-map-from f [] i b e = absurd {0} (cc)
-map-from f (x ∷ xs) zero b e = (x, refl, (cc))
-map-from f (x ∷ xs) (suc i) b e = map-from f xs i b e
 
 -- the links of the open hops are the lawful ones
 open-lawful : (n : Net) (closed : List Bool) (u b : ℕ) (hops : List (LinkNo × Out)) → AreHops n u b hops → AreLawful n closed u b (map link_no (open_hops closed hops))

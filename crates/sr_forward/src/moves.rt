@@ -7,7 +7,7 @@ ghost use Rattle.sr_fib.specs.Tables.{IsFib};
 ghost use Rattle.sr_forward.specs.Steps.{node_after, IsAction, HasNoAction};
 
 use crate::hops::chosen;
-use sr_fib::{Entry, Fib};
+use sr_fib::{Fib, FibEntry};
 use sr_graph::LinkSet;
 use sr_labels::Net;
 use sr_model::{LinkNo, Move, NodeNo, Out};
@@ -31,16 +31,16 @@ fn action(
     let _graph = net.graph();
     match fib.look(node, label) {
         None => None,
-        Some(Entry::Own) => Some((Move::Popped, Out::Pop)),
-        Some(Entry::Null) => Some((Move::Popped, Out::Pop)),
-        Some(Entry::Adj(link)) => {
+        Some(FibEntry::Own) => Some((Move::Popped, Out::Pop)),
+        Some(FibEntry::Null) => Some((Move::Popped, Out::Pop)),
+        Some(FibEntry::Adj(link)) => {
             if closed.has(link) {
                 None
             } else {
                 Some((Move::Crossed(link), Out::Pop))
             }
         }
-        Some(Entry::Node(_, hops)) => match chosen(hops, closed, choice) {
+        Some(FibEntry::Node(_, hops)) => match chosen(hops, closed, choice) {
             None => None,
             Some((link, out)) => Some((Move::Crossed(link), out)),
         },

@@ -10,8 +10,8 @@ abbrev pub held_by : LinkNo → ℕ → Holding
 held_by link group = record { group = group; link = link }
 
 -- its group
-abbrev pub group_of : Holding → ℕ
-group_of holding = holding.group
+abbrev pub held_group : Holding → ℕ
+held_group holding = holding.group
 
 -- what stands at place k
 abbrev pub holding_at : List Holding → ℕ → Holding

@@ -4,7 +4,7 @@ ghost use Rattle.std.specs.List.Sorted.{IsPermutation, IsNonDecreasingBy};
 ghost use Rattle.sr_graph.specs.Bits.{IsIn};
 ghost use Rattle.sr_graph.specs.Sharing.{set_at, AreSharing};
 ghost use Rattle.sr_model.specs.declared.link.TheConstants.{MOST_LINKS};
-ghost use Rattle.sr_graph.specs.Holdings.{held_by, group_of, holder_at, AreHoldings, IsGroupRun, HasHolder, AreJoined};
+ghost use Rattle.sr_graph.specs.Holdings.{held_by, held_group, holder_at, AreHoldings, IsGroupRun, HasHolder, AreJoined};
 
 use crate::link_bits::LinkBits;
 use sr_model::LinkNo;
@@ -46,7 +46,7 @@ fn holdings(alloc: Global, groups: &[Seq<u32>]) -> Result<Vec<Holding>, AllocErr
 /// The same in order of groups.
 fn by_group(mut list: Vec<Holding>) -> Vec<Holding>
     ensures same { IsPermutation list.items result.items }
-    ensures order { IsNonDecreasingBy group_of result.items }
+    ensures order { IsNonDecreasingBy held_group result.items }
 {
     list.sort_unstable_by_key(|holding| holding.group);
     list
@@ -54,7 +54,7 @@ fn by_group(mut list: Vec<Holding>) -> Vec<Holding>
 
 /// Where those of the group that stands at the place end.
 fn run_end(list: &[Holding], start: usize) -> usize
-    requires order { IsNonDecreasingBy group_of list.now }
+    requires order { IsNonDecreasingBy held_group list.now }
     requires within { start < length list.now }
     ensures { IsGroupRun list.now start result }
 {
@@ -114,7 +114,7 @@ fn empty_sets(alloc: Global, count: usize) -> Result<Vec<LinkBits>, AllocError>
 
 /// For each of the links, those that have a group of it. The time is a union of two sets for each entry of the list.
 fn joined(alloc: Global, list: &[Holding], links: usize) -> Result<Vec<LinkBits>, AllocError>
-    requires order { IsNonDecreasingBy group_of list.now }
+    requires order { IsNonDecreasingBy held_group list.now }
     requires links { (k : ℕ) → k < length list.now → holder_at list.now k < links }
     ensures { IfOk result (λ sets. AreJoined list.now (length list.now) sets.items) }
 {

@@ -1,7 +1,7 @@
-mod RangeLoops
+pub mod RangeLoops
 mod NetLemmas
 mod KeyPlaces
 pub mod Places
-mod IndexLists
+pub mod IndexLists
 mod IndexOrder
-mod Clashes
+pub mod Clashes

@@ -24,7 +24,7 @@ fn is_taken(nodes: &[NodeLabels], this: AdjLabel) -> bool
 }
 
 /// Whether the label at the next place is the same, and of the same node.
-fn is_repeated(list: &[AdjLabel], place: usize) -> bool
+pub fn is_repeated(list: &[AdjLabel], place: usize) -> bool
     requires { place < length list.now }
     ensures { IsTrue result ↔ IsRepeated list.now place }
 {
@@ -34,13 +34,12 @@ fn is_repeated(list: &[AdjLabel], place: usize) -> bool
 }
 
 /// The same labels in order of node and then of label.
-fn sorted_labels(alloc: Global, adj: &[AdjLabel]) -> Result<Vec<AdjLabel>, AllocError>
-    ensures same { IfOk result (λ list. IsPermutation adj.now list.items) }
-    ensures order { IfOk result (λ list. AreInOrder list.items) }
+pub fn sort_labels(mut list: Vec<AdjLabel>) -> Vec<AdjLabel>
+    ensures same { IsPermutation list.items result.items }
+    ensures order { AreInOrder result.items }
 {
-    let mut list = adj.to_vec(alloc)?;
     list.sort_unstable_by_key(|this| (this.node, this.label));
-    Ok(list)
+    list
 }
 
 /// The first of the labels in order that breaks its rule.
@@ -68,6 +67,7 @@ pub(crate) fn first_adj_clash(
     requires { AreOfNodes (length nodes.now) adj.now }
     ensures { IfOk result (λ found. MatchOption found (NoAdjClash nodes.now adj.now) (IsLeastClash nodes.now adj.now)) }
 {
-    let list = sorted_labels(alloc, adj)?;
+    let copy = adj.to_vec(alloc)?;
+    let list = sort_labels(copy);
     Ok(first_in_order(nodes, &list))
 }

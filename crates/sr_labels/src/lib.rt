@@ -10,8 +10,9 @@ mod node;
 mod rules;
 mod srgb;
 
+pub use adjacencies::{is_repeated, sort_labels};
 pub use net::Net;
 pub use node::NodeLabels;
 pub use rules::first_clash;
 pub use sr_model::{AdjLabel, LabelRule, Range};
-pub use srgb::{Srgb, SrgbBad};
+pub use srgb::{FIRST_FREE, Srgb, SrgbBad};

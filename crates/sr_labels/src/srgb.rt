@@ -8,7 +8,7 @@ use std::alloc::{AllocError, Global};
 use std::marker::Model;
 
 /// The first label that isn't reserved (RFC 3032, 2.1).
-pub(crate) const FIRST_FREE: u32 = 16;
+pub const FIRST_FREE: u32 = 16;
 
 /// How many labels there are: a label has 20 bits (RFC 3032, 2.1).
 const LABELS: u32 = 1 << 20;

@@ -4,10 +4,6 @@ use Rattle.std.specs.Prelude.{slice_get}
 use Rattle.std.specs.List.{AllZip, range_with_len}
 
 -- ---- the items of a list
-pub get_left : {X : Type 0} (xs ys : List X) (i : ℕ) (x : X) → slice_get xs i ≡ Some x → slice_get (xs ++ ys) i ≡ Some x
-get_left [] ys i x e = absurd {0} (cc)
-get_left (z ∷ xs) ys zero x e = e
-get_left (z ∷ xs) ys (suc i) x e = get_left xs ys i x e
 
 pub get_right : {X : Type 0} (xs ys : List X) (i j : ℕ) (x : X) → j ≡ length xs + i → slice_get ys i ≡ Some x → slice_get (xs ++ ys) j ≡ Some x
 get_right [] ys i j x at e = let same : j ≡ i = omega arith in ap (slice_get ys) same ∙ e
@@ -19,16 +15,6 @@ pub get_either : {X : Type 0} (xs ys : List X) (i : ℕ) (x : X) → slice_get (
 get_either [] ys i x e = inr (i, omega arith, e)
 get_either (z ∷ xs) ys zero x e = inl e
 get_either (z ∷ xs) ys (suc i) x e = ⊎_elim (λ h. inl h) (λ h. inr (h.0, omega (arith, h.1), h.2)) (get_either xs ys i x e)
-
-pub get_last : {X : Type 0} (xs : List X) (y : X) → slice_get (xs ++ y ∷ []) (length xs) ≡ Some y
-get_last [] y = refl
-get_last (z ∷ xs) y = get_last xs y
-
-pub get_push : {X : Type 0} (xs : List X) (y : X) (i : ℕ) (x : X) → slice_get (xs ++ y ∷ []) i ≡ Some x → (slice_get xs i ≡ Some x) ⊎ ((i ≡ length xs) × (y ≡ x))
-get_push [] y zero x e = inr (refl, cc)
-get_push [] y (suc i) x e = absurd {0} (cc)
-get_push (z ∷ xs) y zero x e = inl e
-get_push (z ∷ xs) y (suc i) x e = ⊎_elim (λ h. inl h) (λ h. inr (omega (arith, h.0), h.1)) (get_push xs y i x e)
 
 -- ---- two lists place by place
 pub zip_append : {A B : Type 0} (R : A → B → Type 0) (xs xs' : List A) (ys ys' : List B) → AllZip R xs ys → AllZip R xs' ys' → AllZip R (xs ++ xs') (ys ++ ys')

@@ -10,7 +10,8 @@ use Rattle.sr_model.specs.Label.{Net}
 use Rattle.sr_loads.specs.declared.packet.Packet.{Packet}
 use Rattle.sr_loads.specs.declared.packet.Pair.{Pair}
 use Rattle.sr_loads.specs.Packets.{IsPacket, IsBefore, ArePackets, IsPairBefore, ArePairs, pair, packet, packets_between, packets_of}
-use Rattle.sr_loads.proofs.ListLemmas.{get_left, get_right, get_either}
+use Rattle.sr_loads.proofs.ListLemmas.{get_right, get_either}
+use Rattle.sr_spf.proofs.HopsLemmas.{get_left}
 
 -- ---- the order
 pub before-irreflexive : (p : Packet) → IsBefore p p → ⊥

@@ -8,7 +8,7 @@ use Rattle.sr_model.specs.declared.link.TheConstants.{MOST_NODES}
 use Rattle.sr_loads.specs.declared.packet.Pair.{Pair}
 use Rattle.sr_loads.specs.declared.pairs.TheConstants.{MOST_PAIRS}
 use Rattle.sr_loads.specs.Packets.{ArePeers, IsPair, IsPairBefore, ArePairs, ArePairsBefore, pair}
-use Rattle.sr_loads.proofs.ListLemmas.{get_left, get_last, get_push}
+use Rattle.sr_spf.proofs.HopsLemmas.{get_left, get_last, get_push}
 
 -- ---- lists that grow
 pub pairs-none : (net : Net) → ArePairsBefore net (pair 0 0) []

@@ -1,6 +1,6 @@
 -- The run of a packet that is forwarded by next hops, with the links counted that it crosses.
-use Rattle.std.proofs.Common.{◌≡◌, ◌≢◌, ℕ, zero, suc, ◌+◌, ◌%◌, ◌<◌, ◌⊎◌, ⊎_elim, inl, inr, true, List, [], ◌∷◌, ◌++◌, length, append-nil, Option, Some, None, option_map, refl, sym, ap, ◌∙◌, subst, arith}
-use Rattle.std.specs.Prelude.{slice_get, map, is_some}
+use Rattle.std.proofs.Common.{◌≡◌, ◌≢◌, ℕ, ◌+◌, ◌%◌, ◌<◌, ◌⊎◌, ⊎_elim, inl, inr, List, [], ◌∷◌, ◌++◌, length, append-nil, Option, Some, option_map, refl, sym, ap, ◌∙◌, subst, arith}
+use Rattle.std.specs.Prelude.{slice_get, map}
 use Rattle.std.proofs.lemmas.Bool.{cases_eq}
 use Rattle.std.proofs.lemmas.List.{length-map, length-append}
 use Rattle.std.proofs.lemmas.Option.{slice_get-map, slice_get_within}
@@ -22,16 +22,12 @@ use Rattle.sr_spf.specs.Hops.{AreNextHops}
 use Rattle.sr_loads.specs.declared.packet.Packet.{Packet}
 use Rattle.sr_loads.specs.Tally.{AreNear, AddsRun, AddsPacket}
 use Rattle.sr_loads.proofs.TallyLemmas.{adds-nothing, adds-more}
+use Rattle.sr_laws.proofs.Places.{map-from}
+use Rattle.sr_laws.proofs.StacksThere.{some-of}
 
 -- ---- the next hops as lawful crossings
 abbrev pub link_no : LinkNo → ℕ
 link_no l = l.0
-
--- what stands in a mapped list is the image of what stood there
-map-from : {A B : Type 0} (f : A → B) (xs : List A) (i : ℕ) (b : B) → slice_get (map f xs) i ≡ Some b → (a : A) × (slice_get xs i ≡ Some a) × (f a ≡ b)
-map-from f [] i b e = absurd {0} (cc)
-map-from f (x ∷ xs) zero b e = (x, refl, (cc))
-map-from f (x ∷ xs) (suc i) b e = map-from f xs i b e
 
 -- no link being closed, the next hops are the lawful crossings
 hops-lawful : (n : Net) (u d : ℕ) (hops : List LinkNo) → AreNextHops n.graph u d hops → AreLawful n [] u d (map link_no hops)
@@ -103,14 +99,10 @@ pub record IsForwarded (net : Net) (p : Packet) (before : List ℕ) (turn : ℕ)
   pub run : IsCounted net p before turn counts u stack
   pub left : ((u ≡ p.to.0) × (stack ≡ [])) ⊎ ((u ≢ p.to.0) × (t : ℕ) × IsLabel net u p.to.0 t × (stack ≡ t ∷ []))
 
-index-of : (o : Option ℕ) → is_some o ≡ true → (i : ℕ) × (o ≡ Some i)
-index-of None e = absurd {0} (cc)
-index-of (Some i) e = (i, refl)
-
 -- the packet starts
 pub forwarded-none : (net : Net) → IsNet net → (p : Packet) (counts : List ℕ) → AreNear net p.from.0 p.to.0 → IsForwarded net p counts 0 counts p.from.0
 forwarded-none net r p counts near =
-    let i = index-of (labels_at net p.to.0).index near.peers.index in
+    let i = some-of (labels_at net p.to.0).index near.peers.index in
     let t = r.inside p.from.0 p.to.0 i.0 near.peers.from near.peers.to i.1 in
     let is : IsLabel net p.from.0 p.to.0 t.0 = (i.0, near.peers.to, i.1, t.1) in
     record {

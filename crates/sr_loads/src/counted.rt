@@ -25,7 +25,7 @@ impl Model for Loads {
 }
 
 impl Loads {
-    /// The loads of so many packets.
+    /// The loads of that many packets.
     pub(crate) fn new(packets: u64, counts: Vec<u64>) -> Loads
         ensures { result ≡ record { packets = packets; counts = counts.items } }
     {

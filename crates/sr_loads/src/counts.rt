@@ -15,7 +15,7 @@ pub(crate) fn zeros(alloc: Global, net: &Net) -> Result<Vec<u64>, AllocError>
 }
 
 /// Adds the other counts.
-pub(crate) fn add(counts: &mut Vec<u64>, other: &[u64])
+pub(crate) fn add_counts(counts: &mut Vec<u64>, other: &[u64])
     requires { length other.now ≡ length counts.old.items }
     ensures { AddsCounts other.now counts.old.items counts.new.items }
 {

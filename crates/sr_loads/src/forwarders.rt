@@ -105,7 +105,7 @@ fn forward_all<R: Threads + Wait + Sync>(
 }
 
 /// How often the packets of the net cross each link, no link being closed: one packet for each two nodes between which
-/// packets go, and each choice number below `choices`. At most so many forwarders count, each on a thread where one can be
+/// packets go, and each choice number below `choices`. At most that many forwarders count, each on a thread where one can be
 /// had; the answer is the same for each number of them, and whatever the threads do.
 pub fn loads<R: Threads + Wait + Sync>(
     rt: &R,

@@ -4,7 +4,7 @@ ghost use Rattle.crossbeam_queue.specs.Passes.{view, IsPassOf};
 ghost use Rattle.sr_loads.specs.Queue.{both};
 ghost use Rattle.sr_loads.specs.Tally.{IsTallyOf};
 
-use crate::counts::add;
+use crate::counts::add_counts;
 use crate::queue::{BatchQueue, Hand, Parting};
 use crate::traffic::Traffic;
 use crossbeam_queue::Pass;
@@ -73,7 +73,7 @@ impl<'a> Tally<'a> {
         let mut pass = self.pass;
         let mut counts = self.counts;
         queue.absorb::<Parting>(&mut pass, other.pass);
-        add(&mut counts, &other.counts);
+        add_counts(&mut counts, &other.counts);
         Tally::new(self.traffic, pass, counts)
     }
 }

@@ -10,13 +10,13 @@ use Rattle.sr_laws.specs.Labels.{IsInRanges}
 use Rattle.sr_laws.proofs.Ranges.{index-in_ranges, in_ranges-from_label}
 use Rattle.sr_labels.specs.Adjacencies.{IsTakenLabel}
 use Rattle.sr_model.specs.Rule.{node_at, IsClashAt, IsLeastClash, NoAdjClash}
-use Rattle.sr_rules.proofs.OrderedLabels.{found-moved}
+use Rattle.sr_labels.proofs.Clashes.{found-moved}
 use Rattle.sr_lsdb.specs.declared.facts.Facts.{Facts}
 use Rattle.sr_domain.specs.Nodes.{nodes_of, all_labels}
 use Rattle.sr_domain.specs.Links.{found_adj_labels}
-use Rattle.sr_rules.specs.declared.survey.Survey.{Survey}
+use Rattle.sr_rules.specs.declared.survey.RuleSurvey.{RuleSurvey}
 use Rattle.sr_rules.specs.Broken.{IsFinding}
-use Rattle.sr_rules.specs.Survey.{AreSurveyed, nodes_with}
+use Rattle.sr_rules.specs.RuleSurvey.{AreSurveyed, nodes_with}
 use Rattle.sr_rules.proofs.BrokenLemmas.{verdict-none}
 use Rattle.sr_rules.proofs.NodesLemmas.{HaveSameRanges, same-ranges}
 
@@ -45,7 +45,7 @@ least-carried nodes others adj a same h = record {
   least = λ k c. h.least k (clash-carried others nodes adj k (λ v. sym (same v)) c);
 }
 
-module _ (facts : Facts) (survey : Survey) (s : AreSurveyed facts survey) where
+module _ (facts : Facts) (survey : RuleSurvey) (s : AreSurveyed facts survey) where
   same : HaveSameRanges (nodes_with survey.ranges.items) (all_labels facts)
   same = same-ranges facts (nodes_of facts) survey.ranges.items s.ranges
 

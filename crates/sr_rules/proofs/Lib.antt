@@ -3,6 +3,5 @@ pub mod SrgbLemmas
 pub mod NodesLemmas
 pub mod DuplicateLemmas
 pub mod OutsideLemmas
-pub mod OrderedLabels
 pub mod ClashLemmas
 pub mod LinksLemmas

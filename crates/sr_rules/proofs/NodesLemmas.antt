@@ -7,7 +7,7 @@ use Rattle.sr_model.specs.Label.{Labels, nameless}
 use Rattle.sr_model.specs.Rule.{node_at}
 use Rattle.sr_lsdb.specs.declared.facts.Facts.{Facts}
 use Rattle.sr_domain.specs.Nodes.{labels_of, ranges_of}
-use Rattle.sr_rules.specs.Survey.{nodes_with}
+use Rattle.sr_rules.specs.RuleSurvey.{nodes_with}
 use Rattle.sr_rules.specs.Indices.{HaveSameIndices, index_in}
 
 -- the label ranges that a node announces

@@ -9,13 +9,14 @@ use Rattle.sr_model.specs.declared.label.Range.{Range}
 use Rattle.sr_model.specs.declared.rule.DomainRule.TheVariants.{IndexOutside}
 use Rattle.sr_model.specs.Label.{Labels, label_of, sizes}
 use Rattle.sr_model.specs.Rule.{node_at, IsIndexOutside, IsLeastOutside, NoOutside}
-use Rattle.sr_laws.proofs.Ranges.{label-none, label-some}
+use Rattle.sr_laws.proofs.Ranges.{label-none}
+use Rattle.sr_labels.proofs.IndexLists.{labelled}
 use Rattle.sr_labels.specs.Indices.{IsFirstWithout}
 use Rattle.sr_lsdb.specs.declared.facts.Facts.{Facts}
 use Rattle.sr_domain.specs.Announced.{lesser}
 use Rattle.sr_domain.specs.Nodes.{labels_of, nodes_of, all_labels, ranges_of}
 use Rattle.sr_rules.specs.Broken.{IsFinding}
-use Rattle.sr_rules.specs.Survey.{with_ranges, nodes_with}
+use Rattle.sr_rules.specs.RuleSurvey.{with_ranges, nodes_with}
 use Rattle.sr_rules.specs.Indices.{IsLeastTotal, IsLeastFrom, chosen}
 use Rattle.sr_rules.proofs.BrokenLemmas.{verdict-none}
 use Rattle.sr_rules.proofs.NodesLemmas.{HaveSameRanges, same-ranges}
@@ -128,8 +129,6 @@ module _ (nodes : List Labels) (least count : ℕ) where
       (cases_lt index least)
 
 -- ---- the two together
-pub labelled : (rs : List Range) (i : ℕ) → i < sizes rs → label_of rs i ≢ None
-labelled rs i h e = let s : (t : ℕ) × (label_of rs i ≡ Some t) = label-some rs i h in absurd {0} (cc (s.1, e))
 
 outside-sizes : (rs : List Range) (i : ℕ) → label_of rs i ≡ None → sizes rs ≤ i
 outside-sizes rs i none = ⊎_elim (λ (lt : i < sizes rs). absurd (labelled rs i lt none)) (λ ge. ge) (cases_lt i (sizes rs))

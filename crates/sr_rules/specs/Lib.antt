@@ -1,4 +1,4 @@
 pub mod Broken
-pub mod Survey
+pub mod RuleSurvey
 pub mod Indices
 pub mod Laws

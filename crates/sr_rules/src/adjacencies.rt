@@ -3,17 +3,15 @@ ghost use Rattle.std.specs.Prelude.{◌<◌, ◌↔◌, length, IsTrue, MatchOpt
 ghost use Rattle.sr_model.specs.Rule.{NoAdjClash, IsLeastClash};
 ghost use Rattle.sr_laws.specs.Labels.{IsInRanges};
 ghost use Rattle.sr_labels.specs.Rules.{AreOfNodes};
-ghost use Rattle.sr_labels.specs.Adjacencies.{AreInOrder, IsTakenLabel, IsRepeated};
+ghost use Rattle.sr_labels.specs.Adjacencies.{AreInOrder, IsTakenLabel};
 ghost use Rattle.sr_rules.specs.Broken.{IsFinding};
-ghost use Rattle.sr_rules.specs.Survey.{AreSurveyed, nodes_with};
+ghost use Rattle.sr_rules.specs.RuleSurvey.{AreSurveyed, nodes_with};
 
-use crate::survey::Survey;
+use crate::survey::RuleSurvey;
+use sr_labels::{FIRST_FREE, is_repeated};
 use sr_lsdb::Facts;
 use sr_model::{AdjLabel, DomainRule, Range};
 use sr_seq::Seq;
-
-/// The first label that isn't reserved (RFC 3032, 2.1).
-const FIRST_FREE: u32 = 16;
 
 /// Whether the label lies in some of the ranges.
 fn is_in(ranges: &[Range], label: u32) -> bool
@@ -35,16 +33,6 @@ fn is_taken(ranges: &[Seq<Range>], this: AdjLabel) -> bool
     this.label < FIRST_FREE || is_in(ranges[this.node].as_slice(), this.label)
 }
 
-/// Whether the label at the next place is the same, and of the same node.
-fn is_repeated(list: &[AdjLabel], place: usize) -> bool
-    requires { place < length list.now }
-    ensures { IsTrue result ↔ IsRepeated list.now place }
-{
-    place + 1 < list.len()
-        && list[place + 1].node == list[place].node
-        && list[place + 1].label == list[place].label
-}
-
 /// The first of the labels in order that breaks the rule.
 fn first_in_order(ranges: &[Seq<Range>], list: &[AdjLabel]) -> Option<AdjLabel>
     requires nodes { AreOfNodes (length ranges.now) list.now }
@@ -63,7 +51,7 @@ fn first_in_order(ranges: &[Seq<Range>], list: &[AdjLabel]) -> Option<AdjLabel>
 
 /// The least adjacency label, by node and then by number, that is reserved, in the ranges of its node, or that of two
 /// links of its node, if there is one (this project's rule).
-pub(crate) fn adj_label_clash(facts: &Facts, survey: &Survey) -> Option<DomainRule>
+pub(crate) fn adj_label_clash(facts: &Facts, survey: &RuleSurvey) -> Option<DomainRule>
     requires { AreSurveyed facts.now survey.now }
     ensures { IsFinding facts.now 4 result }
 {

@@ -5,7 +5,7 @@ ghost use Rattle.sr_model.specs.Rule.{node_at};
 ghost use Rattle.sr_labels.specs.Indices.{IsFirstWithout};
 ghost use Rattle.sr_domain.specs.Nodes.{labels_of, nodes_of, ranges_of};
 ghost use Rattle.sr_rules.specs.Broken.{IsFinding};
-ghost use Rattle.sr_rules.specs.Survey.{nodes_with};
+ghost use Rattle.sr_rules.specs.RuleSurvey.{nodes_with};
 ghost use Rattle.sr_rules.specs.Indices.{HaveSameIndices, IsLeastTotal, IsLeastFrom, chosen};
 
 use sr_domain::node_sid;
@@ -122,7 +122,7 @@ fn first_without(ranges: &[Seq<Range>], index: u32) -> Option<usize>
 }
 
 /// What was found, or the lesser of it and this index, where there is one and it is at least so much.
-fn chosen(least: u64, found: Option<u32>, index: Option<u32>) -> Option<u32>
+fn first_of_both(least: u64, found: Option<u32>, index: Option<u32>) -> Option<u32>
     ensures { result ≡ chosen least found index }
 {
     match index {
@@ -145,7 +145,7 @@ fn least_index(facts: &Facts, nodes: &[SystemId], least: u64) -> Option<u32>
 {
     let mut found = None;
     for node in nodes {
-        found = chosen(least, found, index_of(facts, *node));
+        found = first_of_both(least, found, index_of(facts, *node));
     }
     found
 }

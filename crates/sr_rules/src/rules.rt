@@ -2,13 +2,13 @@
 ghost use Rattle.std.specs.Prelude.{◌<◌, IfOk};
 ghost use Rattle.sr_lsdb.specs.Facts.{AreInRange};
 ghost use Rattle.sr_rules.specs.Broken.{AreBrokenRules, IsFinding};
-ghost use Rattle.sr_rules.specs.Survey.{AreSurveyed};
+ghost use Rattle.sr_rules.specs.RuleSurvey.{AreSurveyed};
 
 use crate::adjacencies::adj_label_clash;
 use crate::indices::{duplicate_index, index_outside};
 use crate::links::{duplicate_link, many_links, many_nodes, zero_metric};
 use crate::srgbs::{no_srgb, srgb_bad};
-use crate::survey::{Survey, survey_of};
+use crate::survey::{RuleSurvey, rule_survey};
 use sr_lsdb::Facts;
 use sr_model::DomainRule;
 use std::alloc::{AllocError, Global};
@@ -17,10 +17,10 @@ use std::alloc::{AllocError, Global};
 const RULES: usize = 9;
 
 /// What breaks the rule that has that many before it, whether or not these are kept.
-fn verdict(
+fn rule_verdict(
     alloc: Global,
     facts: &Facts,
-    survey: &Survey,
+    survey: &RuleSurvey,
     before: usize,
 ) -> Result<Option<DomainRule>, AllocError>
     requires survey { AreSurveyed facts.now survey.now }
@@ -46,10 +46,10 @@ pub fn broken_rules(alloc: Global, facts: &Facts) -> Result<Vec<DomainRule>, All
     requires { AreInRange facts.now }
     ensures { IfOk result (λ rules. AreBrokenRules facts.now rules.items) }
 {
-    let survey = survey_of(alloc, facts)?;
+    let survey = rule_survey(alloc, facts)?;
     let mut rules = Vec::new(alloc);
     for before in 0..RULES {
-        match verdict(alloc, facts, &survey, before)? {
+        match rule_verdict(alloc, facts, &survey, before)? {
             None => {}
             Some(rule) => rules.push(rule)?,
         }

@@ -1,11 +1,11 @@
 //! What is at hand of the facts before their rules are tested.
-ghost use Rattle.std.specs.Prelude.{◌≡◌, map, IfOk, IsPermutation};
+ghost use Rattle.std.specs.Prelude.{◌≡◌, map, IfOk};
 ghost use Rattle.sr_lsdb.specs.Facts.{AreInRange};
-ghost use Rattle.sr_labels.specs.Adjacencies.{AreInOrder};
 ghost use Rattle.sr_domain.specs.Nodes.{ranges_of};
-ghost use Rattle.sr_rules.specs.Survey.{AreSurveyed};
+ghost use Rattle.sr_rules.specs.RuleSurvey.{AreSurveyed};
 
 use sr_domain::{FoundLink, Gathered, adj_labels, gather_facts, sort_links, srgb_of};
+use sr_labels::sort_labels;
 use sr_lsdb::Facts;
 use sr_model::{AdjLabel, Range, SystemId};
 use sr_seq::Seq;
@@ -14,7 +14,7 @@ use std::alloc::{AllocError, Global};
 /// The present nodes, the label ranges of each, the adjacency labels in order of node and then of label, and the links
 /// in order of key.
 #[derive(Drop)]
-pub(crate) struct Survey {
+pub(crate) struct RuleSurvey {
     pub nodes: Vec<SystemId>,
     pub ranges: Vec<Seq<Range>>,
     pub adj: Vec<AdjLabel>,
@@ -47,18 +47,8 @@ fn all_ranges(
     Ok(out)
 }
 
-/// The same labels in order of node and then of label.
-fn sorted_labels(adj: Vec<AdjLabel>) -> Vec<AdjLabel>
-    ensures same { IsPermutation adj.items result.items }
-    ensures order { AreInOrder result.items }
-{
-    let mut list = adj;
-    list.sort_unstable_by_key(|this| (this.node, this.label));
-    list
-}
-
 /// What is at hand of the facts.
-pub(crate) fn survey_of(alloc: Global, facts: &Facts) -> Result<Survey, AllocError>
+pub(crate) fn rule_survey(alloc: Global, facts: &Facts) -> Result<RuleSurvey, AllocError>
     requires { AreInRange facts.now }
     ensures { IfOk result (AreSurveyed facts.now) }
 {
@@ -68,10 +58,10 @@ pub(crate) fn survey_of(alloc: Global, facts: &Facts) -> Result<Survey, AllocErr
         nodes,
         mut links,
     } = gather_facts(alloc, facts)?;
-    let adj = sorted_labels(adj_labels(alloc, &nodes, &links)?);
+    let adj = sort_labels(adj_labels(alloc, &nodes, &links)?);
     sort_links(&mut links);
     let ranges = all_ranges(alloc, facts, &nodes)?;
-    Ok(Survey {
+    Ok(RuleSurvey {
         nodes,
         ranges,
         adj,

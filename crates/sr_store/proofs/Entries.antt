@@ -3,8 +3,8 @@ use Rattle.std.proofs.Common.{◌≡◌, ℕ, suc, ◌≤◌, Bool, true, false,
 use Rattle.std.proofs.lemmas.Bool.Decides.{nat_tests}
 use lib.Dec.{leb}
 use mathlib.Core.List.{IsPrefix}
-use Rattle.sr_store.specs.declared.history.Entry.{Entry}
-use Rattle.sr_store.specs.declared.history.Entry.TheVariants.{Version, Mark}
+use Rattle.sr_store.specs.declared.history.LogEntry.{LogEntry}
+use Rattle.sr_store.specs.declared.history.LogEntry.TheVariants.{Version, Mark}
 use Rattle.logbook.specs.Pages.{Book}
 use Rattle.sr_store.specs.Entries.{entries_of, entry_versions}
 use Rattle.sr_store.specs.Histories.{History, Begins}
@@ -22,12 +22,12 @@ pub entries-length : {V : Type 0} (vs : List V) → length (entries_of vs false)
 entries-length [] = refl
 entries-length (v ∷ vs) = ap (λ n. suc n) (entries-length vs)
 
-pub versions-append : {V : Type 0} (es fs : List (Entry V)) → entry_versions (es ++ fs) ≡ entry_versions es ++ entry_versions fs
+pub versions-append : {V : Type 0} (es fs : List (LogEntry V)) → entry_versions (es ++ fs) ≡ entry_versions es ++ entry_versions fs
 versions-append [] fs = refl
 versions-append (Version v ∷ es) fs = ap (λ vs. v ∷ vs) (versions-append es fs)
 versions-append (Mark ∷ es) fs = versions-append es fs
 
-pub versions-prefix : {V : Type 0} (es fs : List (Entry V)) → IsPrefix es fs → IsPrefix (entry_versions es) (entry_versions fs)
+pub versions-prefix : {V : Type 0} (es fs : List (LogEntry V)) → IsPrefix es fs → IsPrefix (entry_versions es) (entry_versions fs)
 versions-prefix es fs p = (entry_versions p.0, sym (versions-append es p.0) ∙ ap entry_versions p.1)
 
 -- nothing stands after a mark
@@ -41,11 +41,11 @@ mark-last (v ∷ vs) [] false p = absurd (cc (p.1))
 mark-last (v ∷ vs) (w ∷ ws) closed p =
     let rest = mark-last vs ws closed (p.0, cc (p.1)) in (cc (p.1, rest.0), rest.1)
 
-abbrev pub history_of : {V : Type 0} → Book → List (Entry V) → Bool → History V
+abbrev pub history_of : {V : Type 0} → Book → List (LogEntry V) → Bool → History V
 history_of store entries closed = record { store = store; versions = entry_versions entries; closed = closed }
 
 -- what begins another in the logbook begins it as a history
-pub entries-begin : {V : Type 0} (one other : Book) (es fs : List (Entry V)) (c d : Bool) → one ≡ other
+pub entries-begin : {V : Type 0} (one other : Book) (es fs : List (LogEntry V)) (c d : Bool) → one ≡ other
     → es ≡ entries_of (entry_versions es) c → fs ≡ entries_of (entry_versions fs) d → IsPrefix es fs
     → Begins (history_of one es c) (history_of other fs d)
 entries-begin {V} one other es fs c d same left right p = record {

@@ -1,8 +1,8 @@
 -- A front with one more entry.
 use Rattle.std.proofs.Common.{◌≡◌, ℕ, ◌+◌, ◌<◌, ◌≤◌, ◌^◌, true, false, List, [], ◌∷◌, ◌++◌, length, ap, sym, ◌∙◌, subst, arith, length-append}
 use Rattle.std.proofs.lemmas.List.{append-nil}
-use Rattle.sr_store.specs.declared.history.Entry.{Entry}
-use Rattle.sr_store.specs.declared.history.Entry.TheVariants.{Version, Mark}
+use Rattle.sr_store.specs.declared.history.LogEntry.{LogEntry}
+use Rattle.sr_store.specs.declared.history.LogEntry.TheVariants.{Version, Mark}
 use Rattle.sr_store.specs.Entries.{entries_of, entry_versions}
 use Rattle.sr_store.specs.Fronts.{IsFront}
 use Rattle.sr_store.specs.Histories.{IsNext, NumbersRise}
@@ -10,10 +10,10 @@ use Rattle.sr_store.proofs.Entries.{entries-push, entries-mark, entries-length, 
 use Rattle.sr_store.proofs.Numbers.{rise-push, rise-bound, get-last}
 
 module _ {V : Type 0} (number : V → ℕ) where
-  pub front-room : (count : ℕ) (log : List (Entry V)) → IsFront number count log false → count ≤ 2 ^ 32
+  pub front-room : (count : ℕ) (log : List (LogEntry V)) → IsFront number count log false → count ≤ 2 ^ 32
   front-room count log f = omega (arith, f.count, ap length f.entries, entries-length (entry_versions log), f.few)
 
-  pub front-push : (count : ℕ) (log now : List (Entry V)) (v : V) → IsFront number count log false → IsNext number (entry_versions log) v
+  pub front-push : (count : ℕ) (log now : List (LogEntry V)) (v : V) → IsFront number count log false → IsNext number (entry_versions log) v
       → number v < 2 ^ 32 → now ≡ log ++ Version v ∷ [] → IsFront number (count + 1) now false
   front-push count log now v f next small is =
       let vs = entry_versions log in
@@ -27,7 +27,7 @@ module _ {V : Type 0} (number : V → ℕ) where
         rise = subst (λ ws. NumbersRise number ws) (sym all) rise;
       }
 
-  pub front-mark : (count : ℕ) (log now : List (Entry V)) → IsFront number count log false → now ≡ log ++ Mark ∷ []
+  pub front-mark : (count : ℕ) (log now : List (LogEntry V)) → IsFront number count log false → now ≡ log ++ Mark ∷ []
       → IsFront number (count + 1) now true
   front-mark count log now f is =
       let vs = entry_versions log in

@@ -20,8 +20,8 @@ abbrev pub spread : Usage → Usage
 spread u = record { places = u.places; given = u.given; published = counted (u.published + 1); turns = u.turns }
 
 -- these turns were taken
-abbrev pub turned : Usage → ℕ → Usage
-turned u turns = record {
+abbrev pub usage_turned : Usage → ℕ → Usage
+usage_turned u turns = record {
   places = u.places;
   given = u.given;
   published = u.published;

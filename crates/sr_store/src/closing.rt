@@ -1,7 +1,7 @@
 //! The end of a store: the close mark, and the last turn of each reader.
 ghost use Rattle.std.specs.Prelude.{◌≡◌, ◌-◌, ◌^◌, min, true, false, All, [], ◌≤◌, IfOk, IfErr, MatchResult, vec_len, vec_capacity};
 ghost use Rattle.std.specs.Arc.{arc_value};
-ghost use Rattle.sr_store.specs.Counts.{counted, turned};
+ghost use Rattle.sr_store.specs.Counts.{counted, usage_turned};
 ghost use Rattle.sr_store.specs.Closes.{Ended, HaveEnded, turns_of};
 ghost use Rattle.sr_store.specs.Histories.{with_mark};
 ghost use Rattle.sr_store.specs.Lists.{EndsWith};
@@ -68,9 +68,13 @@ pub fn close<V: Numbered + Drop, R: Wait>(
 ) -> Result<Closed<V>, (AllocError, Writer<V>, Vec<Reader<V>>)>
     requires free { writer.stuck ≡ false }
     requires seats { SeatsFrom writer.list.store 0 readers.items × (writer.given ≡ vec_len readers) }
-    ensures usage { MatchResult result (λ _. usage.new ≡ turned usage.old (turns_of readers.items)) (λ _. usage.new ≡ usage.old) }
-    ensures closed { IfOk result (λ c. (c.list ≡ with_mark writer.list) × EndsWith c.list.versions (arc_value c.last) × Ended c.list readers.items c.ended.items × HaveEnded readers.items c.readers.items c.ended.items) }
-    ensures same { IfErr result (λ e. (e.1.list ≡ writer.list) × (e.1.stuck ≡ true) × (e.1.given ≡ writer.given) × (e.2 ≡ readers)) }
+    ensures usage { MatchResult result (λ _. usage.new ≡ usage_turned usage.old (turns_of readers.items))
+        (λ _. usage.new ≡ usage.old) }
+    ensures closed { IfOk result
+        (λ c. (c.list ≡ with_mark writer.list) × EndsWith c.list.versions (arc_value c.last)
+        × Ended c.list readers.items c.ended.items × HaveEnded readers.items c.readers.items c.ended.items) }
+    ensures same { IfErr result
+        (λ e. (e.1.list ≡ writer.list) × (e.1.stuck ≡ true) × (e.1.given ≡ writer.given) × (e.2 ≡ readers)) }
 {
     let turns = turns_of_all(&readers);
     let mut ended = match Vec::with_capacity(alloc, readers.len()) {

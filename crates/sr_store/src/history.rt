@@ -8,7 +8,7 @@ use sr_base::Numbered;
 use std::marker::Model;
 
 /// What a history holds: its versions, and at its end perhaps the close mark. No value of these is made.
-pub enum Entry<V> {
+pub enum LogEntry<V> {
     Version(V),
     Mark,
 }
@@ -16,7 +16,7 @@ pub enum Entry<V> {
 /// The rule of the history.
 pub struct Law;
 
-impl<V> Rule<Entry<V>, u64> for Law {
+impl<V> Rule<LogEntry<V>, u64> for Law {
     ghost use Rattle.std.specs.Prelude.{[]};
     ghost use base.Fml.{ftrue};
     ghost use Rattle.sr_store.specs.Rules.{IsKeptLog};
@@ -37,7 +37,7 @@ impl<V> Rule<Entry<V>, u64> for Law {
 /// Callers trade nothing.
 pub struct Nothing;
 
-impl<V> Gain<Entry<V>, u64> for Nothing {
+impl<V> Gain<LogEntry<V>, u64> for Nothing {
     ghost use base.Fml.{ftrue};
 
     ghost after = { λ names about answer. ftrue };
@@ -46,15 +46,15 @@ impl<V> Gain<Entry<V>, u64> for Nothing {
 /// A step that adds an entry.
 pub struct Add;
 
-impl<V> Play<Entry<V>, u64> for Add {
+impl<V> Play<LogEntry<V>, u64> for Add {
     ghost use Rattle.sr_store.specs.Rules.{AddsEntry};
 
     ghost then = { AddsEntry };
 }
 
-impl<V> Plain<V, Entry<V>, u64> for Add {
+impl<V> Plain<V, LogEntry<V>, u64> for Add {
     ghost use Rattle.std.specs.Prelude.{None};
-    ghost use Rattle.sr_store.specs.declared.history.Entry.TheVariants.{Version};
+    ghost use Rattle.sr_store.specs.declared.history.LogEntry.TheVariants.{Version};
 
     ghost ask = { λ version. Version version };
 
@@ -64,9 +64,9 @@ impl<V> Plain<V, Entry<V>, u64> for Add {
 /// A step that adds the close mark.
 pub struct Finish;
 
-impl<V> Plain<(), Entry<V>, u64> for Finish {
+impl<V> Plain<(), LogEntry<V>, u64> for Finish {
     ghost use Rattle.std.specs.Prelude.{None};
-    ghost use Rattle.sr_store.specs.declared.history.Entry.TheVariants.{Mark};
+    ghost use Rattle.sr_store.specs.declared.history.LogEntry.TheVariants.{Mark};
 
     ghost ask = { λ nothing. Mark };
 
@@ -79,7 +79,7 @@ impl<V> Plain<(), Entry<V>, u64> for Finish {
 pub struct Front<V: Numbered + Drop> {
     count: u64,
     closed: bool,
-    seen: Seen<Entry<V>, u64, Law>,
+    seen: Seen<LogEntry<V>, u64, Law>,
 }
 
 impl<V: Numbered + Drop> Model for Front<V> {
@@ -131,7 +131,7 @@ impl<V: Numbered + Drop> Front<V> {
     }
 
     // This front with one more version, where it is the whole history.
-    fn extended(&self, head: &Word<Entry<V>, u64, Law>, version: &V) -> Option<Front<V>>
+    fn extended(&self, head: &Word<LogEntry<V>, u64, Law>, version: &V) -> Option<Front<V>>
         requires head { head.now ≡ named_head self.now.store }
         requires open { self.now.closed ≡ false }
         requires next { IsNext V.number_of self.now.versions version.now }
@@ -150,7 +150,7 @@ impl<V: Numbered + Drop> Front<V> {
     }
 
     // This front ended by the close mark, where it is the whole history.
-    fn ended(&self, head: &Word<Entry<V>, u64, Law>) -> Option<Front<V>>
+    fn ended(&self, head: &Word<LogEntry<V>, u64, Law>) -> Option<Front<V>>
         requires head { head.now ≡ named_head self.now.store }
         requires open { self.now.closed ≡ false }
         ensures { IfSome result (λ front. front ≡ with_mark self.now) }
@@ -170,7 +170,7 @@ impl<V: Numbered + Drop> Front<V> {
 /// The right to add to a history, which contracts see as the whole of that history.
 #[derive(Drop)]
 pub struct Author<V: Numbered + Drop> {
-    head: Word<Entry<V>, u64, Law>,
+    head: Word<LogEntry<V>, u64, Law>,
     front: Front<V>,
 }
 
@@ -241,11 +241,11 @@ impl<V: Numbered + Drop> Author<V> {
 
 // All that was seen with the offered entry, where nothing was added since.
 fn longer<V>(
-    head: &Word<Entry<V>, u64, Law>,
-    seen: &Seen<Entry<V>, u64, Law>,
+    head: &Word<LogEntry<V>, u64, Law>,
+    seen: &Seen<LogEntry<V>, u64, Law>,
     count: u64,
-    offer: Offer<Entry<V>, u64, Law, Nothing>,
-) -> Option<Seen<Entry<V>, u64, Law>>
+    offer: Offer<LogEntry<V>, u64, Law, Nothing>,
+) -> Option<Seen<LogEntry<V>, u64, Law>>
     requires head { head.now ≡ named_head seen.now.book }
     requires offer { (offer.names ≡ seen.now.names) × (offer.state ≡ None) }
     requires count { (count ≡ length seen.now.log) × (count < 2 ^ 62) }

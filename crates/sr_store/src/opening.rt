@@ -25,10 +25,12 @@ pub fn open<V: Numbered + Drop, R: Wait>(
     usage: &mut Usage,
 ) -> Result<(Writer<V>, Vec<Reader<V>>), AllocError>
     requires { 0 < places }
-    ensures usage { MatchResult result (λ t. usage.new ≡ opened usage.old places (vec_len t.1)) (λ _. usage.new ≡ usage.old) }
+    ensures usage { MatchResult result (λ t. usage.new ≡ opened usage.old places (vec_len t.1))
+        (λ _. usage.new ≡ usage.old) }
     ensures writer { IfOk result (λ t. (t.0.list.versions ≡ arc_value first ∷ []) × (t.0.stuck ≡ false)) }
     ensures readers { IfOk result (λ t. All (IsSeat t.0.list) t.1.items) }
-    ensures seats { IfOk result (λ t. SeatsFrom t.0.list.store 0 t.1.items × (t.0.given ≡ vec_len t.1) × (vec_len t.1 ≤ places)) }
+    ensures seats { IfOk result
+        (λ t. SeatsFrom t.0.list.store 0 t.1.items × (t.0.given ≡ vec_len t.1) × (vec_len t.1 ≤ places)) }
 {
     let mut readers = Vec::with_capacity(alloc, places as usize)?;
     let mut writer = found(rt, alloc, &first, places)?;

@@ -102,9 +102,11 @@ impl<V: Numbered + Drop> Reader<V> {
     pub fn grab(&mut self) -> Result<bool, AllocError>
         ensures seen { result ≡ Ok true → Begins self.old.list self.new.list × Begins self.old.told self.new.list }
         ensures unseen { result ≢ Ok true → self.new.list ≡ self.old.list }
-        ensures kept { (self.new.list.store ≡ self.old.list.store) × (self.new.seat ≡ self.old.seat) × (self.new.told ≡ self.old.told) }
+        ensures kept { (self.new.list.store ≡ self.old.list.store) × (self.new.seat ≡ self.old.seat)
+            × (self.new.told ≡ self.old.told) }
         ensures turns { self.new.turns ≡ counted (self.old.turns + 1) }
-        ensures refused { (result ≡ Ok false → self.new.refused ≡ counted (self.old.refused + 1)) × (result ≢ Ok false → self.new.refused ≡ self.old.refused) }
+        ensures refused { (result ≡ Ok false → self.new.refused ≡ counted (self.old.refused + 1))
+            × (result ≢ Ok false → self.new.refused ≡ self.old.refused) }
     {
         self.turns = self.turns.saturating_add(1);
         match self.look() {
@@ -153,8 +155,10 @@ impl<V: Numbered + Drop> Reader<V> {
     // What is shown now, where left_right gives a turn.
     fn look(&mut self) -> Option<Result<Shown<V>, AllocError>>
         ensures shown { ForSome result (λ r. IfOk r (λ s. s.store ≡ self.old.list.store)) }
-        ensures lists { (self.new.list ≡ self.old.list) × (self.new.told ≡ self.old.told) × (self.new.last ≡ self.old.last) }
-        ensures rest { (self.new.seat ≡ self.old.seat) × (self.new.turns ≡ self.old.turns) × (self.new.refused ≡ self.old.refused) }
+        ensures lists { (self.new.list ≡ self.old.list) × (self.new.told ≡ self.old.told)
+            × (self.new.last ≡ self.old.last) }
+        ensures rest { (self.new.seat ≡ self.old.seat) × (self.new.turns ≡ self.old.turns)
+            × (self.new.refused ≡ self.old.refused) }
     {
         let Some(place) = self.place.take() else {
             return None;

@@ -1,6 +1,6 @@
 //! What was made of stores: how many places were asked for and given, how much was published, and how many turns were taken.
 ghost use Rattle.std.specs.Prelude.{◌≡◌};
-ghost use Rattle.sr_store.specs.Counts.{opened, spread, turned};
+ghost use Rattle.sr_store.specs.Counts.{opened, spread, usage_turned};
 
 /// Four counts, each of which stops at 2^64 - 1. Only this crate raises one.
 #[derive(Drop)]
@@ -61,7 +61,7 @@ impl Usage {
     }
 
     pub(crate) fn count_turns(&mut self, turns: u64)
-        ensures { self.new ≡ turned self.old turns }
+        ensures { self.new ≡ usage_turned self.old turns }
     {
         self.turns = self.turns.saturating_add(turns);
     }

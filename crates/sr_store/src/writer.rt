@@ -72,7 +72,9 @@ impl<V: Numbered + Drop> Writer<V> {
         requires free { self.old.stuck ≡ false }
         requires next { IsNext V.number_of self.old.list.versions (arc_value version) }
         ensures usage { MatchResult result (λ _. usage.new ≡ spread usage.old) (λ _. usage.new ≡ usage.old) }
-        ensures list { MatchResult result (λ _. (self.new.list ≡ with_version self.old.list (arc_value version)) × (self.new.stuck ≡ false)) (λ _. (self.new.list ≡ self.old.list) × (self.new.stuck ≡ true)) }
+        ensures list { MatchResult result
+            (λ _. (self.new.list ≡ with_version self.old.list (arc_value version)) × (self.new.stuck ≡ false))
+            (λ _. (self.new.list ≡ self.old.list) × (self.new.stuck ≡ true)) }
         ensures given { self.new.given ≡ self.old.given }
     {
         self.stuck = true;
@@ -85,7 +87,9 @@ impl<V: Numbered + Drop> Writer<V> {
             |writer: Writer<V>, version: Arc<V>| -> (Writer<V>, Result<(), AllocError>)
                 requires idle { drop writer.inner.behind writer.inner.log.items ≡ [] }
                 requires last { EndsWith writer.author.versions (arc_value version) }
-                ensures list { MatchResult result.1 (λ _. (result.0.list ≡ writer.author) × (result.0.stuck ≡ writer.author.closed)) (λ _. (result.0.list ≡ writer.list) × (result.0.stuck ≡ true)) }
+                ensures list { MatchResult result.1
+                    (λ _. (result.0.list ≡ writer.author) × (result.0.stuck ≡ writer.author.closed))
+                    (λ _. (result.0.list ≡ writer.list) × (result.0.stuck ≡ true)) }
                 ensures given { result.0.given ≡ writer.given }
             { writer.show(rt, version) },
         );
@@ -118,7 +122,9 @@ impl<V: Numbered + Drop> Writer<V> {
     fn show<R: Wait>(self, rt: &R, version: Arc<V>) -> (Writer<V>, Result<(), AllocError>)
         requires idle { drop self.inner.behind self.inner.log.items ≡ [] }
         requires last { EndsWith self.author.versions (arc_value version) }
-        ensures list { MatchResult result.1 (λ _. (result.0.list ≡ self.author) × (result.0.stuck ≡ self.author.closed)) (λ _. (result.0.list ≡ self.list) × (result.0.stuck ≡ true)) }
+        ensures list { MatchResult result.1
+            (λ _. (result.0.list ≡ self.author) × (result.0.stuck ≡ self.author.closed))
+            (λ _. (result.0.list ≡ self.list) × (result.0.stuck ≡ true)) }
         ensures given { result.0.given ≡ self.given }
     {
         let newest = match Arc::try_clone(&version) {
@@ -167,7 +173,8 @@ impl<V: Numbered + Drop> Writer<V> {
     // Ends the list by the close mark, and shows it. The writer is stuck from now on.
     pub(crate) fn mark<R: Wait>(self, rt: &R) -> (Writer<V>, Result<(), AllocError>)
         requires free { self.stuck ≡ false }
-        ensures list { MatchResult result.1 (λ _. result.0.list ≡ with_mark self.list) (λ _. result.0.list ≡ self.list) }
+        ensures list { MatchResult result.1 (λ _. result.0.list ≡ with_mark self.list)
+            (λ _. result.0.list ≡ self.list) }
         ensures stuck { (result.0.stuck ≡ true) × (result.0.given ≡ self.given) }
     {
         let mut writer = self;

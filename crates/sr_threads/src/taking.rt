@@ -169,7 +169,7 @@ fn or_made<T: Drop, F: Fn(u32) -> Result<T, AllocError>>(
 }
 
 /// What belongs to each number, in order, from what the threads did.
-fn in_order<T: Drop, F: Fn(u32) -> Result<T, AllocError>>(
+fn by_number<T: Drop, F: Fn(u32) -> Result<T, AllocError>>(
     alloc: Global,
     f: &F,
     count: u32,
@@ -213,5 +213,5 @@ pub fn made_of_each<R: Threads + Sync, T: Drop + Send, F: Fn(u32) -> Result<T, A
         threads,
     )?;
     let places = at_places(alloc, f, count, done)?;
-    in_order(alloc, f, count, places)
+    by_number(alloc, f, count, places)
 }

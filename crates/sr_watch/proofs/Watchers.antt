@@ -8,7 +8,7 @@ use Rattle.sr_store.specs.declared.reader.Reader.{Reader}
 use Rattle.sr_watch.specs.declared.inspect.Round.{Round}
 use Rattle.sr_watch.specs.declared.task.Task.{Task}
 use Rattle.sr_watch.specs.declared.seated.Seated.{Seated}
-use Rattle.sr_watch.specs.declared.seated.Done.{Done}
+use Rattle.sr_watch.specs.declared.seated.Finished.{Finished}
 use Rattle.sr_watch.specs.declared.apart.Apart.{Apart}
 use Rattle.sr_watch.specs.declared.apart.Rounds.{Rounds}
 use Rattle.sr_watch.specs.Rounds.{Inspection}
@@ -122,7 +122,7 @@ module _ {V I O : Type 0} (how : Inspection V I O) where
   took-of p r (Ok v) all all' made here = (v.items, made.took, here)
   took-of p r (Err e) all all' made here = absurd here
 
-  pub seated-step : (p : Seated V I) (done : Done V O) (all all' : List (Round O))
+  pub seated-step : (p : Seated V I) (done : Finished V O) (all all' : List (Round O))
       → Made how p.task p.start.value done
       → IsOkAnd done.result (λ v. all' ≡ all ++ v.items)
       → (mine : List (Round O)) × Took how p.task p.start.value done.reader mine × (all' ≡ all ++ mine)

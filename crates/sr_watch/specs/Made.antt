@@ -6,7 +6,7 @@ use Rattle.sr_store.specs.Histories.{Begins}
 use Rattle.sr_store.specs.declared.reader.Reader.{Reader}
 use Rattle.sr_watch.specs.declared.inspect.Round.{Round}
 use Rattle.sr_watch.specs.declared.task.Task.{Task}
-use Rattle.sr_watch.specs.declared.seated.Done.{Done}
+use Rattle.sr_watch.specs.declared.seated.Finished.{Finished}
 use Rattle.sr_watch.specs.declared.apart.Rounds.{Rounds}
 use Rattle.sr_watch.specs.Rounds.{Inspection, Chain, Repeats}
 
@@ -26,12 +26,13 @@ pub record Kept {V : Type 0} (start end : Reader V) : Type 0 where
 
 -- what a watcher with a reader hands back: that reader, and its rounds where memory didn't run out
 pub record Made {V I O : Type 0} (how : Inspection V I O) (task : Task I)
-    (start : Reader V) (done : Done V O) : Type 0 where
+    (start : Reader V) (done : Finished V O) : Type 0 where
   pub kept : Kept start done.reader
   pub took : IfOk done.result (λ v. Took how task start done.reader v.items)
 
 -- all rounds of a task, made on one version
-pub record Saw {V I O : Type 0} (how : Inspection V I O) (task : Task I) (v : V) (rounds : List (Round O)) : Type 0 where
+pub record Saw {V I O : Type 0} (how : Inspection V I O) (task : Task I) (v : V)
+    (rounds : List (Round O)) : Type 0 where
   pub all : Repeats how task task.first v rounds
   pub count_is : length rounds ≡ task.rounds
 

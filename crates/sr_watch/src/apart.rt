@@ -5,7 +5,7 @@ ghost use Rattle.std.specs.Thread.{IsSync};
 ghost use Rattle.sr_watch.specs.Rounds.{inspection_by};
 ghost use Rattle.sr_watch.specs.Made.{Alone};
 
-use crate::inspect::{Gate, Inspect, Round, look};
+use crate::inspect::{Gate, Inspect, Round, inspected};
 use crate::task::Task;
 use sr_base::{Numbered, Runtime};
 use std::alloc::{AllocError, Global};
@@ -48,7 +48,7 @@ where
     for past in 0..task.rounds {
         let round = task.first + past;
         gate.pass(task.watcher, round);
-        match look(&rt, alloc, task, round, &version) {
+        match inspected(&rt, alloc, task, round, &version) {
             Ok(seen) => match made.push(seen) {
                 Ok(()) => {}
                 Err(_) => {

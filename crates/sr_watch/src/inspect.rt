@@ -49,7 +49,7 @@ pub struct Round<O> {
 }
 
 /// The round of this number on a version. The error is out of memory.
-pub(crate) fn look<R: Runtime, V: Numbered, I: Inspect<V>>(
+pub(crate) fn inspected<R: Runtime, V: Numbered, I: Inspect<V>>(
     rt: &R,
     alloc: Global,
     task: Task<I>,

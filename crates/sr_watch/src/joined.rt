@@ -7,7 +7,7 @@ ghost use Rattle.sr_watch.specs.Turns.{BackSoFar, ApartSoFar, IsRoomFor};
 use crate::apart::{Apart, Rounds};
 use crate::inspect::{Inspect, Round};
 use crate::running::Running;
-use crate::seated::{Done, Seated};
+use crate::seated::{Finished, Seated};
 use sr_base::Numbered;
 use sr_store::Reader;
 use std::alloc::AllocError;
@@ -42,7 +42,7 @@ where
 /// Joins the watchers that have readers, and says whether memory sufficed for all rounds. There is room for the readers.
 pub(crate) fn join_seated<V, I>(
     rt: &impl Threads,
-    seated: Vec<Running<Done<V, I::Out>, Seated<V, I>>>,
+    seated: Vec<Running<Finished<V, I::Out>, Seated<V, I>>>,
     back: &mut Vec<Reader<V>>,
     all: &mut Vec<Round<I::Out>>,
 ) -> bool
@@ -64,7 +64,7 @@ where
             Some(one) => one,
             None => unreachable!(),
         };
-        let Done { reader, result } = one.join(rt);
+        let Finished { reader, result } = one.join(rt);
         back.push_reserved(reader);
         whole = gather(all, whole, result);
     }

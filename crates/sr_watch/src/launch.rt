@@ -10,7 +10,7 @@ ghost use Rattle.sr_watch.specs.Turns.{AreFew, IsRoomFor};
 use crate::apart::{Apart, Rounds, looks};
 use crate::inspect::{Gate, Inspect};
 use crate::running::Running;
-use crate::seated::{Done, Seated, rounds};
+use crate::seated::{Finished, Seated, rounds};
 use crate::stock::Outlook;
 use crate::task::Task;
 use sr_base::{Numbered, Runtime};
@@ -26,7 +26,7 @@ fn seat_one<R, V, I, G>(
     task: Task<I>,
     gate: Arc<G>,
     reader: Reader<V>,
-) -> Running<Done<V, I::Out>, Seated<V, I>>
+) -> Running<Finished<V, I::Out>, Seated<V, I>>
 where
     R: Runtime + 'static,
     V: Numbered + Drop + Send + Sync + 'static,
@@ -50,7 +50,7 @@ where
         rt,
         plan,
         same,
-        move || -> Done<V, I::Out>
+        move || -> Finished<V, I::Out>
             requires shared { IsSync R.row }
             requires few { task.first + task.rounds ≤ 2 ^ 32 }
             ensures { Made (inspection_by V.number_of I.means) task reader result }
@@ -106,8 +106,8 @@ pub(crate) fn seat_all<R, V, I, G>(
     before: Task<I>,
     readers: Vec<Reader<V>>,
     gates: Vec<Arc<G>>,
-    room: Vec<Running<Done<V, I::Out>, Seated<V, I>>>,
-) -> Vec<Running<Done<V, I::Out>, Seated<V, I>>>
+    room: Vec<Running<Finished<V, I::Out>, Seated<V, I>>>,
+) -> Vec<Running<Finished<V, I::Out>, Seated<V, I>>>
 where
     R: Runtime + 'static,
     V: Numbered + Drop + Send + Sync + 'static,

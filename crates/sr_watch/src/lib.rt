@@ -14,6 +14,6 @@ mod watch;
 pub use apart::{Apart, Rounds};
 pub use inspect::{Gate, Inspect, OpenGate, Round};
 pub use joined::Joined;
-pub use seated::{Done, Seated};
+pub use seated::{Finished, Seated};
 pub use task::{Rota, Task};
 pub use watch::{Watch, hold, start};

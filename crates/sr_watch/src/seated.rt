@@ -5,7 +5,7 @@ ghost use Rattle.sr_store.specs.Counts.{counted};
 ghost use Rattle.sr_watch.specs.Rounds.{IsOf, inspection_by};
 ghost use Rattle.sr_watch.specs.Made.{Kept, Made};
 
-use crate::inspect::{Gate, Inspect, Round, look};
+use crate::inspect::{Gate, Inspect, Round, inspected};
 use crate::task::Task;
 use sr_base::{Numbered, Runtime};
 use sr_store::Reader;
@@ -23,12 +23,12 @@ pub struct Seated<V: Numbered + Drop, I: Drop> {
 
 /// What it hands back: its reader, and all its rounds, or out of memory.
 #[derive(Drop)]
-pub struct Done<V: Numbered + Drop, O> {
+pub struct Finished<V: Numbered + Drop, O> {
     pub reader: Reader<V>,
     pub result: Result<Vec<Round<O>>, AllocError>,
 }
 
-impl<V: Numbered + Drop, I: Inspect<V> + Drop> Promise<Done<V, I::Out>> for Seated<V, I> {
+impl<V: Numbered + Drop, I: Inspect<V> + Drop> Promise<Finished<V, I::Out>> for Seated<V, I> {
     ghost kept_by = { λ p r. Made (inspection_by V.number_of I.means) p.task p.start.value r };
 }
 
@@ -47,7 +47,7 @@ fn turn<R: Runtime, V: Numbered + Drop, I: Inspect<V>>(
         (IsOf (inspection_by V.number_of I.means) task round reader.new.list) }
 {
     let _grabbed = reader.grab()?;
-    look(rt, alloc, task, round, reader.last())
+    inspected(rt, alloc, task, round, reader.last())
 }
 
 /// Makes all rounds of such a watcher, in this thread.
@@ -57,7 +57,7 @@ pub(crate) fn rounds<R: Runtime, V: Numbered + Drop, I: Inspect<V>, G: Gate>(
     task: Task<I>,
     gate: Arc<G>,
     reader: Reader<V>,
-) -> Done<V, I::Out>
+) -> Finished<V, I::Out>
 where
     I::Out: Drop,
     requires shared { IsSync R.row }
@@ -73,14 +73,14 @@ where
             Ok(seen) => match made.push(seen) {
                 Ok(()) => {}
                 Err(_) => {
-                    return Done {
+                    return Finished {
                         reader,
                         result: Err(AllocError),
                     };
                 }
             },
             Err(refused) => {
-                return Done {
+                return Finished {
                     reader,
                     result: Err(refused),
                 };
@@ -88,7 +88,7 @@ where
         }
     }
     reader.list.is_numbered();
-    Done {
+    Finished {
         reader,
         result: Ok(made),
     }

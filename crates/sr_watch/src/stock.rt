@@ -6,7 +6,7 @@ ghost use Rattle.sr_watch.specs.Turns.{IsStock};
 use crate::apart::{Apart, Rounds};
 use crate::inspect::Round;
 use crate::running::Running;
-use crate::seated::{Done, Seated};
+use crate::seated::{Finished, Seated};
 use sr_base::Numbered;
 use sr_store::Reader;
 use std::alloc::{AllocError, Global};

@@ -11,7 +11,7 @@ use crate::inspect::{Gate, Inspect, OpenGate};
 use crate::joined::{Joined, in_order, join_apart, join_seated};
 use crate::launch::{seat_all, set_all_apart, set_one_apart};
 use crate::running::Running;
-use crate::seated::{Done, Seated};
+use crate::seated::{Finished, Seated};
 use crate::stock::{Stock, take_stock};
 use crate::task::{Rota, Task};
 use sr_base::{Numbered, Runtime};
@@ -28,7 +28,7 @@ where
     I::Out: Drop,
 {
     alloc: Global,
-    seated: Vec<Running<Done<V, I::Out>, Seated<V, I>>>,
+    seated: Vec<Running<Finished<V, I::Out>, Seated<V, I>>>,
     apart: Vec<Running<Rounds<I::Out>, Apart<V, I>>>,
     room: Vec<Reader<V>>,
 }

@@ -12,9 +12,9 @@ use Rattle.sr_model.specs.Case.{key_at}
 use Rattle.sr_model.specs.Label.{Labels, label_of, IsGoodAt, IsSrgb}
 use Rattle.sr_model.specs.Rule.{node_at, adj_label_at, adj_labels_of, NoDuplicate, NoOutside, NoAdjClash, AreAnnounced, IsAccepted}
 use Rattle.sr_laws.proofs.Ranges.{label-cases, label-here}
-use Rattle.sr_why.specs.Whole.{whole_range, AreWholeNodes, AreWholeLinks, AreKeysOf}
+use Rattle.sr_why.specs.Whole.{whole_range, AreWholeNodes, AreWholeLinks, AreLinkKeys}
 
-pub keys-announced : (g : Graph) (keys : List LinkKey) → IsNamed g → AreKeysOf g (link_count g) keys → AreAnnounced g keys
+pub keys-announced : (g : Graph) (keys : List LinkKey) → IsNamed g → AreLinkKeys g (link_count g) keys → AreAnnounced g keys
 keys-announced g keys named are = record {
   ascending = λ i j a b lt ea eb.
       let jl : j < length keys = slice_get_within keys j b eb in
@@ -103,7 +103,7 @@ module _ (g : Graph) (graph : IsGraph g) (nodes : List Labels) (whole : AreWhole
         rest)
         c.clash
 
-    pub whole-accepted : IsNamed g → IsGrouped g → (keys : List LinkKey) → AreKeysOf g (link_count g) keys → (depth : ℕ) → depth ≤ 12 → IsAccepted (record { graph = g; labels = nodes; adj = adj; announced = keys; depth = depth })
+    pub whole-accepted : IsNamed g → IsGrouped g → (keys : List LinkKey) → AreLinkKeys g (link_count g) keys → (depth : ℕ) → depth ≤ 12 → IsAccepted (record { graph = g; labels = nodes; adj = adj; announced = keys; depth = depth })
     whole-accepted named grouped keys are depth few = record {
       graph = graph;
       named = named;

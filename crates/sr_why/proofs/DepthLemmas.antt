@@ -13,7 +13,8 @@ use Rattle.sr_walks.proofs.Distances.{IsShortest-from_cost}
 use Rattle.sr_walks.proofs.Distinct.{shortest-length}
 use Rattle.sr_laws.specs.Exact.{Routes}
 use Rattle.sr_laws.proofs.Waypoints.{IsRouted, routed-from_sound, space-walk, last-walk}
-use Rattle.sr_why.specs.Labelled.{AreUnlimited, most_imposed}
+use Rattle.sr_why.specs.declared.labelled.TheConstants.{MOST_IMPOSED}
+use Rattle.sr_why.specs.Labelled.{AreUnlimited}
 
 -- a walk to another node has a link
 walk_some : (g : Graph) (x : List Bool) (u : ℕ) (p : List ℕ) (v : ℕ) → v ≢ u → IsWalk g x u p v → 0 < length p
@@ -75,5 +76,5 @@ sound-short n graph x s d within a i =
 pub sound-fits : (n : Net) → IsGraph n.graph → AreUnlimited n → (x : List Bool) (s d : ℕ) → s < node_count n.graph → (a : Path) → IsSound n x s d a → Fits n s (length a.segments)
 sound-fits n graph unlimited x s d within a i =
     let short : length a.segments + 1 < MOST_NODES = sound-short n graph x s d within a i in
-    let fits : length a.segments + 1 ≤ most_imposed = omega arith in
+    let fits : length a.segments + 1 ≤ MOST_IMPOSED = omega arith in
     subst (λ (o : Option ℕ). FitsDepth o n.depth (length a.segments)) (sym (unlimited s within)) fits

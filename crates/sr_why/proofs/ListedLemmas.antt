@@ -15,7 +15,7 @@ use Rattle.sr_model.specs.Case.{IsAffected, IsCase, IsFailedSet, IsOutside, sour
 use Rattle.sr_model.specs.Repair.{Path, IsAnswer, IsCaseAnswer, IsSound}
 use Rattle.sr_laws.proofs.Failures.{failed-one}
 use Rattle.sr_why.specs.Labelled.{AreUnlimited, IsLabelled, IsUnlimited}
-use Rattle.sr_why.specs.Listed.{IsListed}
+use Rattle.sr_why.specs.Listed.{IsAnsweredByList}
 use Rattle.sr_why.specs.Reasons.{IsLeastList}
 use Rattle.sr_why.proofs.CoverLemmas.{labelled-covers}
 use Rattle.sr_why.proofs.DepthLemmas.{sound-fits}
@@ -52,7 +52,7 @@ module _ (n m : Net) (graph : IsGraph n.graph) (same : m.graph ≡ n.graph) (unl
   }
 
 -- where no list is sound, the answer is a list once nothing is lacking
-pub labelled-listed : (n m : Net) → IsGraph n.graph → IsLabelled n m → AreUnlimited m → (case : Case) → IsCase n.graph case → (x : List Bool) → IsFailedSet n.graph case x → (cells : List ℕ) → IsRow n.graph x (source_of n.graph case) cells → (d : ℕ) → d < node_count n.graph → IsAffected n case d → IsCaseAnswer n case d NoList → IsListed m case d
+pub labelled-listed : (n m : Net) → IsGraph n.graph → IsLabelled n m → AreUnlimited m → (case : Case) → IsCase n.graph case → (x : List Bool) → IsFailedSet n.graph case x → (cells : List ℕ) → IsRow n.graph x (source_of n.graph case) cells → (d : ℕ) → d < node_count n.graph → IsAffected n case d → IsCaseAnswer n case d NoList → IsAnsweredByList m case d
 labelled-listed n m graph labelled unlimited case is x set cells row d within affected i =
     let s : ℕ = source_of n.graph case in
     let cell = row.each d within in
@@ -69,7 +69,7 @@ labelled-listed n m graph labelled unlimited case is x set cells row d within af
     }
 
 -- where the least list is too deep, the answer is a list once nodes impose the most labels
-pub unlimited-listed : (n m : Net) → IsGraph n.graph → IsUnlimited n m → (case : Case) → IsCase n.graph case → (d : ℕ) → d < node_count n.graph → IsAffected n case d → (k : ℕ) → IsCaseAnswer n case d (TooDeep k) → IsListed m case d
+pub unlimited-listed : (n m : Net) → IsGraph n.graph → IsUnlimited n m → (case : Case) → IsCase n.graph case → (d : ℕ) → d < node_count n.graph → IsAffected n case d → (k : ℕ) → IsCaseAnswer n case d (TooDeep k) → IsAnsweredByList m case d
 unlimited-listed n m graph other case is d within affected k i =
     let s : ℕ = source_of n.graph case in
     let sound : IsSound m i.failed s d i.answers.0 = sound-agree n m (agree-unlimited n m other) i.failed s d i.answers.0 i.answers.1.sound in

@@ -7,7 +7,7 @@ use Rattle.sr_model.specs.declared.name.LinkKey.{LinkKey}
 use Rattle.sr_model.specs.Graph.{link_count}
 use Rattle.sr_model.specs.Label.{Labels, Net, nameless}
 use Rattle.sr_model.specs.Rule.{node_at, adj_label_at, adj_labels_of, NoDuplicate, NoOutside, NoAdjClash, IsAccepted}
-use Rattle.sr_why.specs.Whole.{AreUnlimitedNodes, AreKeysOf}
+use Rattle.sr_why.specs.Whole.{AreUnlimitedNodes, AreLinkKeys}
 use Rattle.sr_why.proofs.AcceptedLemmas.{keys-announced}
 
 module _ (nodes others : List Labels) (are : AreUnlimitedNodes nodes (length nodes) others) where
@@ -51,7 +51,7 @@ module _ (nodes others : List Labels) (are : AreUnlimitedNodes nodes (length nod
   })
 
 -- a net whose nodes impose the most labels is accepted where the net is
-pub unlimited-accepted : (n : Net) → IsAccepted n → (others : List Labels) → AreUnlimitedNodes n.labels (length n.labels) others → (keys : List LinkKey) → AreKeysOf n.graph (link_count n.graph) keys → IsAccepted (record { graph = n.graph; labels = others; adj = n.adj; announced = keys; depth = n.depth })
+pub unlimited-accepted : (n : Net) → IsAccepted n → (others : List Labels) → AreUnlimitedNodes n.labels (length n.labels) others → (keys : List LinkKey) → AreLinkKeys n.graph (link_count n.graph) keys → IsAccepted (record { graph = n.graph; labels = others; adj = n.adj; announced = keys; depth = n.depth })
 unlimited-accepted n a others are keys of = record {
   graph = a.graph;
   named = a.named;

@@ -8,6 +8,6 @@ use Rattle.sr_model.specs.Case.{IsAffected}
 use Rattle.sr_model.specs.Repair.{IsCaseAnswer}
 
 -- d is affected, and each answer of the case for it is a list
-pub record IsListed (n : Net) (case : Case) (d : ℕ) : Type 0 where
+pub record IsAnsweredByList (n : Net) (case : Case) (d : ℕ) : Type 0 where
   pub affected : IsAffected n case d
   pub list : (answer : Answer) → IsCaseAnswer n case d answer → is_least answer ≡ true

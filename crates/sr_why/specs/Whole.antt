@@ -6,7 +6,7 @@ use Rattle.sr_model.specs.Graph.{Graph, no_link}
 use Rattle.sr_model.specs.Label.{Labels}
 use Rattle.sr_model.specs.Rule.{node_at}
 use Rattle.sr_model.specs.Case.{key_at}
-use Rattle.sr_why.specs.Labelled.{most_imposed}
+use Rattle.sr_why.specs.declared.labelled.TheConstants.{MOST_IMPOSED}
 
 -- a label for each of that many nodes, from the first that isn't reserved on (RFC 3032, 2.1)
 abbrev pub whole_range : ℕ → Range
@@ -19,7 +19,7 @@ whole_labels count v = record {
   index = Some v;
   keep = false;
   explicit = false;
-  imposes = Some most_imposed;
+  imposes = Some MOST_IMPOSED;
 }
 
 -- the first m of that many nodes announce that
@@ -36,7 +36,7 @@ pub record AreWholeLinks (count m : ℕ) (adj : List (Option ℕ)) : Type 0 wher
 pub record IsUnlimitedNode (one other : Labels) : Type 0 where
   pub srgb : other.srgb ≡ one.srgb
   pub index : other.index ≡ one.index
-  pub imposes : other.imposes ≡ Some most_imposed
+  pub imposes : other.imposes ≡ Some MOST_IMPOSED
 
 -- so it is with the first m nodes
 pub record AreUnlimitedNodes (nodes : List Labels) (m : ℕ) (others : List Labels) : Type 0 where
@@ -44,6 +44,6 @@ pub record AreUnlimitedNodes (nodes : List Labels) (m : ℕ) (others : List Labe
   pub each : (v : ℕ) → v < m → IsUnlimitedNode (node_at nodes v) (node_at others v)
 
 -- the keys are those of the first m links, in their order
-pub record AreKeysOf (g : Graph) (m : ℕ) (keys : List LinkKey) : Type 0 where
+pub record AreLinkKeys (g : Graph) (m : ℕ) (keys : List LinkKey) : Type 0 where
   pub long : length keys ≡ m
   pub each : (l : ℕ) → l < m → slice_index_or keys l no_link.key ≡ key_at g l

@@ -1,17 +1,15 @@
 //! The net as if no index and no label were lacking.
 ghost use Rattle.std.specs.Prelude.{◌≡◌, ◌<◌, ◌≤◌, [], ◌∷◌, IfOk};
+ghost use Rattle.sr_model.specs.declared.link.TheConstants.{MOST_LINKS as MostLinks};
 ghost use Rattle.sr_why.specs.Labelled.{AreUnlimited, IsLabelled};
 ghost use Rattle.sr_why.specs.Whole.{whole_range, AreWholeLinks, AreWholeNodes};
 
 use crate::keys::link_keys;
-use sr_labels::{Net, NodeLabels, Range, Srgb};
+use sr_labels::{FIRST_FREE, Net, NodeLabels, Range, Srgb};
 use std::alloc::{AllocError, Global};
 
 /// The most labels that a node can announce that it imposes (RFC 8491, 5).
 pub(crate) const MOST_IMPOSED: u8 = 255;
-
-/// The first label that isn't reserved (RFC 3032, 2.1).
-const FIRST_FREE: u32 = 16;
 
 /// The SRGB that has a label for each of that many nodes.
 fn whole_srgb(alloc: Global, count: u32) -> Result<Srgb, AllocError>
@@ -43,7 +41,7 @@ fn whole_nodes(alloc: Global, count: u32) -> Result<Vec<NodeLabels>, AllocError>
 /// The labels of that many links, behind those of the nodes.
 fn whole_links(alloc: Global, nodes: u32, links: u32) -> Result<Vec<Option<u32>>, AllocError>
     requires nodes { nodes ≤ 256 }
-    requires links { links ≤ 2048 }
+    requires links { links ≤ MostLinks }
     ensures { IfOk result (λ adj. AreWholeLinks nodes links adj.items) }
 {
     let mut adj = Vec::with_capacity(alloc, links as usize)?;

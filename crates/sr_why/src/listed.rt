@@ -3,7 +3,7 @@ ghost use Rattle.std.specs.Prelude.{IfOk};
 ghost use Rattle.sr_model.specs.Case.{IsCase, source_of};
 ghost use Rattle.sr_spf.specs.Trees.{AreTrees};
 ghost use Rattle.sr_post.specs.Post.{IsPost};
-ghost use Rattle.sr_why.specs.Listed.{IsListed};
+ghost use Rattle.sr_why.specs.Listed.{IsAnsweredByList};
 ghost use Rattle.sr_why.specs.Reasons.{IsLeastList};
 
 use crate::whole::{WholeList, whole_list};
@@ -27,7 +27,7 @@ pub(crate) fn least_list(
     requires trees { AreTrees net.now.graph trees.now }
     requires case { IsCase net.now.graph case }
     requires post { IsPost net.now case post.now }
-    requires listed { IsListed net.now case destination.0 }
+    requires listed { IsAnsweredByList net.now case destination.0 }
     ensures { IfOk result
         (IsLeastList net.now post.now.failed (source_of net.now.graph case) destination.0) }
 {

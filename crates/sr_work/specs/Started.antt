@@ -1,4 +1,4 @@
--- What is kept of the watch or the hold that runs.
+-- The record of the watch or the hold that runs.
 use Rattle.std.specs.Prelude.{◌≡◌, ◌≤◌, List, [], ◌∷◌, All, length}
 use mathlib.Core.List.{IsPrefix}
 use Rattle.sr_repair.specs.Version.{NumberedNet}

@@ -11,7 +11,7 @@ pub record Watched : Type 0 where
   pub given : ℕ
   pub versions : List NumberedNet
 
--- a watch that began with this version, with so many watchers, rounds and readers
+-- a watch that began with this version, with that many watchers, rounds and readers
 abbrev pub watched_from : ℕ → ℕ → ℕ → NumberedNet → Watched
 watched_from watchers rounds given version =
     record { watchers = watchers; rounds = rounds; given = given; versions = version ∷ [] }

@@ -2,7 +2,7 @@
 use Rattle.std.specs.Prelude.{ℕ, ◌≡◌, ◌*◌, ◌≤◌, List, [], ◌∷◌}
 use Rattle.sr_model.specs.declared.audit.RoundReport.{RoundReport}
 use Rattle.sr_repair.specs.Version.{NumberedNet}
-use Rattle.sr_store.specs.Counts.{opened, spread, turned}
+use Rattle.sr_store.specs.Counts.{opened, spread, usage_turned}
 use Rattle.sr_store.specs.declared.usage.Usage.{Usage}
 use Rattle.sr_work.specs.Watched.{watched_from, with_next, IsNumberedNext}
 use Rattle.sr_work.specs.Reports.{IsHoldReport, AreReports}
@@ -45,4 +45,4 @@ AreReportsOf (Watches watched) reports = AreReports watched.watchers watched.rou
 abbrev pub usage_joined : Work → Usage → Usage
 usage_joined Idle usage = usage
 usage_joined (Holds held) usage = usage
-usage_joined (Watches watched) usage = turned usage (watched.given * watched.rounds)
+usage_joined (Watches watched) usage = usage_turned usage (watched.given * watched.rounds)

@@ -3,7 +3,7 @@ ghost use Rattle.std.specs.Prelude.{◌≡◌, ◌*◌, ◌<◌, ◌≤◌, ◌�
 ghost use Rattle.std.specs.Arc.{arc_value};
 ghost use Rattle.std.specs.Thread.{IsSync};
 ghost use Rattle.sr_store.specs.Closes.{Ended, turns_of};
-ghost use Rattle.sr_store.specs.Counts.{opened, spread, turned};
+ghost use Rattle.sr_store.specs.Counts.{opened, spread, usage_turned};
 ghost use Rattle.sr_store.specs.Histories.{with_mark};
 ghost use Rattle.sr_store.specs.Seats.{SeatsFrom};
 ghost use Rattle.sr_work.specs.Reports.{AreReports};
@@ -69,7 +69,7 @@ fn close_store<R: Wait>(
 ) -> Result<Vec<bool>, AllocError>
     requires { SeatsFrom writer.list.store 0 readers.items × (writer.given ≡ vec_len readers) }
     ensures ended { IfOk result (λ ended. Ended (with_mark writer.list) readers.items ended.items) }
-    ensures usage { OnOk result (usage.new ≡ turned usage.old (turns_of readers.items)) }
+    ensures usage { OnOk result (usage.new ≡ usage_turned usage.old (turns_of readers.items)) }
 {
     if writer.stuck() {
         abandon(rt, writer, readers);
@@ -155,7 +155,7 @@ impl RunningWatch {
     ) -> Result<Vec<RoundReport>, AllocError>
         ensures reports { IfOk result
             (λ made. AreReports self.watchers self.rounds self.versions made.items) }
-        ensures usage { OnOk result (usage.new ≡ turned usage.old (self.given * self.rounds)) }
+        ensures usage { OnOk result (usage.new ≡ usage_turned usage.old (self.given * self.rounds)) }
     {
         let RunningWatch {
             watch,

@@ -4,7 +4,7 @@ use Rattle.std.proofs.lemmas.Option.{slice_get_read}
 use Rattle.sr_model.specs.declared.audit.Counts.{Counts}
 use Rattle.sr_model.specs.declared.audit.Item.{Item}
 use Rattle.sr_insight.specs.declared.group.Group.{Group}
-use Rattle.sr_coverage.specs.Counting.{HasRoom, no_group}
+use Rattle.sr_coverage.specs.Counting.{CanCountMore, no_group}
 use Rattle.sr_coverage.proofs.GroupLemmas.{counted-push, counts-room}
 use Rattle.sr_coverage.proofs.groups.count_items.Goals as goal
 
@@ -24,7 +24,7 @@ with_answer-requires c =
     let lt : place < length c.loop-item.groups.items = omega (arith, within, c.group_number-place.ensures, c.loop-item.invariant.long) in
     let is : c.index.result.now ≡ get_or c.loop-item.groups.items place no_group = get_or_read c.loop-item.groups.items place c.index.result.now lt c.index.ensures no_group in
     let counts = ap (λ (a : Group). a.counts) (is ∙ c.loop-item.invariant.each place lt) in
-    subst (λ (k : Counts). HasRoom k) (sym counts) (counts-room c.args.grouping c.args.graph.now c.args.items.now c.loop-item.item-index place (omega arith) c.requires.few)
+    subst (λ (k : Counts). CanCountMore k) (sym counts) (counts-room c.args.grouping c.args.graph.now c.args.items.now c.loop-item.item-index place (omega arith) c.requires.few)
 
 pub index_mut-requires : goal.index_mut-requires
 index_mut-requires c =

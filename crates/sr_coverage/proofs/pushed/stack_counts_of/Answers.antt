@@ -7,8 +7,8 @@ tallied-requires-clause-narrow c = audit-narrow c.args.net.now c.args.items.now 
 
 pub returns : goal.returns
 returns c =
-    IfOk-weaker c.rows_of.result _ _
+    IfOk-weaker c.table_rows.result _ _
     (λ rows are. stacks-told c.width_of-width.result c.args.items.now c.in_ok-table.table.items rows.items
     (audit-narrow c.args.net.now c.args.items.now c.width_of-width.result c.width_of-width.ensures.net c.requires.audit c.width_of-width.ensures.wide)
     c.in_ok-table.ensures are)
-    (rw c.deref.ensures.value at c.rows_of.ensures)
+    (rw c.deref.ensures.value at c.table_rows.ensures)

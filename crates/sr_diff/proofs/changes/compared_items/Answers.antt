@@ -6,7 +6,7 @@ use Rattle.sr_model.specs.declared.audit.Item.{Item}
 use Rattle.sr_diff.specs.declared.differences.Changed.{Changed}
 use Rattle.sr_diff.specs.Matched.{AreCompared, IsLikeness}
 use Rattle.sr_diff.proofs.CompareLemmas.{compared-apart, compared-same, compared-other, same-few}
-use Rattle.sr_diff.proofs.changes.compared_items.Goals.{in-Apart, in-Same, in-Other+in_ok-copied-in-Other+in_ok-push-in-Other}
+use Rattle.sr_diff.proofs.changes.compared_items.Goals.{in-Apart, in-Same, in-Other+in_ok-copied_item-in-Other+in_ok-push-in-Other}
 use Rattle.sr_diff.proofs.changes.compared_items.Goals as goal
 
 pub likeness_of-requires : goal.likeness_of-requires
@@ -45,9 +45,9 @@ loop-item-preserved c =
       | in-Same w ↦
           let is = subst (IsLikeness old new item) w.in-Same.is like in
           put P w.changed-is w.same-is refl refl (compared-same old new (take i items) item changed same c.loop-item.invariant is.0 is.1)
-      | in-Other+in_ok-copied-in-Other+in_ok-push-in-Other w ↦
+      | in-Other+in_ok-copied_item-in-Other+in_ok-push-in-Other w ↦
           let is = subst (IsLikeness old new item) w.in-Other.is like in
           let pair : Item → Changed = λ x. record { before = w.in-Other.before; after = x } in
-          put P w.changed-is w.same-is (w.in_ok-push-in-Other.ensures.items ∙ ap (λ (x : Item). changed ++ pair x ∷ []) w.in_ok-copied-in-Other.ensures) refl
+          put P w.changed-is w.same-is (w.in_ok-push-in-Other.ensures.items ∙ ap (λ (x : Item). changed ++ pair x ∷ []) w.in_ok-copied_item-in-Other.ensures) refl
           (compared-other old new (take i items) item w.in-Other.before changed same c.loop-item.invariant is.0 is.1 is.2 is.3)
     ])

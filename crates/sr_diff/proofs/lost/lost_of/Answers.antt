@@ -5,7 +5,7 @@ use Rattle.std.proofs.lemmas.Option.{slice_get_read}
 use Rattle.sr_model.specs.declared.audit.Item.{Item}
 use Rattle.sr_diff.specs.Diff.{IsLost, AreSuch}
 use Rattle.sr_diff.proofs.ThoseLemmas.{those-taken, those-left}
-use Rattle.sr_diff.proofs.lost.lost_of.Goals.{then-branch+in_ok-copied+in_ok-push, else-branch}
+use Rattle.sr_diff.proofs.lost.lost_of.Goals.{then-branch+in_ok-copied_item+in_ok-push, else-branch}
 use Rattle.sr_diff.proofs.lost.lost_of.Goals as goal
 
 pub is_lost-requires : goal.is_lost-requires
@@ -23,8 +23,8 @@ loop-item-preserved c =
     let lost = c.loop-item.lost.items in
     subst (λ (xs : List Item). AreSuch P xs c.if-branch.lost.items) (sym more)
     (elim c.if-branch.branch [
-      | then-branch+in_ok-copied+in_ok-push w ↦
-          let one : c.if-branch.lost.items ≡ lost ++ item ∷ [] = ap (λ (v : Vec Item). v.items) w.lost-is ∙ w.in_ok-push.ensures.items ∙ ap (λ (x : Item). lost ++ x ∷ []) w.in_ok-copied.ensures in
+      | then-branch+in_ok-copied_item+in_ok-push w ↦
+          let one : c.if-branch.lost.items ≡ lost ++ item ∷ [] = ap (λ (v : Vec Item). v.items) w.lost-is ∙ w.in_ok-push.ensures.items ∙ ap (λ (x : Item). lost ++ x ∷ []) w.in_ok-copied_item.ensures in
           subst (λ (xs : List Item). AreSuch P (take i items ++ item ∷ []) xs) (sym one)
           (those-taken P (take i items) lost item c.loop-item.invariant (c.in_ok-is_lost.ensures.0 w.if-branch.true))
       | else-branch w ↦

@@ -1,7 +1,7 @@
 use Rattle.std.proofs.Common.{rules}
 use Rattle.std.proofs.lemmas.List.Sorted.{IsNonDecreasingBy-from_sort_by_key}
-use Rattle.sr_graph.specs.Holdings.{group_of}
+use Rattle.sr_graph.specs.Holdings.{held_group}
 use Rattle.sr_graph.proofs.sharing.by_group.Goals as goal
 
 pub returns-clause-order : goal.returns-clause-order
-returns-clause-order c = IsNonDecreasingBy-from_sort_by_key group_of _ c.sort_unstable_by_key.ensures.sorted (λ a r f' k. search rules)
+returns-clause-order c = IsNonDecreasingBy-from_sort_by_key held_group _ c.sort_unstable_by_key.ensures.sorted (λ a r f' k. search rules)

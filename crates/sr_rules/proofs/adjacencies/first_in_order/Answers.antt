@@ -1,6 +1,6 @@
 use Rattle.std.proofs.Common.{arith}
-use Rattle.sr_rules.specs.Survey.{nodes_with}
-use Rattle.sr_rules.proofs.OrderedLabels.{least_taken, least_repeated, none_in_order}
+use Rattle.sr_rules.specs.RuleSurvey.{nodes_with}
+use Rattle.sr_labels.proofs.Clashes.{least_taken, least_repeated, none_in_order}
 use Rattle.sr_rules.proofs.adjacencies.first_in_order.Goals as goal
 use Rattle.sr_rules.proofs.adjacencies.first_in_order.Goals.{then-is_taken-via-then-is_taken, then-is_taken-via-else-is_taken+then-is_repeated}
 

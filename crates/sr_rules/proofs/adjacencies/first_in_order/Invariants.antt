@@ -1,5 +1,5 @@
-use Rattle.sr_rules.proofs.OrderedLabels.{ArePassed}
-use Rattle.sr_rules.specs.Survey.{nodes_with}
+use Rattle.sr_labels.proofs.Clashes.{ArePassed}
+use Rattle.sr_rules.specs.RuleSurvey.{nodes_with}
 use Rattle.sr_rules.proofs.adjacencies.first_in_order.Given as goal
 
 abbrev pub invariant-loop-place : goal.invariant-loop-place

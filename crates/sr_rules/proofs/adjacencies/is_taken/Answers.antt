@@ -1,6 +1,6 @@
 use Rattle.std.proofs.Common.{[], sym, ◌∙◌}
 use Rattle.std.proofs.lemmas.List.{get_or_default}
-use Rattle.sr_rules.specs.Survey.{nodes_with}
+use Rattle.sr_rules.specs.RuleSurvey.{nodes_with}
 use Rattle.sr_rules.proofs.NodesLemmas.{ranges-with_at}
 use Rattle.sr_rules.proofs.ClashLemmas.{taken-in}
 use Rattle.sr_rules.proofs.adjacencies.is_taken.Goals as goal

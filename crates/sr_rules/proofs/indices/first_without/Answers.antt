@@ -2,8 +2,8 @@ use Rattle.std.proofs.Common.{arith, below_more}
 use Rattle.std.proofs.lemmas.List.{length-map}
 use Rattle.sr_laws.proofs.Ranges.{label-none}
 use Rattle.sr_model.specs.Rule.{node_at}
-use Rattle.sr_rules.specs.Survey.{with_ranges, nodes_with}
-use Rattle.sr_rules.proofs.OutsideLemmas.{labelled}
+use Rattle.sr_rules.specs.RuleSurvey.{with_ranges, nodes_with}
+use Rattle.sr_labels.proofs.IndexLists.{labelled}
 use Rattle.sr_rules.proofs.indices.first_without.Goals as goal
 
 pub returns-then-total_at-index-clause-first : goal.returns-then-total_at-index-clause-first

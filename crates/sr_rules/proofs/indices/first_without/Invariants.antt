@@ -1,7 +1,7 @@
 use Rattle.std.proofs.Common.{ℕ, ◌<◌, ◌≢◌, None}
 use Rattle.sr_model.specs.Label.{label_of}
 use Rattle.sr_model.specs.Rule.{node_at}
-use Rattle.sr_rules.specs.Survey.{nodes_with}
+use Rattle.sr_rules.specs.RuleSurvey.{nodes_with}
 use Rattle.sr_rules.proofs.indices.first_without.Given as goal
 
 abbrev pub invariant-loop-place : goal.invariant-loop-place

@@ -12,4 +12,4 @@ loop-node-preserved c =
     let at : (node_at (map (labels_of c.args.facts.now) c.args.nodes.now) c.loop-node.node-index).index ≡ c.index_of.result =
     ap (λ l. l.index) (get_or-map (labels_of c.args.facts.now) c.args.nodes.now c.loop-node.node-index c.node-item.result nameless within)
     ∙ ap (λ v. (labels_of c.args.facts.now v).index) (sym c.node-item.is) ∙ sym c.index_of.ensures in
-    rw c.chosen-found.ensures (from-more (map (labels_of c.args.facts.now) c.args.nodes.now) c.args.least c.loop-node.node-index c.loop-node.found c.index_of.result at c.loop-node.invariant)
+    rw c.first_of_both-found.ensures (from-more (map (labels_of c.args.facts.now) c.args.nodes.now) c.args.least c.loop-node.node-index c.loop-node.found c.index_of.result at c.loop-node.invariant)

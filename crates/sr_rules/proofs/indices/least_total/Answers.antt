@@ -1,5 +1,5 @@
 use Rattle.std.proofs.Common.{arith}
-use Rattle.sr_rules.specs.Survey.{nodes_with}
+use Rattle.sr_rules.specs.RuleSurvey.{nodes_with}
 use Rattle.sr_rules.proofs.OutsideLemmas.{least-start, least-more, least-end}
 use Rattle.sr_rules.proofs.indices.least_total.Goals as goal
 

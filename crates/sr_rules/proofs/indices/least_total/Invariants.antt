@@ -1,4 +1,4 @@
-use Rattle.sr_rules.specs.Survey.{nodes_with}
+use Rattle.sr_rules.specs.RuleSurvey.{nodes_with}
 use Rattle.sr_rules.proofs.OutsideLemmas.{IsLeastBelow}
 use Rattle.sr_rules.proofs.indices.least_total.Given as goal
 

@@ -1,11 +1,8 @@
-use Rattle.std.proofs.Common.{◌≡◌, ◌+◌, ℕ, ◌<◌, List, drop, length, arith, ap, refl}
-use Rattle.std.proofs.lemmas.List.{drop_all, drop_more}
-use Rattle.sr_model.specs.declared.label.Range.{Range}
-use Rattle.sr_model.specs.Label.{sizes, range_at, no_range}
+use Rattle.std.proofs.Common.{◌≡◌, drop, arith, ap}
+use Rattle.std.proofs.lemmas.List.{drop_all}
+use Rattle.sr_model.specs.Label.{sizes}
+use Rattle.sr_labels.proofs.RangeLoops.{sizes-split}
 use Rattle.sr_rules.proofs.indices.total.Goals as goal
-
-sizes-split : (rs : List Range) (k : ℕ) → k < length rs → sizes (drop k rs) ≡ (range_at rs k).size + sizes (drop (k + 1) rs)
-sizes-split rs k h = rw (drop_more rs k no_range h) refl
 
 pub loop-range-preserved : goal.loop-range-preserved
 loop-range-preserved c =

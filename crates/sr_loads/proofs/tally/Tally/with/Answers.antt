@@ -13,6 +13,6 @@ pub new-requires : goal.new-requires
 new-requires c =
     let same : c.other.inside.traffic.now ≡ c.self.inside.traffic.now = ap (λ s. s.traffic) c.other.view_is ∙ (c.requires.traffic ∙ sym (ap (λ s. s.traffic) c.self.view_is)) in
     let theirs = subst (λ (t : Traffic). IsTallyOf t (view c.other.inside.pass).taken c.other.inside.counts.items) same c.other.invariant in
-    let adds : AddsCounts c.other.inside.counts.items c.self.inside.counts.items c.add.new.counts.items = rw c.deref.ensures.value at c.add.ensures in
+    let adds : AddsCounts c.other.inside.counts.items c.self.inside.counts.items c.add_counts.new.counts.items = rw c.deref.ensures.value at c.add_counts.ensures in
     rw (ap (λ v. v.taken) c.absorb.ensures.rule)
-    (tally-both c.self.inside.traffic.now (view c.self.inside.pass).taken (view c.other.inside.pass).taken c.self.inside.counts.items c.other.inside.counts.items c.add.new.counts.items c.self.invariant theirs adds)
+    (tally-both c.self.inside.traffic.now (view c.self.inside.pass).taken (view c.other.inside.pass).taken c.self.inside.counts.items c.other.inside.counts.items c.add_counts.new.counts.items c.self.invariant theirs adds)

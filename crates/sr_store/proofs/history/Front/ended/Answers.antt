@@ -1,6 +1,6 @@
 use Rattle.std.proofs.Common.{◌≡◌, ◌++◌, ◌∷◌, [], ap, sym, ◌∙◌, subst, arith}
 use Rattle.std.proofs.lemmas.List.{append-nil}
-use Rattle.sr_store.specs.declared.history.Entry.TheVariants.{Mark}
+use Rattle.sr_store.specs.declared.history.LogEntry.TheVariants.{Mark}
 use Rattle.sr_store.specs.Entries.{entry_versions}
 use Rattle.sr_store.specs.Fronts.{IsFront}
 use Rattle.sr_store.proofs.Entries.{versions-append}

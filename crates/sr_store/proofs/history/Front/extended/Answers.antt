@@ -1,5 +1,5 @@
 use Rattle.std.proofs.Common.{◌≡◌, ◌++◌, ◌∷◌, [], ap, sym, ◌∙◌, subst, arith}
-use Rattle.sr_store.specs.declared.history.Entry.TheVariants.{Version}
+use Rattle.sr_store.specs.declared.history.LogEntry.TheVariants.{Version}
 use Rattle.sr_store.specs.Entries.{entry_versions}
 use Rattle.sr_store.specs.Fronts.{IsFront}
 use Rattle.sr_store.specs.Histories.{IsNext}

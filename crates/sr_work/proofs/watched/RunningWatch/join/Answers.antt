@@ -4,7 +4,7 @@ use Rattle.std.specs.Arc.{arc_value}
 use Rattle.std.proofs.lemmas.Result.{IfOk-weaker}
 use Rattle.sr_model.specs.declared.audit.RoundReport.{RoundReport}
 use Rattle.std.specs.Global.{Vec}
-use Rattle.sr_store.specs.Counts.{turned}
+use Rattle.sr_store.specs.Counts.{usage_turned}
 use Rattle.sr_watch.specs.Starts.{task_of}
 use Rattle.sr_work.specs.Reports.{AreReports}
 use Rattle.sr_work.specs.Reported.{AreMade}
@@ -41,4 +41,4 @@ returns-in-Ok-clause-usage g c =
     let w : Watched = record { watchers = s.watchers; rounds = s.rounds; given = s.given; versions = s.writer.list.versions } in
     let rounds = rw c.in-Ok.is at c.join-readers.ensures.rounds in
     let turns = all-turns s.watch s.writer.list (arc_value s.first) w c.join-readers.result.readers.items c.in-Ok.rounds.items c.self.invariant.1 rounds in
-    on-ok c.reports_made.result (c.in_ok-ended-in-Ok.ensures.usage ∙ (ap (λ n. turned c.args.usage.now n) turns ∙ ap (λ (x : Watched). turned c.args.usage.now (x.given * x.rounds)) c.self.view_is))
+    on-ok c.reports_made.result (c.in_ok-ended-in-Ok.ensures.usage ∙ (ap (λ n. usage_turned c.args.usage.now n) turns ∙ ap (λ (x : Watched). usage_turned c.args.usage.now (x.given * x.rounds)) c.self.view_is))

@@ -1,5 +1,5 @@
 use Rattle.sr_coverage.specs.Pushed.{AreRowsOf}
-use Rattle.sr_coverage.proofs.pushed.rows_of.Given as goal
+use Rattle.sr_coverage.proofs.pushed.table_rows.Given as goal
 
 -- the rows of the slots so far
 abbrev pub invariant-loop-slot : goal.invariant-loop-slot

@@ -9,7 +9,7 @@ use Rattle.sr_labels.specs.Adjacencies.{AreInOrder}
 use Rattle.sr_lsdb.specs.declared.facts.Facts.{Facts}
 use Rattle.sr_domain.specs.Nodes.{nodes_of, ranges_of}
 use Rattle.sr_domain.specs.Links.{links_of, found_adj_labels, link_key}
-use Rattle.sr_rules.specs.declared.survey.Survey.{Survey}
+use Rattle.sr_rules.specs.declared.survey.RuleSurvey.{RuleSurvey}
 
 -- a node that announces these label ranges, which may be no SRGB, and nothing else
 abbrev pub with_ranges : List Range → Labels
@@ -20,7 +20,7 @@ abbrev pub nodes_with : List (List Range) → List Labels
 nodes_with ranges = map with_ranges ranges
 
 -- the present nodes, the label ranges of each, the adjacency labels in order, and the links in order of key
-pub record AreSurveyed (facts : Facts) (survey : Survey) : Type 0 where
+pub record AreSurveyed (facts : Facts) (survey : RuleSurvey) : Type 0 where
   pub nodes : survey.nodes.items ≡ nodes_of facts
   pub ascending : IsStrictlyIncreasing survey.nodes.items
   pub ranges : survey.ranges.items ≡ map (ranges_of facts) (nodes_of facts)

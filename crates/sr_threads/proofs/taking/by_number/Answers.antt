@@ -1,7 +1,7 @@
 use Rattle.std.proofs.Common.{rules, ◌≡◌, ℕ, ◌<◌, ◌+◌, length, slice_index_or, None, Ok, arith, ◌∙◌}
 use Rattle.std.proofs.lemmas.List.{get_or-set_other, get_or_default, length_push}
 use Rattle.sr_threads.proofs.TakingLemmas.{taken-more, last-is, made-more}
-use Rattle.sr_threads.proofs.taking.in_order.Goals as goal
+use Rattle.sr_threads.proofs.taking.by_number.Goals as goal
 
 pub loop-number-preserved : goal.loop-number-preserved
 loop-number-preserved g c =

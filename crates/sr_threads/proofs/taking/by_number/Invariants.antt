@@ -1,7 +1,7 @@
 use Rattle.std.proofs.Common.{◌≡◌, ℕ, ◌≤◌, None, Ok, slice_index_or, length}
 use Rattle.std.specs.List.{AllZip, range_with_len}
 use Rattle.sr_threads.specs.Taking.{AreAt, AreTakenFrom}
-use Rattle.sr_threads.proofs.taking.in_order.Given as goal
+use Rattle.sr_threads.proofs.taking.by_number.Given as goal
 
 -- what is in order so far, what is at the places, that the places to come are as they were, and that what was at the others is in order
 abbrev pub invariant-loop-number : goal.invariant-loop-number

@@ -2,8 +2,8 @@ use Rattle.std.proofs.Common.{◌≡◌, ◌%◌, ◌<◌, get_or, refl, arith}
 use Rattle.sr_insight.specs.declared.stack_count.StackCount.{StackCount}
 use Rattle.sr_coverage.specs.Pushed.{row_slot}
 use Rattle.sr_coverage.proofs.PushedLemmas.{rows-skip, rows-push}
-use Rattle.sr_coverage.proofs.pushed.rows_of.Goals as goal
-use Rattle.sr_coverage.proofs.pushed.rows_of.Goals.{then-repairs-gt0+in_ok-push, else-repairs-gt0}
+use Rattle.sr_coverage.proofs.pushed.table_rows.Goals as goal
+use Rattle.sr_coverage.proofs.pushed.table_rows.Goals.{then-repairs-gt0+in_ok-push, else-repairs-gt0}
 
 pub loop-slot-preserved : goal.loop-slot-preserved
 loop-slot-preserved c = elim c.if-repairs-gt0.branch [

@@ -1,6 +1,6 @@
 use Rattle.std.proofs.Common.{arith}
 use Rattle.sr_loads.proofs.TallyLemmas.{added-none, added-all}
-use Rattle.sr_loads.proofs.counts.add.Goals as goal
+use Rattle.sr_loads.proofs.counts.add_counts.Goals as goal
 
 pub loop-link-init : goal.loop-link-init
 loop-link-init c = added-none c.args.other.now c.args.counts.now.items

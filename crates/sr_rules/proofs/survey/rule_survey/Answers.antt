@@ -11,8 +11,8 @@ use Rattle.sr_labels.specs.Rules.{AreOfNodes}
 use Rattle.sr_domain.specs.declared.links.FoundLink.{FoundLink}
 use Rattle.sr_domain.specs.Nodes.{ranges_of}
 use Rattle.sr_domain.specs.Links.{JoinsNodes, adj_label_by, found_adj_labels, link_key, links_of}
-use Rattle.sr_rules.proofs.OrderedLabels.{nodes-moved}
-use Rattle.sr_rules.proofs.survey.survey_of.Goals as goal
+use Rattle.sr_labels.proofs.Clashes.{nodes-moved}
+use Rattle.sr_rules.proofs.survey.rule_survey.Goals as goal
 
 pub adj_labels-requires-clause-ends : goal.adj_labels-requires-clause-ends
 adj_labels-requires-clause-ends c =
@@ -34,10 +34,10 @@ returns c =
       nodes = c.in_ok-nodes.ensures.nodes;
       ascending = c.in_ok-nodes.ensures.ascending;
       ranges = c.in_ok-ranges.ensures ∙ ap (map (ranges_of facts)) (c.deref-3.ensures.value ∙ c.in_ok-nodes.ensures.nodes);
-      labels = subst (λ (l : List AdjLabel). IsPermutation l c.sorted_labels-adj.result.items) are c.sorted_labels-adj.ensures.same;
-      within = nodes-moved (length nodes) adj c.sorted_labels-adj.result.items c.sorted_labels-adj.ensures.same
+      labels = subst (λ (l : List AdjLabel). IsPermutation l c.sort_labels-adj.result.items) are c.sort_labels-adj.ensures.same;
+      within = nodes-moved (length nodes) adj c.sort_labels-adj.result.items c.sort_labels-adj.ensures.same
           (subst (λ (ns : List ℕ). AreOfNodes (length ns) adj) c.deref.ensures.value c.in_ok-adj_labels.ensures.nodes);
-      order = c.sorted_labels-adj.ensures.order;
+      order = c.sort_labels-adj.ensures.order;
       links = subst (λ (l : List FoundLink). IsPermutation (links_of facts) l) (sym same)
           (subst (λ (l : List FoundLink). IsPermutation l sorted) (c.deref_mut.ensures.value ∙ c.in_ok-nodes.ensures.links) c.sort_links.ensures.same);
       sorted = subst (λ (l : List FoundLink). IsSortedByKey link_key key_cmp l) (sym same) c.sort_links.ensures.ascending;
