@@ -1,4 +1,3 @@
-pub mod BitLemmas
 pub mod SearchLemmas
 pub mod QueueLemmas
 pub mod SceneLemmas

@@ -59,7 +59,8 @@ pub record IsSearch (after : Aftermath) (known : List (Option Path)) (order : Li
   pub ascending : (j k : ℕ) (a b : Path) → j < k → k < length order → Knows known (slice_index order j) a
       → Knows known (slice_index order k) b → PathLt a b
   pub closed : (k key v : ℕ) (a : Path) → k < length order → WasLookedAt after.net.graph k key i cur
-      → Knows known (slice_index order k) a → StepsTo after (slice_index order k) (segment_numbered after.net.graph key) v
+      → Knows known (slice_index order k) a
+      → StepsTo after (slice_index order k) (segment_numbered after.net.graph key) v
       → (b : Path) × Knows known v b × PathLe b (push a (segment_numbered after.net.graph key))
   pub low : (a : Path) (w : ℕ) (b : Path) → i < length order → Knows known (slice_index order i) a → Knows known w b
       → ((t : Segment)

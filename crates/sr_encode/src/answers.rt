@@ -9,7 +9,7 @@ ghost use Rattle.sr_encode.specs.Renumbered.{moved_entry};
 
 use crate::codes::Codes;
 use crate::kept::{Kept, Outcome, answer_from};
-use crate::renumbered::{copied, moved_outcomes, moved_segments};
+use crate::renumbered::{copied_answers, moved_outcomes, moved_segments};
 use sr_model::{Answer, Counts, LinkNo, NodeNo, Segment};
 use std::alloc::{AllocError, Global};
 use std::marker::Model;
@@ -108,7 +108,7 @@ impl CaseAnswers {
         ensures { IfOk result (λ moved. moved ≡ map (moved_entry links.now) self.now) }
     {
         Ok(CaseAnswers {
-            kept: copied(alloc, &self.kept)?,
+            kept: copied_answers(alloc, &self.kept)?,
             outcomes: moved_outcomes(alloc, &self.outcomes, links)?,
             segments: moved_segments(alloc, &self.segments, links)?,
             counts: self.counts,

@@ -74,7 +74,7 @@ pub(crate) fn moved_outcomes(
 }
 
 /// The kept answers once more.
-pub(crate) fn copied(alloc: Global, kept: &[Kept]) -> Result<Vec<Kept>, AllocError>
+pub(crate) fn copied_answers(alloc: Global, kept: &[Kept]) -> Result<Vec<Kept>, AllocError>
     ensures { IfOk result (λ list. list.items ≡ kept.now) }
 {
     let mut list = Vec::with_capacity(alloc, kept.len())?;

@@ -68,10 +68,12 @@ impl Served {
         near: usize,
     ) -> usize
         requires hops { AreHopsOf scene.now post.now.hops }
-        requires inside { (node.0 < node_count scene.now.net.graph) × (length queue.now ≤ node_count scene.now.net.graph) }
+        requires inside { (node.0 < node_count scene.now.net.graph)
+            × (length queue.now ≤ node_count scene.now.net.graph) }
         requires offered { AreOffered scene.now queue.now 0 self.old }
         ensures offered { AreOffered scene.now queue.now 0 self.new }
-        ensures later { IsLater self.old self.new × (slice_index scene.now.post node.0 < Far → IsTended self.new node.0) }
+        ensures later { IsLater self.old self.new
+            × (slice_index scene.now.post node.0 < Far → IsTended self.new node.0) }
     {
         let _graph = scene.graph();
         if let Some(hop) = post.hop(node) {

@@ -1,61 +1,107 @@
--- The hops that are kept: the first next hop that leads on is the least that does.
-use Rattle.std.proofs.Common.{◌≡◌, ℕ, ◌+◌, ◌<◌, ◌≤◌, ⊎_elim, Bool, List, [], ◌∷◌, ◌++◌, length, refl, arith, ap, sym, ◌∙◌, subst, Option, None}
-use Rattle.std.proofs.lemmas.Bool.{cases_eq, cases_lt}
-use Rattle.std.proofs.lemmas.List.{length-append, get_or_append_left, get_or_push}
-use Rattle.std.proofs.lemmas.Option.{get_or_from_slice_get, slice_get-get_or, slice_get_within}
+-- The hops that are kept, link by link: the first that leads to a node is the least that does.
+use Rattle.std.proofs.Common.{◌≡◌, ◌≢◌, ℕ, ◌+◌, ◌<◌, ◌≤◌, ⊎_elim, ◌↔◌, IsTrue, Bool, true, false, not, ◌&&◌, List, length, arith, ap, sym, ◌∙◌, subst, Option, Some, None}
+use Rattle.std.specs.Prelude.{nat_lt}
+use Rattle.std.proofs.lemmas.Bool.{cases_eq, cases_lt, cases_Bool, true≢false, and_parts, and_from, not-true, lt-ltb, ltb-true}
+use Rattle.sr_lanes.specs.declared.words.NodeBits.{NodeBits}
+use Rattle.sr_lanes.specs.Bits.{is_in}
 use Rattle.sr_model.specs.declared.link.LinkNo.{LinkNo}
-use Rattle.sr_model.specs.Graph.{Graph}
-use Rattle.sr_model.specs.Walk.{IsNextHop}
-use Rattle.sr_graph.specs.Members.{number_at}
-use Rattle.sr_spf.specs.Hops.{AreNextHops}
-use Rattle.sr_post.specs.Kept.{LeadsTo, IsKeptHop, KeepsHop, AreKeptHops}
+use Rattle.sr_model.specs.Graph.{Graph, link_count, tail}
+use Rattle.sr_graph.specs.Ranges.{HoldsLinks}
+use Rattle.sr_post.specs.Kept.{LeadsTo, IsKeptHop, KeepsHop, AreKeptHops, AreLost, kept_hop_at}
+use Rattle.sr_post.specs.Sets.{KeepsHopFor}
 
--- the next hops of s towards v
-module _ (g : Graph) (x : List Bool) (s v : ℕ) (links : List LinkNo) (are : AreNextHops g s v links) where
-  pub hop-each : (i : ℕ) → i < length links → IsNextHop g [] s v (number_at links i)
-  hop-each i within = are.each i _ (slice_get-get_or links i (record { 0 = 0 }) within)
-
-  -- a link that leads on stands among them
-  leads-listed : (l : ℕ) → LeadsTo g x s v l → (i : ℕ) × (i < length links) × (number_at links i ≡ l)
-  leads-listed l leads =
-      let at = are.all l leads.hop in
-      (at.0, slice_get_within links at.0 at.1 at.2, ap (λ (k : LinkNo). k.0) (get_or_from_slice_get links at.0 at.1 (record { 0 = 0 }) at.2) ∙ at.3)
-
-  -- the first that leads on is the least
-  pub first-least : (i : ℕ) → i < length links → ((j : ℕ) → j < i → LeadsTo g x s v (number_at links j) → ⊥) → LeadsTo g x s v (number_at links i) → IsKeptHop g x s v (number_at links i)
-  first-least i within before leads = record {
-    leads = leads;
-    least = λ k other.
-        let at = leads-listed k other in
-        ⊎_elim
-        (λ (early : at.0 < i). absurd (before at.0 early (subst (λ l. LeadsTo g x s v l) (sym at.2) other)))
-        (λ (late : i ≤ at.0).
-        ⊎_elim
-        (λ (same : i ≡ at.0). let is : number_at links i ≡ k = ap (λ j. number_at links j) same ∙ at.2 in omega (arith, is))
-        (λ ne.
-        let lt : number_at links i < number_at links at.0 = are.ascending i at.0 _ _ (omega arith) (slice_get-get_or links i (record { 0 = 0 }) within) (slice_get-get_or links at.0 (record { 0 = 0 }) at.1) in
-        omega (arith, lt, at.2))
-        (cases_eq i at.0))
-        (cases_lt at.0 i);
-  }
-
-  -- where none of them leads on no link does
-  pub none-leads : ((j : ℕ) → j < length links → LeadsTo g x s v (number_at links j) → ⊥) → (l : ℕ) → LeadsTo g x s v l → ⊥
-  none-leads none l leads = let at = leads-listed l leads in none at.0 at.1 (subst (λ k. LeadsTo g x s v k) (sym at.2) leads)
+-- of the nodes below n, those that are left have no hop, and no link below l leads there from s in spite of x; the
+-- others have the least link that leads there
+pub record AreHopsUpTo (g : Graph) (x : List Bool) (s n l : ℕ) (left : NodeBits) (hops : List (Option LinkNo)) : Type 0 where
+  pub long : length hops ≡ n
+  pub within : (v : ℕ) → is_in left v ≡ true → v < n
+  pub none : (v : ℕ) → is_in left v ≡ true → kept_hop_at hops v ≡ None
+  pub before : (v k : ℕ) → is_in left v ≡ true → k < l → LeadsTo g x s v k → ⊥
+  pub kept : (v : ℕ) → v < n → is_in left v ≡ false → (k : LinkNo) × (kept_hop_at hops v ≡ Some k) × IsKeptHop g x s v k.0
 
 module _ (g : Graph) (x : List Bool) (s : ℕ) where
-  -- of no node
-  pub hops-none : AreKeptHops g x s [] 0
-  hops-none = record { long = refl; each = λ v lt. absurd (omega arith) }
+  -- a link that leads on from s begins there
+  pub leads-from : (v k : ℕ) → LeadsTo g x s v k → (k < link_count g) × (tail g k ≡ s)
+  leads-from v k leads = (leads.hop.shortest.0.0, leads.hop.shortest.0.2)
 
-  -- one node more
-  pub hops-more : (hops : List (Option LinkNo)) (n : ℕ) (hop : Option LinkNo) → AreKeptHops g x s hops n → KeepsHop g x s n hop → AreKeptHops g x s (hops ++ hop ∷ []) (n + 1)
-  hops-more hops n hop h is = record {
-    long = omega (arith, length-append hops (hop ∷ []), h.long);
+  -- before the first link
+  pub hops-start : (n i j : ℕ) (left : NodeBits) (hops : List (Option LinkNo)) → HoldsLinks g s i j → length hops ≡ n → ((v : ℕ) → kept_hop_at hops v ≡ None) → ((v : ℕ) → is_in left v ≡ nat_lt v n) → AreHopsUpTo g x s n i left hops
+  hops-start n i j left hops links long none all = record {
+    long = long;
+    within = λ v is. ltb-true v n (sym (all v) ∙ is);
+    none = λ v is. none v;
+    before = λ v k is lt leads.
+        let from = leads-from v k leads in
+        let up : i ≤ k = (links.to k from.0 from.1).0 in
+        omega arith;
+    kept = λ v lt out. absurd (true≢false (sym (all v ∙ lt-ltb v n lt) ∙ out));
+  }
+
+  -- one link more, with the nodes to which it leads
+  pub hops-next : (n : ℕ) (link : LinkNo) (left found less : NodeBits) (hops more : List (Option LinkNo)) → AreHopsUpTo g x s n link.0 left hops → ((v : ℕ) → IsTrue (is_in found v) ↔ ((is_in left v ≡ true) × LeadsTo g x s v link.0)) → KeepsHopFor hops found link more → ((v : ℕ) → is_in less v ≡ (is_in left v && not (is_in found v))) → AreHopsUpTo g x s n (link.0 + 1) less more
+  hops-next n link left found less hops more r led keeps rest =
+      let parts : (v : ℕ) → is_in less v ≡ true → (is_in left v ≡ true) × (is_in found v ≡ false) = λ v is.
+      let both = and_parts (is_in left v) (not (is_in found v)) (sym (rest v) ∙ is) in
+      (both.0, not-true (is_in found v) both.1) in
+      record {
+        long = keeps.long ∙ r.long;
+        within = λ v is. r.within v (parts v is).0;
+        none = λ v is. keeps.others v (parts v is).1 ∙ r.none v (parts v is).0;
+        before = λ v k is lt leads. ⊎_elim
+            (λ (e : k ≡ link.0).
+            let here : LeadsTo g x s v link.0 = subst (λ m. LeadsTo g x s v m) e leads in
+            let yes : is_in found v ≡ true = (led v).1 ((parts v is).0, here) in
+            true≢false (sym yes ∙ (parts v is).1))
+            (λ (ne : k ≢ link.0). r.before v k (parts v is).0 (omega arith) leads)
+            (cases_eq k link.0);
+        kept = λ v lt out. ⊎_elim
+            (λ (yes : is_in found v ≡ true).
+            let now = (led v).0 yes in (
+              link,
+              keeps.these v yes,
+              record {
+                leads = now.1;
+                least = λ k other. ⊎_elim
+                    (λ (low : k < link.0). absurd (r.before v k now.0 low other))
+                    (λ (up : link.0 ≤ k). up)
+                    (cases_lt k link.0);
+              },
+            ))
+            (λ (no : is_in found v ≡ false). ⊎_elim
+            (λ (was : is_in left v ≡ true).
+            let still : is_in less v ≡ true = rest v ∙ and_from (is_in left v) (not (is_in found v)) was (ap not no) in
+            absurd (true≢false (sym still ∙ out)))
+            (λ (gone : is_in left v ≡ false).
+            let old = r.kept v lt gone in
+            (old.0, keeps.others v no ∙ old.1, old.2))
+            (cases_Bool (is_in left v)))
+            (cases_Bool (is_in found v));
+      }
+
+  -- once all links of s were tried, no link leads to those that are left
+  pub record IsOver (l : ℕ) (left : NodeBits) : Type 0 where
+    pub all : (v k : ℕ) → is_in left v ≡ true → LeadsTo g x s v k → k < l
+
+  pub over-end : (i j l : ℕ) (left : NodeBits) → HoldsLinks g s i j → j ≤ l → IsOver l left
+  over-end i j l left links le = record {
+    all = λ v k is leads.
+        let from = leads-from v k leads in
+        let low : k < j = (links.to k from.0 from.1).1 in
+        omega arith;
+  }
+
+  pub hops-over : (n l : ℕ) (left : NodeBits) (hops : List (Option LinkNo)) → AreHopsUpTo g x s n l left hops → IsOver l left → AreKeptHops g x s hops n
+  hops-over n l left hops r over = record {
+    long = r.long;
     each = λ v lt. ⊎_elim
-        (λ (early : v < n). subst (λ k. KeepsHop g x s v k) (sym (get_or_append_left hops (hop ∷ []) None v (omega (arith, h.long)))) (h.each v early))
-        (λ (late : n ≤ v).
-        let same : n ≡ v = omega arith in
-        subst (λ k. KeepsHop g x s v k) (sym (get_or_push hops hop None v (h.long ∙ same))) (subst (λ u. KeepsHop g x s u hop) same is))
-        (cases_lt v n);
+        (λ (yes : is_in left v ≡ true). subst (λ o. KeepsHop g x s v o) (sym (r.none v yes)) (λ k leads. r.before v k yes (over.all v k yes leads) leads))
+        (λ (no : is_in left v ≡ false). let old = r.kept v lt no in subst (λ o. KeepsHop g x s v o) (sym old.1) old.2)
+        (cases_Bool (is_in left v));
+  }
+
+  pub lost-over : (n l : ℕ) (left : NodeBits) (hops : List (Option LinkNo)) → AreHopsUpTo g x s n l left hops → IsOver l left → AreLost g x s n left
+  lost-over n l left hops r over = record {
+    within = r.within;
+    lost = λ v k yes leads. r.before v k yes (over.all v k yes leads) leads;
+    led = λ v lt no. let old = r.kept v lt no in (old.0.0, old.2.leads);
   }

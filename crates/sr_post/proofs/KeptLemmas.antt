@@ -1,9 +1,9 @@
 -- The nodes that keep their distance in a failure: a way leads to each along them.
-use Rattle.std.proofs.Common.{◌≡◌, ℕ, ◌+◌, ◌<◌, ◌≤◌, ◌⊎◌, ⊎_elim, inl, inr, Bool, true, false, List, [], ◌∷◌, ◌++◌, length, refl, arith, ap, sym, ◌∙◌, subst, append-nil, get_or}
-use Rattle.std.specs.Prelude.{All, Contains, slice_index}
-use Rattle.std.proofs.lemmas.Bool.{cases_lt}
-use Rattle.std.proofs.lemmas.List.Elements.{All-append, Contains-append_left, Contains-push}
-use Rattle.std.proofs.lemmas.List.{length-append, get_or_append_left, get_or_push, get_or_past}
+use Rattle.std.proofs.Common.{◌≡◌, ℕ, ◌+◌, ◌<◌, ◌≤◌, ◌⊎◌, ⊎_elim, inl, inr, Bool, true, false, List, [], ◌∷◌, ◌++◌, length, refl, arith, ap, sym, ◌∙◌, subst, get_or}
+use Rattle.std.specs.Prelude.{All, Contains, slice_index, if◌then◌else◌}
+use Rattle.std.proofs.lemmas.Bool.{cases_eq, cases_lt, cases_Bool}
+use Rattle.std.proofs.lemmas.List.Elements.{Contains-get_or}
+use Rattle.std.proofs.lemmas.List.{length-append, get_or_append_left, get_or_push, get_or_past, get_or_default}
 use Rattle.sr_model.specs.Graph.{Graph, IsGraph, IsLink, carries, has, head, is_overloaded, link_at, link_count, metric, node_count, tail}
 use Rattle.sr_model.specs.Walk.{IsDistance, IsRow, IsShortest, IsWalk, Passes, cost}
 use Rattle.sr_model.specs.Space.{InP, Avoids}
@@ -13,7 +13,12 @@ use Rattle.sr_walks.proofs.Walks.{IsWalk-append, cost-append, carries-same, carr
 use Rattle.sr_walks.proofs.Distances.{cell-distance, distance-from_shortest, distance-self, distance-unique, shortest-cut}
 use Rattle.sr_walks.proofs.Rows.{row-stable}
 use Rattle.sr_spf.specs.Begun.{HasWay, IsBegun}
-use Rattle.sr_post.specs.Kept.{LeadsTo, IsKept, AreKeptBelow}
+use Rattle.sr_lanes.specs.declared.words.NodeBits.{NodeBits}
+use Rattle.sr_lanes.specs.Bits.{is_in, IsWithout}
+use Rattle.sr_lanes.proofs.SizeLemmas.{without-other, without-inside}
+use Rattle.sr_post.specs.Kept.{LeadsTo, IsKept, AreLost}
+use Rattle.sr_post.specs.Nodes.{AreThose, listed_at}
+use Rattle.sr_post.specs.Sets.{AreCellsWithout}
 
 -- a list is empty, or has a last element
 last-cut : (p : List ℕ) → (p ≡ []) ⊎ ((q : List ℕ) × (k : ℕ) × (p ≡ q ++ k ∷ []))
@@ -111,47 +116,49 @@ kept_walk g x s v kept =
     (λ (c : (l : ℕ) × LeadsTo g x s v l). let leads : LeadsTo g x s v c.0 = c.1 in (c.0 ∷ leads.hop.more, leads.hop.shortest.0))
     kept
 
-module _ (g : Graph) (x : List Bool) (s : ℕ) (row : List ℕ) where
-  pub kept-none : AreKeptBelow g x s row (record { cells = []; lost = [] }) 0
-  kept-none = record { long = refl; each = λ v lt. absurd (omega arith); nodes = λ k d lt. absurd (omega arith) }
+-- the nodes that are kept have their cells of the row, and the others FAR, and are listed
+pub record AreKeptCells (g : Graph) (x : List Bool) (s : ℕ) (row cells : List ℕ) (lost : List NodeNo) : Type 0 where
+  pub long : length cells ≡ node_count g
+  pub each : (v : ℕ) → v < node_count g
+      → (IsKept g x s v × (slice_index cells v ≡ slice_index row v))
+      ⊎ ((IsKept g x s v → ⊥) × (slice_index cells v ≡ FAR) × Contains lost (record { 0 = v }))
+  pub nodes : All (λ (k : NodeNo). k.0 < node_count g) lost
 
-  -- what is told of node v, of its cell
-  IsToldOf : List NodeNo → ℕ → ℕ → Type 0
-  IsToldOf lost v c = (IsKept g x s v × (c ≡ slice_index row v)) ⊎ ((IsKept g x s v → ⊥) × (c ≡ FAR) × Contains lost (record { 0 = v }))
+-- a node that is listed stands in the list
+listed-contains : (P : ℕ → Type 0) (m : ℕ) (nodes : List NodeNo) (v : ℕ) → AreThose P m nodes → v < m → P v → Contains nodes (record { 0 = v })
+listed-contains P m nodes v those lt is =
+    let at = those.all v lt is in
+    let same : get_or nodes at.0 (record { 0 = 0 }) ≡ record { 0 = v } = ap (λ k. record { 0 = k }) at.2 in
+    subst (λ (node : NodeNo). Contains nodes node) same (Contains-get_or nodes at.0 (record { 0 = 0 }) at.1)
 
-  -- one cell more, and perhaps one lost node more
-  told-more : (cells : List ℕ) (lost more : List NodeNo) (n c : ℕ) → AreKeptBelow g x s row (record { cells = cells; lost = lost }) n → IsToldOf (lost ++ more) n c → All (λ (k : NodeNo). k.0 < n + 1) more → AreKeptBelow g x s row (record { cells = cells ++ c ∷ []; lost = lost ++ more }) (n + 1)
-  unfolding IsToldOf
-  told-more cells lost more n c h told nodes = record {
-    long = omega (arith, length-append cells (c ∷ []), h.long);
-    each = λ v lt. ⊎_elim
-        (λ (early : v < n).
-        subst (λ k. IsToldOf (lost ++ more) v k) (sym (get_or_append_left cells (c ∷ []) 0 v (omega (arith, h.long))))
-        (⊎_elim (λ a. inl a) (λ b. inr (b.0, b.1, Contains-append_left lost more (record { 0 = v }) b.2)) (h.each v early)))
-        (λ (late : n ≤ v).
-        let same : n ≡ v = omega arith in
-        subst (λ k. IsToldOf (lost ++ more) v k) (sym (get_or_push cells c 0 v (h.long ∙ same))) (subst (λ u. IsToldOf (lost ++ more) u c) same told))
-        (cases_lt v n);
-    nodes = All-append (λ (k : NodeNo). k.0 < n + 1) lost more (λ k d lt. let within : (get_or lost k d).0 < n = h.nodes k d lt in omega arith) nodes;
-  }
+-- it is so where the lost nodes but s have FAR, and are listed
+pub kept-cells : (g : Graph) (x : List Bool) (s : ℕ) (row cells : List ℕ) (nodes : List NodeNo) (left lost : NodeBits) → IsGraph g → length row ≡ node_count g → AreLost g x s (node_count g) left → IsWithout left lost s → AreCellsWithout row lost cells → AreThose (λ v. is_in lost v ≡ true) 256 nodes → AreKeptCells g x s row cells nodes
+kept-cells g x s row cells nodes left lost graph long are without clear those = record {
+  long = omega (arith, clear.long);
+  each = λ v lt. ⊎_elim
+      (λ (yes : is_in lost v ≡ true).
+      let out = without-inside left lost s v without yes in
+      inr (
+        λ kept. ⊎_elim (λ (e : v ≡ s). out.0 e) (λ (c : (l : ℕ) × LeadsTo g x s v l). are.lost v c.0 out.1 c.1) kept,
+        clear.each v ∙ ap (λ t. if t then FAR else slice_index row v) yes,
+        listed-contains (λ u. is_in lost u ≡ true) 256 nodes v those (omega (arith, graph.few_nodes)) yes,
+      ))
+      (λ (no : is_in lost v ≡ false).
+      inl (
+        ⊎_elim
+            (λ (e : v ≡ s). inl e)
+            (λ ne. inr (are.led v lt (sym (without-other left lost s v without ne) ∙ no)))
+            (cases_eq v s),
+        clear.each v ∙ ap (λ t. if t then FAR else slice_index row v) no,
+      ))
+      (cases_Bool (is_in lost v));
+  nodes = λ k d lt.
+      let member : is_in lost (listed_at nodes k) ≡ true = (those.each k lt).1 in
+      let within : listed_at nodes k < node_count g = are.within (listed_at nodes k) (without-inside left lost s (listed_at nodes k) without member).1 in
+      subst (λ (node : NodeNo). node.0 < node_count g) (get_or_default nodes k (record { 0 = 0 }) d lt) within;
+}
 
-  -- a node that is kept has its cell of the row
-  pub kept-more : (cells : List ℕ) (lost : List NodeNo) (n c : ℕ) → AreKeptBelow g x s row (record { cells = cells; lost = lost }) n → IsKept g x s n → c ≡ slice_index row n → AreKeptBelow g x s row (record { cells = cells ++ c ∷ []; lost = lost }) (n + 1)
-  unfolding IsToldOf
-  kept-more cells lost n c h kept is =
-      subst (λ list. AreKeptBelow g x s row (record { cells = cells ++ c ∷ []; lost = list }) (n + 1)) (append-nil lost)
-      (told-more cells lost [] n c h (inl (kept, is)) (λ k d lt. absurd (omega arith)))
-
-  -- another has FAR, and is listed
-  pub lost-more : (cells : List ℕ) (lost : List NodeNo) (n : ℕ) → AreKeptBelow g x s row (record { cells = cells; lost = lost }) n → (IsKept g x s n → ⊥) → AreKeptBelow g x s row (record { cells = cells ++ FAR ∷ []; lost = lost ++ record { 0 = n } ∷ [] }) (n + 1)
-  unfolding IsToldOf
-  lost-more cells lost n h other =
-      let node : NodeNo = record { 0 = n } in
-      told-more cells lost (node ∷ []) n FAR h (inr (other, refl, Contains-push lost node)) (λ k d lt.
-      let first : k ≡ 0 = omega arith in
-      rw first (omega arith))
-
-module _ (g : Graph) (x : List Bool) (s : ℕ) (row cells : List ℕ) (lost : List NodeNo) (graph : IsGraph g) (within : s < node_count g) (is : IsRow g [] s row) (h : AreKeptBelow g x s row (record { cells = cells; lost = lost }) (node_count g)) where
+module _ (g : Graph) (x : List Bool) (s : ℕ) (row cells : List ℕ) (lost : List NodeNo) (graph : IsGraph g) (within : s < node_count g) (is : IsRow g [] s row) (h : AreKeptCells g x s row cells lost) where
   -- where there is a cell it is that of the row
   near_kept : (v : ℕ) → v < node_count g → slice_index cells v < FAR → IsKept g x s v × (slice_index cells v ≡ slice_index row v)
   near_kept v v_in near = ⊎_elim (λ a. a) (λ b. absurd (omega (arith, b.1))) (h.each v v_in)

@@ -1,8 +1,9 @@
 pub mod NodeLemmas
-pub mod HopLemmas
 pub mod WayLemmas
-pub mod OrderLemmas
 pub mod MarkLemmas
 pub mod KeptLemmas
 pub mod KeptHopLemmas
 pub mod SourceLemmas
+pub mod ListedLemmas
+pub mod DoubtLemmas
+pub mod BitLemmas

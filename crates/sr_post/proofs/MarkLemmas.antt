@@ -1,103 +1,262 @@
--- The nodes on the shortest walks, told from the farther ones.
-use Rattle.std.proofs.Common.{◌≡◌, ◌≢◌, ℕ, ◌+◌, ◌<◌, ◌≤◌, ⊎_elim, inl, inr, Bool, true, false, List, length, arith, ap, sym, ◌∙◌, subst, set}
-use Rattle.std.specs.Prelude.{IsTrue, ◌↔◌, slice_index}
-use Rattle.std.proofs.lemmas.Bool.{cases_eq, cases_lt}
-use Rattle.std.proofs.lemmas.List.{length-set, get_or-set_same, get_or-set_other}
+-- The nodes on the shortest walks, found by following links back from the destinations.
+use Rattle.std.proofs.Common.{◌≡◌, ◌≢◌, ℕ, zero, suc, ◌+◌, ◌<◌, ◌≤◌, ◌⊎◌, ⊎_elim, inl, inr, Bool, true, false, [], ◌∷◌, not, ◌&&◌, ◌||◌, ◌==◌, List, length, ◌++◌, refl, arith, ap, sym, ◌∙◌, subst}
+use Rattle.std.specs.Prelude.{IsTrue, ◌↔◌, slice_index, nat_lt}
+use Rattle.std.proofs.lemmas.Bool.{and_from, and_parts, cases_Bool, cases_eq, eq-eqb, eqb-true, lt-ltb, ltb-true, or_cases, or_left, or_parts, or_right, true≢false}
 use Rattle.sr_model.specs.declared.case.Case.{Case}
-use Rattle.sr_model.specs.Graph.{IsGraph, IsLink, node_count, tail, head, metric, has, link_at}
+use Rattle.sr_model.specs.declared.link.LinkNo.{LinkNo}
+use Rattle.sr_model.specs.declared.link.TheConstants.{FAR}
+use Rattle.sr_model.specs.Graph.{Graph, IsGraph, IsLink, node_count, tail, head, link_at}
 use Rattle.sr_model.specs.Label.{Net}
-use Rattle.sr_model.specs.Walk.{IsRow}
+use Rattle.sr_model.specs.Walk.{IsRow, IsOnWay}
 use Rattle.sr_model.specs.Case.{IsAffected, IsOnRepairWay, IsFailedSet, IsCase, source_of}
-use Rattle.sr_post.specs.declared.order.Placed.{Placed}
-use Rattle.sr_post.specs.Order.{placed_at, AreByDistance}
-use Rattle.sr_post.specs.Marks.{IsWayMarked, AreWayMarks, AreWalks}
+use Rattle.sr_graph.specs.Members.{number_at}
+use Rattle.sr_graph.specs.Ranges.{EndAt}
+use Rattle.sr_lanes.specs.declared.words.NodeBits.{NodeBits}
+use Rattle.sr_lanes.specs.Bits.{is_in, count_below, IsWithout}
+use Rattle.sr_lanes.specs.Passes.{has_distance}
+use Rattle.sr_lanes.proofs.SizeLemmas.{count_below-same, without-same, without-other, without-inside}
+use Rattle.sr_walks.proofs.Walks.{walk-within}
 use Rattle.sr_laws.proofs.Failures.{failed-one}
-use Rattle.sr_post.proofs.WayLemmas.{IsAlong, along-from_way, way-from_along, along-here, along-on, along-cut}
+use Rattle.sr_post.specs.Marks.{AreFound, AreWalks, IsOneBefore, LeadsAlong}
+use Rattle.sr_post.proofs.WayLemmas.{IsAlong, near_walk, along-from_way, way-from_along, along-here, along-on, along-cut}
 
--- the marks are right at the places from k on
-pub record AreRightFrom (n : Net) (case : Case) (x : List Bool) (list : List Placed) (k : ℕ) (marks : List Bool) : Type 0 where
-  pub long : length marks ≡ node_count n.graph
-  pub each : (j : ℕ) → k ≤ j → j < length list → IsTrue (has marks (placed_at list j).node.0) ↔ IsOnRepairWay n case x (placed_at list j).node.0
+-- a test that says no where another says yes, and is the same elsewhere, says yes less often
+count-less : (test less : ℕ → Bool) (n v : ℕ) → v < n → test v ≡ true → less v ≡ false → ((k : ℕ) → k ≢ v → less k ≡ test k)
+    → count_below less n < count_below test n
+unfolding count_below
+count-less test less zero v lt was gone all = absurd (omega arith)
+count-less test less (suc n) v lt was gone all =
+    ⊎_elim
+    (λ (here : v ≡ n).
+    let same : count_below less n ≡ count_below test n = count_below-same test less n (λ k below. all k (λ e. let z : n < n = omega arith in omega arith)) in
+    let was' : test n ≡ true = subst (λ k. test k ≡ true) here was in
+    let gone' : less n ≡ false = subst (λ k. less k ≡ false) here gone in
+    rw (same, was', gone') (omega arith))
+    (λ (apart : v ≢ n).
+    let before : count_below less n < count_below test n = count-less test less n v (omega arith) was gone all in
+    let same : less n ≡ test n = all n (λ e. apart (sym e)) in
+    rw same (omega (arith, before)))
+    (cases_eq v n)
 
-pub right-start : (n : Net) (case : Case) (x : List Bool) (list : List Placed) (marks : List Bool) → length marks ≡ node_count n.graph → AreRightFrom n case x list (length list) marks
-right-start n case x list marks long = record { long = long; each = λ j ge lt. absurd (omega arith) }
+-- from the node nothing has been followed back: it isn't found, or is pending
+abbrev pub is_open : NodeBits → NodeBits → ℕ → Bool
+is_open found pending v = not (is_in found v && not (is_in pending v))
 
-module _ (n : Net) (case : Case) (x : List Bool) (cells : List ℕ) (graph : IsGraph n.graph) (is : IsCase n.graph case) (row : IsRow n.graph x (source_of n.graph case) cells) (list : List Placed) (order : AreByDistance cells list) where
+-- how many such nodes there are
+abbrev pub open_count : NodeBits → NodeBits → ℕ
+open_count found pending = count_below (is_open found pending) 256
+
+-- the nodes before node v are put with those found and with those pending, of which v no longer is one
+pub record IsFollowed (v : ℕ) (before found pending found' pending' : NodeBits) : Type 0 where
+  pub was : is_in pending v ≡ true
+  pub less : NodeBits
+  pub taken : IsWithout pending less v
+  pub more : NodeBits
+  pub new : (k : ℕ) → is_in more k ≡ (is_in before k && not (is_in found k))
+  pub found_is : (k : ℕ) → is_in found' k ≡ (is_in found k || is_in more k)
+  pub pending_is : (k : ℕ) → is_in pending' k ≡ (is_in less k || is_in more k)
+
+-- a node that is put with those found is put with those pending too
+open_other : (f p b : Bool) → (p ≡ true → f ≡ true) → not ((f || (b && not f)) && not (p || (b && not f))) ≡ not (f && not p)
+open_other true true true h = refl
+open_other true true false h = refl
+open_other true false true h = refl
+open_other true false false h = refl
+open_other false true b h = absurd (true≢false (sym (h refl)))
+open_other false false true h = refl
+open_other false false false h = refl
+
+-- v was found before, and isn't pending
+open_here : (f b : Bool) → f ≡ true → not ((f || (b && not f)) && not (false || (b && not f))) ≡ false
+open_here true true h = refl
+open_here true false h = refl
+open_here false b h = absurd (true≢false (sym h))
+
+module _ (v : ℕ) (before found pending found' pending' : NodeBits) (d : IsFollowed v before found pending found' pending') (inside : (k : ℕ) → is_in pending k ≡ true → is_in found k ≡ true) where
+  open-here : is_open found' pending' v ≡ false
+  open-here = rw (d.found_is v, d.pending_is v, d.new v, without-same pending d.less v d.taken) (open_here (is_in found v) (is_in before v) (inside v d.was))
+
+  open-other : (k : ℕ) → k ≢ v → is_open found' pending' k ≡ is_open found pending k
+  open-other k ne = rw (d.found_is k, d.pending_is k, d.new k, without-other pending d.less v k d.taken ne) (open_other (is_in found k) (is_in pending k) (is_in before k) (inside k))
+
+  -- there are less such nodes
+  pub open-less : v < 256 → open_count found' pending' < open_count found pending
+  open-less within = count-less (is_open found pending) (is_open found' pending') 256 v within (rw (inside v d.was, d.was) refl) open-here open-other
+
+-- a set and a node more
+pub with-one : (set more : NodeBits) (v : ℕ) (P Q : ℕ → Type 0) → ((k : ℕ) → IsTrue (is_in set k) ↔ P k) → ((k : ℕ) → is_in more k ≡ (k == v || is_in set k))
+    → ((k : ℕ) → P k → Q k) → Q v → ((k : ℕ) → Q k → (k ≡ v) ⊎ P k) → (k : ℕ) → IsTrue (is_in more k) ↔ Q k
+with-one set more v P Q tells is up here down k = (
+  λ yes. ⊎_elim
+      (λ (same : (k == v) ≡ true). subst Q (sym (eqb-true k v same)) here)
+      (λ (old : is_in set k ≡ true). up k ((tells k).0 old))
+      (or_cases (k == v) (is_in set k) (sym (is k) ∙ yes)),
+  λ q. is k ∙ ⊎_elim
+      (λ (same : k ≡ v). or_left (k == v) (is_in set k) (eq-eqb k v same))
+      (λ (p : P k). or_right (k == v) (is_in set k) ((tells k).1 p))
+      (down k q),
+)
+
+-- an affected destination is a node
+pub affected-within : (n : Net) (case : Case) (d : ℕ) → IsGraph n.graph → IsCase n.graph case → IsAffected n case d → d < node_count n.graph
+affected-within n case d graph is a =
+    let ends : IsLink n.graph (link_at n.graph case.link.0) = graph.each case.link.0 is in
+    walk-within n.graph [] (source_of n.graph case) (case.link.0 ∷ a.hop.more) d graph ends.0 a.hop.shortest.0
+
+-- the affected destinations below a number
+abbrev pub IsAffectedBelow : Net → Case → ℕ → ℕ → Type 0
+IsAffectedBelow n case m k = (k < m) × IsAffected n case k
+
+-- one of the first links leads along the row from u
+abbrev pub IsBeforeBy : Graph → List Bool → ℕ → List ℕ → List LinkNo → ℕ → ℕ → Type 0
+IsBeforeBy g x s cells links m u = (j : ℕ) × (j < m) × (tail g (number_at links j) ≡ u) × LeadsAlong g x s cells (number_at links j)
+
+-- all links to v are gone through
+pub before-all : (g : Graph) (x : List Bool) (s : ℕ) (cells : List ℕ) (v : ℕ) (links : List LinkNo) (u : ℕ) → EndAt g v links
+    → IsBeforeBy g x s cells links (length links) u ↔ IsOneBefore g x s cells v u
+before-all g x s cells v links u ends = (
+  λ b. let at = ends.each b.0 b.1 in record { link = number_at links b.0; within = at.0; begins = b.2; ends = at.1; along = b.3 },
+  λ b. let at = ends.all b.link b.within b.ends in (
+    at.0,
+    at.1,
+    subst (λ l. tail g l ≡ u) (sym at.2) b.begins,
+    subst (λ l. LeadsAlong g x s cells l) (sym at.2) b.along,
+  ),
+)
+
+module _ (g : Graph) (x : List Bool) (s : ℕ) (cells : List ℕ) (links : List LinkNo) (i : ℕ) (set : NodeBits) (tells : (u : ℕ) → IsTrue (is_in set u) ↔ IsBeforeBy g x s cells links i u) where
+  grown : (u : ℕ) → IsBeforeBy g x s cells links i u → IsBeforeBy g x s cells links (i + 1) u
+  grown u b = (b.0, (let lt : b.0 < i = b.1 in omega arith), b.2, b.3)
+
+  -- link number i leads along the row, so that its beginning is put in
+  pub before-put : (more : NodeBits) (v : ℕ) → v ≡ tail g (number_at links i) → ((k : ℕ) → is_in more k ≡ (k == v || is_in set k))
+      → LeadsAlong g x s cells (number_at links i) → (u : ℕ) → IsTrue (is_in more u) ↔ IsBeforeBy g x s cells links (i + 1) u
+  before-put more v at is along =
+      with-one set more v (IsBeforeBy g x s cells links i) (IsBeforeBy g x s cells links (i + 1)) tells is grown
+      (i, (omega arith), sym at, along)
+      (λ u b. ⊎_elim
+      (λ (last : b.0 ≡ i). inl (sym b.2 ∙ ap (λ j. tail g (number_at links j)) last ∙ sym at))
+      (λ (ne : b.0 ≢ i). inr (b.0, (let lt : b.0 < i + 1 = b.1 in omega arith), b.2, b.3))
+      (cases_eq b.0 i))
+
+  -- or it doesn't
+  pub before-pass : (LeadsAlong g x s cells (number_at links i) → ⊥) → (u : ℕ) → IsTrue (is_in set u) ↔ IsBeforeBy g x s cells links (i + 1) u
+  before-pass fails u = (
+    λ yes. grown u ((tells u).0 yes),
+    λ b. ⊎_elim
+        (λ (last : b.0 ≡ i). absurd (fails (subst (λ j. LeadsAlong g x s cells (number_at links j)) last b.3)))
+        (λ (ne : b.0 ≢ i). (tells u).1 (b.0, (let lt : b.0 < i + 1 = b.1 in omega arith), b.2, b.3))
+        (cases_eq b.0 i),
+  )
+
+module _ (n : Net) (case : Case) (x : List Bool) (cells : List ℕ) (graph : IsGraph n.graph) (is : IsCase n.graph case) (row : IsRow n.graph x (source_of n.graph case) cells) where
   source_in : source_of n.graph case < node_count n.graph
   source_in = let k : IsLink n.graph (link_at n.graph case.link.0) = graph.each case.link.0 is in k.0
 
-  -- a farther node stands at a later place
-  farther : (k : ℕ) (marks : List Bool) → k < length list → AreRightFrom n case x list (k + 1) marks → (h : ℕ) → h < node_count n.graph → slice_index cells (placed_at list k).node.0 < slice_index cells h → IsTrue (has marks h) ↔ IsOnRepairWay n case x h
-  farther k marks within r h h_in less =
-      let at = order.all h (omega (arith, row.long)) in
-      let here : (placed_at list k).cell ≡ slice_index cells (placed_at list k).node.0 = (order.each k within).1 in
-      let there : (placed_at list at.0).cell ≡ slice_index cells (placed_at list at.0).node.0 = (order.each at.0 at.1).1 in
-      let same : slice_index cells (placed_at list at.0).node.0 ≡ slice_index cells h = ap (λ v. slice_index cells v) at.2 in
-      let later : k + 1 ≤ at.0 =
-      ⊎_elim
-      (λ (lt : k < at.0). omega arith)
-      (λ (ge : at.0 ≤ k). absurd (let le : (placed_at list at.0).cell ≤ (placed_at list k).cell = order.ascending at.0 k ge within in omega arith))
-      (cases_lt k at.0) in
-      subst (λ v. IsTrue (has marks v) ↔ IsOnRepairWay n case x v) at.2 (r.each at.0 later at.1)
+  -- what is on the walks is a node
+  pub way-within : (v : ℕ) → IsOnRepairWay n case x v → v < node_count n.graph
+  way-within v w = walk-within n.graph x (source_of n.graph case) w.2.before v graph source_in w.2.to
 
-  -- the test of a node, once the farther ones are right
-  pub marked_tells : (k : ℕ) (marks : List Bool) → k < length list → AreRightFrom n case x list (k + 1) marks → (v : ℕ) → v ≡ (placed_at list k).node.0 → IsWayMarked n case x cells marks v ↔ IsOnRepairWay n case x v
-  marked_tells k marks within r v e =
-      let s : ℕ = source_of n.graph case in
-      let v_in : v < node_count n.graph = let lt : (placed_at list k).node.0 < length cells = (order.each k within).0 in omega (arith, row.long) in (
-        λ m. ⊎_elim
-            (λ affected. (v, affected, way-from_along n.graph x s cells graph row source_in v v v_in (along-here n.graph x s cells graph row source_in v m.near)))
-            (λ on.
-            let l : ℕ = on.1.0 in
-            let ends : IsLink n.graph (link_at n.graph l) = graph.each l on.1.1 in
-            let tight : slice_index cells v + metric n.graph l ≡ slice_index cells (head n.graph l) = on.1.4 in
-            let begins : tail n.graph l ≡ v = on.1.2 in
-            let less : slice_index cells (placed_at list k).node.0 < slice_index cells (head n.graph l) = subst (λ w. slice_index cells w < slice_index cells (head n.graph l)) e (omega (arith, ends.2)) in
-            let w : IsOnRepairWay n case x (head n.graph l) = (farther k marks within r (head n.graph l) ends.1 less).0 on.1.5 in
-            let rest : IsAlong n.graph x s cells (head n.graph l) w.0 = along-from_way n.graph x s cells graph row source_in w.0 (head n.graph l) w.2 in
-            let more : IsAlong n.graph x s cells (tail n.graph l) w.0 = along-on n.graph x s cells graph row source_in l w.0 on.1.1 on.1.3 (rw begins on.0) (rw begins m.near) (rw begins tight) rest in
-            (w.0, w.1, way-from_along n.graph x s cells graph row source_in w.0 v v_in (subst (λ u. IsAlong n.graph x s cells u w.0) begins more)))
-            m.why,
-        λ w.
-            let rest : IsAlong n.graph x s cells v w.0 = along-from_way n.graph x s cells graph row source_in w.0 v w.2 in
-            record {
-              near = rest.near;
-              why = ⊎_elim
-                  (λ (same : v ≡ w.0). inl (subst (λ d. IsAffected n case d) (sym same) w.1))
-                  (λ c.
-                  let l : ℕ = c.link in
-                  let ends : IsLink n.graph (link_at n.graph l) = graph.each l c.within in
-                  let tight : slice_index cells v + metric n.graph l ≡ slice_index cells (head n.graph l) = c.tight in
-                  let less : slice_index cells (placed_at list k).node.0 < slice_index cells (head n.graph l) = subst (λ w. slice_index cells w < slice_index cells (head n.graph l)) e (omega (arith, ends.2)) in
-                  let mark : has marks (head n.graph l) ≡ true = (farther k marks within r (head n.graph l) ends.1 less).1 (w.0, w.1, way-from_along n.graph x s cells graph row source_in w.0 (head n.graph l) ends.1 c.more) in
-                  inr (c.carry, (l, c.within, c.from, c.outside, c.tight, mark)))
-                  (along-cut n.graph x s cells graph row source_in v w.0 rest);
-            },
-      )
-
-  pub right-more : (k : ℕ) (marks : List Bool) → k < length list → AreRightFrom n case x list (k + 1) marks → (v : ℕ) → v ≡ (placed_at list k).node.0 → (test : Bool) → IsTrue test ↔ IsWayMarked n case x cells marks v → AreRightFrom n case x list k (set marks v test)
-  right-more k marks within r v e test tells =
-      let v_in : v < length marks = let lt : (placed_at list k).node.0 < length cells = (order.each k within).0 in omega (arith, row.long, r.long) in
-      let m : IsWayMarked n case x cells marks v ↔ IsOnRepairWay n case x v = marked_tells k marks within r v e in
-      let right : IsTrue (has (set marks v test) v) ↔ IsOnRepairWay n case x v = rw (get_or-set_same marks v test false v_in) (λ yes. m.0 (tells.0 yes), λ w. tells.1 (m.1 w)) in
-      record {
-        long = length-set marks v test ∙ r.long;
-        each = λ j ge lt. ⊎_elim
-            (λ (same : (placed_at list j).node.0 ≡ v). subst (λ u. IsTrue (has (set marks v test) u) ↔ IsOnRepairWay n case x u) (sym same) right)
-            (λ (ne : (placed_at list j).node.0 ≢ v).
-            let later : k + 1 ≤ j = ⊎_elim (λ (at : j ≡ k). absurd (ne (ap (λ i. (placed_at list i).node.0) at ∙ sym e))) (λ (ne' : j ≢ k). omega arith) (cases_eq j k) in
-            rw (get_or-set_other marks v (placed_at list j).node.0 test false ne) (r.each j later lt))
-            (cases_eq (placed_at list j).node.0 v);
-      }
-
-  pub right-over : (marks : List Bool) → AreRightFrom n case x list 0 marks → AreWayMarks n case x marks
-  right-over marks r = record {
-    long = r.long;
-    each = λ v within.
-        let at = order.all v (omega (arith, row.long)) in
-        subst (λ u. IsTrue (has marks u) ↔ IsOnRepairWay n case x u) at.2 (r.each at.0 (omega arith) at.1);
+  -- the affected destinations with a walk are found first
+  pub found-start : (affected near found : NodeBits) → ((v : ℕ) → IsTrue (is_in affected v) ↔ IsAffected n case v)
+      → ((v : ℕ) → is_in near v ≡ has_distance cells v) → ((v : ℕ) → is_in found v ≡ (is_in affected v && is_in near v))
+      → AreFound n case x cells found found
+  found-start affected near found tells far both = record {
+    inside = λ v yes. yes;
+    sound = λ v yes.
+        let parts = and_parts (is_in affected v) (is_in near v) (sym (both v) ∙ yes) in
+        let two = and_parts (nat_lt v (length cells)) (nat_lt (slice_index cells v) FAR) (sym (far v) ∙ parts.1) in
+        let close : slice_index cells v < FAR = ltb-true (slice_index cells v) FAR two.1 in
+        let a : IsAffected n case v = (tells v).0 parts.0 in
+        let within : v < node_count n.graph = affected-within n case v graph is a in
+        (v, a, way-from_along n.graph x (source_of n.graph case) cells graph row source_in v v within (along-here n.graph x (source_of n.graph case) cells graph row source_in v close));
+    ends = λ d a close.
+        let within : d < length cells = omega (arith, row.long, affected-within n case d graph is a) in
+        both d ∙ and_from (is_in affected d) (is_in near d) ((tells d).1 a) (far d ∙ and_from (nat_lt d (length cells)) (nat_lt (slice_index cells d) FAR) (lt-ltb d (length cells) within) (lt-ltb (slice_index cells d) FAR close));
+    closed = λ v u yes no. absurd (true≢false (sym yes ∙ no));
   }
 
--- the failed links of a case are one set
-pub marks-walks : (n : Net) (case : Case) (x marks : List Bool) → IsFailedSet n.graph case x → AreWayMarks n case x marks → AreWalks n case marks
-marks-walks n case x marks failed are = record { marks = λ y other. subst (λ z. AreWayMarks n case z marks) (failed-one n.graph case x y failed other) are }
+  -- a node before one that is on the walks is on them too
+  before-way : (v u : ℕ) → IsOnRepairWay n case x v → IsOneBefore n.graph x (source_of n.graph case) cells v u → IsOnRepairWay n case x u
+  before-way v u w b =
+      let s : ℕ = source_of n.graph case in
+      let g : Graph = n.graph in
+      let ends : IsLink g (link_at g b.link) = graph.each b.link b.within in
+      let rest : IsAlong g x s cells v w.0 = along-from_way g x s cells graph row source_in w.0 v w.2 in
+      let rest' : IsAlong g x s cells (head g b.link) w.0 = subst (λ k. IsAlong g x s cells k w.0) (sym b.ends) rest in
+      let near : slice_index cells (tail g b.link) < FAR = omega (arith, b.along.tight, rest'.near) in
+      let more : IsAlong g x s cells (tail g b.link) w.0 = along-on g x s cells graph row source_in b.link w.0 b.within b.along.outside b.along.carry near b.along.tight rest' in
+      let way : IsOnWay g x s w.0 (tail g b.link) = way-from_along g x s cells graph row source_in w.0 (tail g b.link) ends.0 more in
+      (w.0, w.1, subst (λ k. IsOnWay g x s w.0 k) b.begins way)
+
+  -- the nodes before a pending one are found
+  pub found-next : (v : ℕ) (before found pending found' pending' : NodeBits) → AreFound n case x cells found pending
+      → IsFollowed v before found pending found' pending'
+      → ((u : ℕ) → IsTrue (is_in before u) ↔ IsOneBefore n.graph x (source_of n.graph case) cells v u)
+      → AreFound n case x cells found' pending'
+  found-next v before found pending found' pending' f d tells =
+      let old : (k : ℕ) → is_in found k ≡ true → is_in found' k ≡ true = λ k yes. d.found_is k ∙ or_left (is_in found k) (is_in d.more k) yes in
+      record {
+        inside = λ k yes. d.found_is k ∙ ⊎_elim
+            (λ left. or_left (is_in found k) (is_in d.more k) (f.inside k (without-inside pending d.less v k d.taken left).1))
+            (λ new. or_right (is_in found k) (is_in d.more k) new)
+            (or_cases (is_in d.less k) (is_in d.more k) (sym (d.pending_is k) ∙ yes));
+        sound = λ k yes. ⊎_elim
+            (λ was. f.sound k was)
+            (λ new. before-way v k (f.sound v (f.inside v d.was)) ((tells k).0 (and_parts (is_in before k) (not (is_in found k)) (sym (d.new k) ∙ new)).0))
+            (or_cases (is_in found k) (is_in d.more k) (sym (d.found_is k) ∙ yes));
+        ends = λ k a near. old k (f.ends k a near);
+        closed = λ k u yes no b. ⊎_elim
+            (λ (same : k ≡ v).
+            let there : is_in before u ≡ true = (tells u).1 (subst (λ j. IsOneBefore n.graph x (source_of n.graph case) cells j u) same b) in
+            ⊎_elim
+            (λ was. old u was)
+            (λ (out : is_in found u ≡ false). d.found_is u ∙ or_right (is_in found u) (is_in d.more u) (d.new u ∙ and_from (is_in before u) (not (is_in found u)) there (ap not out)))
+            (cases_Bool (is_in found u)))
+            (λ (ne : k ≢ v).
+            let parts = or_parts (is_in d.less k) (is_in d.more k) (sym (d.pending_is k) ∙ no) in
+            let gone : is_in pending k ≡ false = sym (without-other pending d.less v k d.taken ne) ∙ parts.0 in
+            let was : is_in found k ≡ true = ⊎_elim (λ yes'. yes') (λ new. absurd (true≢false (sym new ∙ parts.1))) (or_cases (is_in found k) (is_in d.more k) (sym (d.found_is k) ∙ yes)) in
+            old u (f.closed k u was gone b))
+            (cases_eq k v);
+      }
+
+  module _ (found pending : NodeBits) (f : AreFound n case x cells found pending) (over : (v : ℕ) → is_in pending v ≡ false) where
+    -- a node is found from which a walk leads along the row to a found one
+    found-along : (m d v : ℕ) → slice_index cells d ≤ slice_index cells v + m → IsAlong n.graph x (source_of n.graph case) cells v d → is_in found d ≡ true → is_in found v ≡ true
+    found-along zero d v le k given =
+        ⊎_elim
+        (λ (same : v ≡ d). subst (λ j. is_in found j ≡ true) (sym same) given)
+        (λ c.
+        let ends : IsLink n.graph (link_at n.graph c.link) = graph.each c.link c.within in
+        absurd (omega (arith, ends.2, c.tight, c.more.sum)))
+        (along-cut n.graph x (source_of n.graph case) cells graph row source_in v d k)
+    found-along (suc m) d v le k given =
+        ⊎_elim
+        (λ (same : v ≡ d). subst (λ j. is_in found j ≡ true) (sym same) given)
+        (λ c.
+        let ends : IsLink n.graph (link_at n.graph c.link) = graph.each c.link c.within in
+        let there : is_in found (head n.graph c.link) ≡ true = found-along m d (head n.graph c.link) (omega (arith, ends.2, c.tight)) c.more given in
+        f.closed (head n.graph c.link) v there (over (head n.graph c.link)) (record {
+          link = c.link;
+          within = c.within;
+          begins = c.from;
+          ends = refl;
+          along = record { outside = c.outside; carry = rw c.from c.carry; tight = rw c.from c.tight };
+        }))
+        (along-cut n.graph x (source_of n.graph case) cells graph row source_in v d k)
+
+    -- once none is pending, the nodes found are those on the walks
+    pub found-over : IsFailedSet n.graph case x → AreWalks n case found
+    found-over failed = record {
+      marks = λ y other v.
+          subst (λ z. IsTrue (is_in found v) ↔ IsOnRepairWay n case z v) (failed-one n.graph case x y failed other) (
+            λ yes. f.sound v yes,
+            λ w.
+                let s : ℕ = source_of n.graph case in
+                let k : IsAlong n.graph x s cells v w.0 = along-from_way n.graph x s cells graph row source_in w.0 v w.2 in
+                let d_in : w.0 < node_count n.graph = affected-within n case w.0 graph is w.1 in
+                let near : slice_index cells w.0 < FAR = near_walk n.graph x s cells graph row source_in (w.2.before ++ w.2.after) w.0 d_in w.2.shortest.0 in
+                found-along (slice_index cells w.0) w.0 v (omega arith) k (f.ends w.0 w.1 near),
+          );
+    }

@@ -2,7 +2,13 @@
 use Rattle.std.proofs.Common.{◌≡◌, ◌≢◌, ℕ, zero, suc, ◌+◌, ◌<◌, ◌≤◌, ⊎_elim, List, [], ◌∷◌, ◌++◌, length, refl, arith, ap, sym, ◌∙◌, subst}
 use Rattle.std.proofs.lemmas.Bool.{cases_eq, cases_lt}
 use Rattle.std.proofs.lemmas.List.{length-append, get_or_push, get_or_append_left}
+use Rattle.sr_model.specs.declared.case.Case.{Case}
 use Rattle.sr_model.specs.declared.link.NodeNo.{NodeNo}
+use Rattle.sr_model.specs.Case.{IsCase, source_of}
+use Rattle.sr_model.specs.Graph.{node_count, link_at, IsGraph, IsLink}
+use Rattle.sr_model.specs.Label.{Net}
+use Rattle.sr_model.specs.Walk.{IsNextHop}
+use Rattle.sr_walks.proofs.Walks.{walk-within}
 use Rattle.sr_post.specs.Nodes.{listed_at, AreThose}
 
 -- what stands for a node past the end of a list
@@ -55,6 +61,25 @@ those-skip P v nodes r apart = record {
       (cases_eq u v);
 }
 
+-- none up to here has it
+pub those-up : (P : ℕ → Type 0) (m n : ℕ) (nodes : List NodeNo) → AreThose P m nodes → m ≤ n → ((v : ℕ) → m ≤ v → v < n → P v → ⊥) → AreThose P n nodes
+those-up P m n nodes r le none = record {
+  ascending = r.ascending;
+  each = λ j lt. ((let low : listed_at nodes j < m = (r.each j lt).0 in omega arith), (r.each j lt).1);
+  all = λ u lt is. ⊎_elim
+      (λ (low : u < m). r.all u low is)
+      (λ (up : m ≤ u). absurd (none u up lt is))
+      (cases_lt u m);
+}
+
+-- another property that is had by the same
+pub those-same : (P Q : ℕ → Type 0) (m n : ℕ) (nodes : List NodeNo) → AreThose P m nodes → ((v : ℕ) → P v → Q v × (v < n)) → ((v : ℕ) → Q v → P v × (v < m)) → AreThose Q n nodes
+those-same P Q m n nodes r to from = record {
+  ascending = r.ascending;
+  each = λ j lt. let told = to (listed_at nodes j) (r.each j lt).1 in (told.1, told.0);
+  all = λ u lt is. let told = from u is in r.all u told.1 told.0;
+}
+
 -- each stands no lower than its place
 those-above : (P : ℕ → Type 0) (m : ℕ) (nodes : List NodeNo) → AreThose P m nodes → (j : ℕ) → j < length nodes → j ≤ listed_at nodes j
 those-above P m nodes r zero lt = omega arith
@@ -70,3 +95,9 @@ those-few P m nodes r =
     (λ (more : m < length nodes). let above : m ≤ listed_at nodes m = those-above P m nodes r m more in let below : listed_at nodes m < m = (r.each m more).0 in absurd (omega arith))
     (λ (few : length nodes ≤ m). few)
     (cases_lt m (length nodes))
+
+-- a destination that is affected is a node of the graph
+pub affected-within : (n : Net) (case : Case) (v : ℕ) → IsGraph n.graph → IsCase n.graph case → IsNextHop n.graph [] (source_of n.graph case) v case.link.0 → v < node_count n.graph
+affected-within n case v graph within hop =
+    let k : IsLink n.graph (link_at n.graph case.link.0) = graph.each case.link.0 within in
+    walk-within n.graph [] (source_of n.graph case) (case.link.0 ∷ hop.more) v graph k.0 hop.shortest.0

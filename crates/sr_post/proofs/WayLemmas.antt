@@ -31,7 +31,7 @@ module _ (g : Graph) (x : List Bool) (s : ℕ) (cells : List ℕ) (graph : IsGra
   own : slice_index cells s ≡ 0
   own = cell-distance g x s s (slice_index cells s) 0 (row.each s inside) (distance-self g x s) (omega arith)
 
-  near_walk : (p : List ℕ) (v : ℕ) → v < node_count g → IsWalk g x s p v → slice_index cells v < FAR
+  pub near_walk : (p : List ℕ) (v : ℕ) → v < node_count g → IsWalk g x s p v → slice_index cells v < FAR
   near_walk p v within a = ⊎_elim (λ near. near) (λ far. absurd ((row.each v within).far far p a)) (cases_lt (slice_index cells v) FAR)
 
   -- a node on a shortest walk has its rest along the row

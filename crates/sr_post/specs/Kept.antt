@@ -1,8 +1,8 @@
 -- The nodes that keep their distance in a failure, the next hops that still lead to them, and how both are told.
-use Rattle.std.specs.Prelude.{◌≡◌, ℕ, ◌<◌, ◌≤◌, ◌⊎◌, Bool, true, false, List, [], length, Option, Some, None, All, Contains, slice_index, slice_index_or}
+use Rattle.std.specs.Prelude.{◌≡◌, ℕ, ◌<◌, ◌≤◌, ◌⊎◌, Bool, true, false, List, [], length, Option, Some, None, slice_index_or}
+use Rattle.sr_lanes.specs.Bits.{is_in}
+use Rattle.sr_lanes.specs.declared.words.NodeBits.{NodeBits}
 use Rattle.sr_model.specs.declared.link.LinkNo.{LinkNo}
-use Rattle.sr_model.specs.declared.link.NodeNo.{NodeNo}
-use Rattle.sr_model.specs.declared.link.TheConstants.{FAR}
 use Rattle.sr_model.specs.Graph.{Graph, link_count, head, has}
 use Rattle.sr_model.specs.Walk.{IsNextHop}
 use Rattle.sr_model.specs.Space.{InP}
@@ -14,6 +14,11 @@ pub record LeadsTo (g : Graph) (x : List Bool) (s v l : ℕ) : Type 0 where
   pub hop : IsNextHop g [] s v l
   pub space : InP g x (head g l) v
 
+-- towards each node outside the set a next hop of s that hasn't failed leads in spite of x: of the nodes in the set
+-- it isn't known
+pub record AreDoubtful (g : Graph) (x : List Bool) (s : ℕ) (set : NodeBits) : Type 0 where
+  pub sure : (v h : ℕ) → is_in set v ≡ false → IsNextHop g [] s v h → has x h ≡ false → LeadsTo g x s v h
+
 -- each link of x begins or ends at s
 abbrev pub LieAt : Graph → List Bool → ℕ → Type 0
 LieAt g x s = (l : ℕ) → l < link_count g → has x l ≡ true → Touches g l s
@@ -22,18 +27,11 @@ LieAt g x s = (l : ℕ) → l < link_count g → has x l ≡ true → Touches g 
 abbrev pub IsKept : Graph → List Bool → ℕ → ℕ → Type 0
 IsKept g x s v = (v ≡ s) ⊎ ((l : ℕ) × LeadsTo g x s v l)
 
--- what is known of nodes: the cell of each, and the nodes that are lost
-pub record KnownCells : Type 0 where
-  pub cells : List ℕ
-  pub lost : List NodeNo
-
--- the nodes below n that are kept have their cells of the row, and the others FAR, and are listed
-pub record AreKeptBelow (g : Graph) (x : List Bool) (s : ℕ) (row : List ℕ) (known : KnownCells) (n : ℕ) : Type 0 where
-  pub long : length known.cells ≡ n
-  pub each : (v : ℕ) → v < n
-      → (IsKept g x s v × (slice_index known.cells v ≡ slice_index row v))
-      ⊎ ((IsKept g x s v → ⊥) × (slice_index known.cells v ≡ FAR) × Contains known.lost (record { 0 = v }))
-  pub nodes : All (λ (k : NodeNo). k.0 < n) known.lost
+-- the nodes below n to which no link leads from s in spite of x are in the set
+pub record AreLost (g : Graph) (x : List Bool) (s n : ℕ) (set : NodeBits) : Type 0 where
+  pub within : (v : ℕ) → is_in set v ≡ true → v < n
+  pub lost : (v l : ℕ) → is_in set v ≡ true → LeadsTo g x s v l → ⊥
+  pub led : (v : ℕ) → v < n → is_in set v ≡ false → (l : ℕ) × LeadsTo g x s v l
 
 -- link l is the least that leads from s towards v in spite of x
 pub record IsKeptHop (g : Graph) (x : List Bool) (s v l : ℕ) : Type 0 where

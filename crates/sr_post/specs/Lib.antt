@@ -1,5 +1,5 @@
 pub mod Nodes
 pub mod Post
 pub mod Marks
-pub mod Order
 pub mod Kept
+pub mod Sets

@@ -1,28 +1,37 @@
 -- The nodes on the shortest walks, and how they are told from the farther ones.
-use Rattle.std.specs.Prelude.{◌≡◌, ◌↔◌, ℕ, ◌+◌, ◌<◌, ◌⊎◌, IsTrue, Bool, true, false, List, length, slice_index}
+use Rattle.std.specs.Prelude.{◌≡◌, ◌↔◌, ℕ, ◌+◌, ◌<◌, IsTrue, Bool, true, false, List, slice_index}
 use Rattle.sr_model.specs.declared.case.Case.{Case}
 use Rattle.sr_model.specs.declared.link.TheConstants.{FAR}
-use Rattle.sr_model.specs.Graph.{Graph, node_count, link_count, tail, head, metric, has, carries}
+use Rattle.sr_model.specs.Graph.{Graph, link_count, tail, head, metric, has, carries}
 use Rattle.sr_model.specs.Label.{Net}
 use Rattle.sr_model.specs.Case.{IsAffected, IsFailedSet, IsOnRepairWay, source_of}
+use Rattle.sr_lanes.specs.declared.words.NodeBits.{NodeBits}
+use Rattle.sr_lanes.specs.Bits.{is_in}
 
--- a link from v outside x leads along the row to a marked node
-abbrev pub LeadsOn : Graph → List Bool → List ℕ → List Bool → ℕ → Type 0
-LeadsOn g x cells marks v =
-    (l : ℕ) × (l < link_count g) × (tail g l ≡ v) × (has x l ≡ false)
-    × (slice_index cells v + metric g l ≡ slice_index cells (head g l)) × (has marks (head g l) ≡ true)
+-- link l is outside x, a walk from s may go on by it, and it leads along the row
+pub record LeadsAlong (g : Graph) (x : List Bool) (s : ℕ) (cells : List ℕ) (l : ℕ) : Type 0 where
+  pub outside : has x l ≡ false
+  pub carry : carries g s (tail g l) ≡ true
+  pub tight : slice_index cells (tail g l) + metric g l ≡ slice_index cells (head g l)
 
--- v has a walk, and is an affected destination, or a walk that goes on from v leads along the row to a marked node
-pub record IsWayMarked (n : Net) (case : Case) (x : List Bool) (cells : List ℕ) (marks : List Bool) (v : ℕ) : Type 0 where
-  pub near : slice_index cells v < FAR
-  pub why : IsAffected n case v ⊎ ((carries n.graph (source_of n.graph case) v ≡ true) × LeadsOn n.graph x cells marks v)
+-- such a link leads from u to v
+pub record IsOneBefore (g : Graph) (x : List Bool) (s : ℕ) (cells : List ℕ) (v u : ℕ) : Type 0 where
+  pub link : ℕ
+  pub within : link < link_count g
+  pub begins : tail g link ≡ u
+  pub ends : head g link ≡ v
+  pub along : LeadsAlong g x s cells link
 
--- the tests tell the nodes on the shortest walks without x from the source to the affected destinations
-pub record AreWayMarks (n : Net) (case : Case) (x : List Bool) (marks : List Bool) : Type 0 where
-  pub long : length marks ≡ node_count n.graph
-  pub each : (v : ℕ) → v < node_count n.graph → IsTrue (has marks v) ↔ IsOnRepairWay n case x v
+-- the nodes found so far are on the walks; the affected destinations with a walk are among them, and so are the nodes
+-- before each of them that isn't pending
+pub record AreFound (n : Net) (case : Case) (x : List Bool) (cells : List ℕ) (found pending : NodeBits) : Type 0 where
+  pub inside : (v : ℕ) → is_in pending v ≡ true → is_in found v ≡ true
+  pub sound : (v : ℕ) → is_in found v ≡ true → IsOnRepairWay n case x v
+  pub ends : (d : ℕ) → IsAffected n case d → slice_index cells d < FAR → is_in found d ≡ true
+  pub closed : (v u : ℕ) → is_in found v ≡ true → is_in pending v ≡ false
+      → IsOneBefore n.graph x (source_of n.graph case) cells v u → is_in found u ≡ true
 
--- the tests tell the nodes on the shortest walks without the failed links of the case from the source to the affected
+-- the set has the nodes on the shortest walks without the failed links of the case from the source to the affected
 -- destinations
-pub record AreWalks (n : Net) (case : Case) (tests : List Bool) : Type 0 where
-  pub marks : (x : List Bool) → IsFailedSet n.graph case x → AreWayMarks n case x tests
+pub record AreWalks (n : Net) (case : Case) (set : NodeBits) : Type 0 where
+  pub marks : (x : List Bool) → IsFailedSet n.graph case x → (v : ℕ) → IsTrue (is_in set v) ↔ IsOnRepairWay n case x v

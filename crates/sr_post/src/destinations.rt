@@ -1,15 +1,18 @@
 //! The destinations that a failure affects.
-ghost use Rattle.std.specs.Prelude.{◌≡◌, ◌≢◌, ◌<◌, ◌↔◌, [], IsTrue, IfOk};
+ghost use Rattle.std.specs.Prelude.{◌≡◌, ◌≢◌, ℕ, ◌<◌, ◌↔◌, true, is_some, IsTrue, IfOk};
+ghost use Rattle.sr_lanes.specs.Bits.{is_in};
 ghost use Rattle.sr_model.specs.declared.case.Kind.TheVariants.{Node as NodeKind};
-ghost use Rattle.sr_model.specs.Graph.{node_count, link_count, tail, head};
-ghost use Rattle.sr_model.specs.Walk.{IsRow, IsNextHop};
+ghost use Rattle.sr_model.specs.Graph.{node_count};
+ghost use Rattle.sr_model.specs.Label.{labels_at};
 ghost use Rattle.sr_model.specs.Case.{IsCase, IsOutside, IsAffected};
 ghost use Rattle.sr_spf.specs.Trees.{AreTrees};
 ghost use Rattle.sr_post.specs.Nodes.{AreAffected};
 
+use crate::listed::all_listed;
 use sr_graph::Graph;
 use sr_labels::Net;
-use sr_model::{Case, FAR, Kind, LinkNo, NodeNo};
+use sr_lanes::NodeBits;
+use sr_model::{Case, Kind, NodeNo};
 use sr_spf::Trees;
 use std::alloc::{AllocError, Global};
 
@@ -28,38 +31,13 @@ fn is_outside(graph: &Graph, case: Case, d: NodeNo) -> bool
     }
 }
 
-/// Whether the link is a next hop from its beginning to the node. `from` and `to` have the distances from its ends.
-fn is_next_hop(graph: &Graph, from: &[u64], to: &[u64], link: LinkNo, d: NodeNo) -> bool
-    requires link { link.0 < link_count graph.now }
-    requires from { IsRow graph.now [] (tail graph.now link.0) from.now }
-    requires to { IsRow graph.now [] (head graph.now link.0) to.now }
-    requires d { d.0 < node_count graph.now }
-    ensures { IsTrue result ↔ IsNextHop graph.now [] (tail graph.now link.0) d.0 link.0 }
-{
-    let edge = graph.edge(link);
-    let whole = from[d.0 as usize];
-    // Most links lead elsewhere.
-    if edge.metric as u64 + to[d.0 as usize] != whole {
-        return false;
-    }
-    if whole >= FAR {
-        return false;
-    }
-    graph.carries(d, edge.to)
-}
-
-/// Whether the destination is affected in the case. `from` and `to` have the distances from the ends of the protected link.
-fn is_affected(net: &Net, from: &[u64], to: &[u64], case: Case, d: NodeNo) -> bool
+/// Whether the destination has a node index, and isn't the source nor the end that fails as a whole.
+fn is_served(net: &Net, case: Case, d: NodeNo) -> bool
     requires case { IsCase net.now.graph case }
-    requires from { IsRow net.now.graph [] (tail net.now.graph case.link.0) from.now }
-    requires to { IsRow net.now.graph [] (head net.now.graph case.link.0) to.now }
     requires d { d.0 < node_count net.now.graph }
-    ensures { IsTrue result ↔ IsAffected net.now case d.0 }
+    ensures { IsTrue result ↔ ((is_some (labels_at net.now d.0).index ≡ true) × IsOutside net.now.graph case d.0) }
 {
-    let graph = net.graph();
-    is_next_hop(graph, from, to, case.link, d)
-        && net.labels(d).index().is_some()
-        && is_outside(graph, case, d)
+    net.labels(d).index().is_some() && is_outside(net.graph(), case, d)
 }
 
 /// Whether the destination is affected in the case: it has a node index, isn't the source nor a node that fails, and the
@@ -70,8 +48,25 @@ pub fn affected(net: &Net, trees: &Trees, case: Case, d: NodeNo) -> bool
     requires d { d.0 < node_count net.now.graph }
     ensures { IsTrue result ↔ IsAffected net.now case d.0 }
 {
-    let edge = net.graph().edge(case.link);
-    is_affected(net, trees.cells(edge.from), trees.cells(edge.to), case, d)
+    let _graph = net.graph();
+    trees.carried(case.link).has(d.0 as usize) && is_served(net, case, d)
+}
+
+/// The destinations that are affected in the case: of the nodes towards which the protected link is a next hop, those that
+/// have a node index and aren't the source nor a node that fails (this project's rule).
+pub fn affected_set(net: &Net, trees: &Trees, case: Case) -> NodeBits
+    requires trees { AreTrees net.now.graph trees.now }
+    requires case { IsCase net.now.graph case }
+    ensures { (v : ℕ) → IsTrue (is_in result v) ↔ IsAffected net.now case v }
+{
+    let mut left = trees.carried(case.link);
+    let mut found = NodeBits::none();
+    'left: while let Some(node) = left.take_first() {
+        if is_served(net, case, NodeNo(node as u16)) {
+            found = found.with(node);
+        }
+    }
+    found
 }
 
 /// The destinations that are affected in the case, ascending.
@@ -85,21 +80,5 @@ pub fn affected_nodes(
     requires case { IsCase net.now.graph case }
     ensures { IfOk result (λ nodes. AreAffected net.now case (node_count net.now.graph) nodes.items) }
 {
-    let graph = net.graph();
-    let edge = graph.edge(case.link);
-    let from = trees.cells(edge.from);
-    let to = trees.cells(edge.to);
-    let count = graph.node_count();
-    let mut nodes = Vec::with_capacity(alloc, count as usize)?;
-    for v in 0..count as u16 {
-        // Most nodes lie elsewhere, which the sum alone tells.
-        if edge.metric as u64 + to[v as usize] != from[v as usize] {
-            continue;
-        }
-        if !is_affected(net, from, to, case, NodeNo(v)) {
-            continue;
-        }
-        nodes.push(NodeNo(v))?;
-    }
-    Ok(nodes)
+    all_listed(alloc, affected_set(net, trees, case))
 }

@@ -1,16 +1,15 @@
 //! What a case leaves, in two steps: what is known before its search, and the search.
-ghost use Rattle.std.specs.Prelude.{◌≡◌, ◌≢◌, ◌↔◌, ◌+◌, ◌≤◌, IsTrue, IfOk, OnOk};
-ghost use Rattle.sr_model.specs.declared.case.Kind.TheVariants.{Node as NodeKind};
+ghost use Rattle.std.specs.Prelude.{◌≡◌, ◌+◌, ◌≤◌, IfOk, OnOk};
 ghost use Rattle.sr_model.specs.Case.{IsCase};
 ghost use Rattle.sr_spf.specs.Trees.{AreTrees};
 ghost use Rattle.sr_post.specs.Post.{IsPost, IsBeginning};
 
 use crate::kept::{Known, known_distances};
 use crate::left::Post;
-use crate::spaces::spaces_of;
+use crate::spaces::{doubtful_of, spaces_of};
 use sr_graph::LinkSet;
 use sr_labels::Net;
-use sr_model::{Case, Kind, LinkNo, NodeNo};
+use sr_model::{Case, LinkNo, NodeNo};
 use sr_seq::Seq;
 use sr_spf::{Steps, Trees, row_after};
 use std::alloc::{AllocError, Global};
@@ -62,16 +61,6 @@ impl Begun {
     }
 }
 
-/// Whether each link that fails lies at the source: so it is unless a node fails.
-fn fails_at_source(kind: Kind) -> bool
-    ensures { IsTrue result ↔ (kind ≢ NodeKind) }
-{
-    match kind {
-        Kind::Node => false,
-        Kind::Link | Kind::Risk => true,
-    }
-}
-
 /// What is known of the case before its search.
 fn begin(alloc: Global, net: &Net, trees: &Trees, case: Case) -> Result<Begun, AllocError>
     requires trees { AreTrees net.now.graph trees.now }
@@ -85,7 +74,7 @@ fn begin(alloc: Global, net: &Net, trees: &Trees, case: Case) -> Result<Begun, A
         alloc,
         &spaces_of(graph, trees, &failed, case),
         trees,
-        fails_at_source(case.kind),
+        doubtful_of(graph, trees, case),
         start,
     )?;
     Ok(Begun {

@@ -7,14 +7,12 @@ mod destinations;
 mod failure;
 mod kept;
 mod left;
+mod listed;
 mod marks;
-mod on_walks;
-mod order;
 mod spaces;
 
-pub use destinations::{affected, affected_nodes};
+pub use destinations::{affected, affected_nodes, affected_set};
 pub use failure::post;
 pub use left::Post;
 pub use marks::{walks, walks_along};
-pub use on_walks::Walks;
 pub use spaces::spaces_of;

@@ -1,125 +1,84 @@
 //! The nodes on the shortest walks to the affected destinations.
-ghost use Rattle.std.specs.Prelude.{◌≡◌, ◌<◌, ◌↔◌, length, slice_index, IsTrue, IfOk};
-ghost use Rattle.sr_model.specs.declared.link.TheConstants.{FAR as Far};
-ghost use Rattle.sr_model.specs.Graph.{node_count};
+ghost use Rattle.std.specs.Prelude.{◌≡◌, ◌↔◌, ℕ, ◌<◌, IsTrue};
+ghost use Rattle.sr_model.specs.Graph.{node_count, link_count};
 ghost use Rattle.sr_model.specs.Walk.{IsRow};
 ghost use Rattle.sr_model.specs.Case.{IsCase, IsFailedSet, source_of};
+ghost use Rattle.sr_lanes.specs.Bits.{is_in};
 ghost use Rattle.sr_spf.specs.Trees.{AreTrees};
-ghost use Rattle.sr_post.specs.Marks.{AreWayMarks, AreWalks, LeadsOn, IsWayMarked};
+ghost use Rattle.sr_post.specs.Marks.{AreWalks, IsOneBefore, LeadsAlong};
 ghost use Rattle.sr_post.specs.Post.{IsPost};
 
-use crate::destinations::affected;
+use crate::destinations::affected_set;
 use crate::left::Post;
-use crate::on_walks::Walks;
-use crate::order::by_distance;
-use sr_graph::{Graph, LinkRange, LinkSet};
+use sr_graph::{Graph, LinkSet};
 use sr_labels::Net;
-use sr_model::{Case, FAR, LinkNo, NodeNo};
+use sr_lanes::{NodeBits, finite};
+use sr_model::{Case, LinkNo, NodeNo};
 use sr_spf::Trees;
-use std::alloc::{AllocError, Global};
 
-/// Whether a link from the node, outside the failed ones, leads along the row to a marked node.
-fn leads_on(graph: &Graph, x: &LinkSet, cells: &[u64], marks: &[bool], v: NodeNo) -> bool
-    requires v { v.0 < node_count graph.now }
-    requires near { slice_index cells.now v.0 < Far }
-    requires cells { length cells.now ≡ node_count graph.now }
-    requires marks { length marks.now ≡ node_count graph.now }
-    ensures { IsTrue result ↔ LeadsOn graph.now x.now cells.now marks.now v.0 }
+/// Whether the link is outside the failed ones and leads along the row, and a walk from the source may go on by it.
+fn leads_along(graph: &Graph, x: &LinkSet, source: NodeNo, cells: &[u64], link: LinkNo) -> bool
+    requires row { IsRow graph.now x.now source.0 cells.now }
+    requires link { link.0 < link_count graph.now }
+    ensures { IsTrue result ↔ LeadsAlong graph.now x.now source.0 cells.now link.0 }
 {
-    let LinkRange { first, end } = graph.links_from(v);
-    let here = cells[v.0 as usize];
-    for i in first..end {
-        let edge = graph.edge(LinkNo(i));
-        let to = edge.to.0 as usize;
-        if marks[to] && here + edge.metric as u64 == cells[to] && !x.has(LinkNo(i)) {
-            return true;
+    let edge = graph.edge(link);
+    // Most links lead elsewhere.
+    cells[edge.from.0 as usize] + edge.metric as u64 == cells[edge.to.0 as usize]
+        && graph.carries(source, edge.from)
+        && !x.has(link)
+}
+
+/// The nodes from which such a link leads to the node.
+fn nodes_before(graph: &Graph, x: &LinkSet, source: NodeNo, cells: &[u64], v: NodeNo) -> NodeBits
+    requires row { IsRow graph.now x.now source.0 cells.now }
+    requires v { v.0 < node_count graph.now }
+    ensures { (u : ℕ) → IsTrue (is_in result u) ↔ IsOneBefore graph.now x.now source.0 cells.now v.0 u }
+{
+    let mut set = NodeBits::none();
+    let links = graph.links_to(v);
+    for i in 0..links.len() {
+        if leads_along(graph, x, source, cells, links[i]) {
+            set = set.with(graph.edge(links[i]).from.0 as usize);
         }
     }
-    false
-}
-
-/// Whether the node is an affected destination with a walk, or a walk may go on from it to a marked node.
-fn is_marked(
-    net: &Net,
-    trees: &Trees,
-    case: Case,
-    x: &LinkSet,
-    cells: &[u64],
-    marks: &[bool],
-    v: NodeNo,
-) -> bool
-    requires trees { AreTrees net.now.graph trees.now }
-    requires case { IsCase net.now.graph case }
-    requires v { v.0 < node_count net.now.graph }
-    requires long { (length cells.now ≡ node_count net.now.graph) × (length marks.now ≡ node_count net.now.graph) }
-    ensures { IsTrue result ↔ IsWayMarked net.now case x.now cells.now marks.now v.0 }
-{
-    if cells[v.0 as usize] >= FAR {
-        return false;
-    }
-    if affected(net, trees, case, v) {
-        return true;
-    }
-    let graph = net.graph();
-    graph.carries(graph.edge(case.link).from, v) && leads_on(graph, x, cells, marks, v)
-}
-
-/// The nodes on the shortest walks without the failed links from the source to the affected destinations.
-fn marks_of(
-    alloc: Global,
-    net: &Net,
-    trees: &Trees,
-    case: Case,
-    x: &LinkSet,
-    cells: &[u64],
-) -> Result<Vec<bool>, AllocError>
-    requires trees { AreTrees net.now.graph trees.now }
-    requires case { IsCase net.now.graph case }
-    requires row { IsRow net.now.graph x.now (source_of net.now.graph case) cells.now }
-    ensures { IfOk result (λ marks. AreWayMarks net.now case x.now marks.items) }
-{
-    let order = by_distance(alloc, cells)?;
-    let mut marks = vec![in alloc; false; cells.len()]?;
-    // The farthest node comes first: a walk leads on to farther ones only.
-    for i in 0..order.len() {
-        let v = order[order.len() - 1 - i].node;
-        marks[v.0 as usize] = is_marked(net, trees, case, x, cells, &marks, v);
-    }
-    Ok(marks)
+    set
 }
 
 /// The nodes on the shortest walks of the case, from the links that fail in it and the distances from its source without
-/// them.
+/// them. Walks are followed back from the destinations: `pending` are those of the nodes found from which none has been.
 pub fn walks_along(
-    alloc: Global,
     net: &Net,
     trees: &Trees,
     case: Case,
     failed: &LinkSet,
     cells: &[u64],
-) -> Result<Walks, AllocError>
+) -> NodeBits
     requires trees { AreTrees net.now.graph trees.now }
     requires case { IsCase net.now.graph case }
     requires failed { IsFailedSet net.now.graph case failed.now }
     requires row { IsRow net.now.graph failed.now (source_of net.now.graph case) cells.now }
-    ensures { IfOk result (AreWalks net.now case) }
+    ensures { AreWalks net.now case result }
 {
-    let marks = marks_of(alloc, net, trees, case, failed, cells)?;
-    Ok(Walks::new(marks))
+    let graph = net.graph();
+    let source = graph.edge(case.link).from;
+    let mut found = affected_set(net, trees, case).and(finite(cells));
+    let mut pending = found;
+    'pending: while let Some(v) = pending.take_first() {
+        let before = nodes_before(graph, failed, source, cells, NodeNo(v as u16));
+        let more = before.and_not(found);
+        found = found.or(more);
+        pending = pending.or(more);
+    }
+    found
 }
 
 /// The nodes on the shortest walks of the case, from what it leaves.
-pub fn walks(
-    alloc: Global,
-    net: &Net,
-    trees: &Trees,
-    post: &Post,
-    case: Case,
-) -> Result<Walks, AllocError>
+pub fn walks(net: &Net, trees: &Trees, post: &Post, case: Case) -> NodeBits
     requires trees { AreTrees net.now.graph trees.now }
     requires case { IsCase net.now.graph case }
     requires post { IsPost net.now case post.now }
-    ensures { IfOk result (AreWalks net.now case) }
+    ensures { AreWalks net.now case result }
 {
-    walks_along(alloc, net, trees, case, post.failed(), post.cells())
+    walks_along(net, trees, case, post.failed(), post.cells())
 }

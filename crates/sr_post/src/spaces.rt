@@ -1,9 +1,11 @@
-//! The spaces of a case.
-ghost use Rattle.std.specs.Prelude.{◌≡◌};
-ghost use Rattle.sr_model.specs.Case.{IsCase, IsFailedSet};
+//! The spaces of a case, and the nodes of which they have to be asked.
+ghost use Rattle.std.specs.Prelude.{◌≡◌, List, Bool};
+ghost use Rattle.sr_model.specs.Case.{IsCase, IsFailedSet, source_of};
 ghost use Rattle.sr_spf.specs.Trees.{AreTrees};
+ghost use Rattle.sr_post.specs.Kept.{AreDoubtful};
 
 use sr_graph::{Graph, LinkSet};
+use sr_lanes::{NodeBits, tight};
 use sr_model::{Case, Kind};
 use sr_spaces::Spaces;
 use sr_spf::Trees;
@@ -23,5 +25,25 @@ pub fn spaces_of<'a>(
     match case.kind {
         Kind::Node => Spaces::around(graph, trees, failed, graph.edge(case.link).to),
         Kind::Link | Kind::Risk => Spaces::over(graph, trees, failed),
+    }
+}
+
+/// The nodes towards which a failed link may stand behind a next hop of the source that hasn't failed. Where each failed
+/// link lies at the source there are none: no shortest walk comes back there. Where a node fails, they are those that have
+/// it on a shortest walk from the source.
+pub(crate) fn doubtful_of(graph: &Graph, trees: &Trees, case: Case) -> NodeBits
+    requires trees { AreTrees graph.now trees.now }
+    requires case { IsCase graph.now case }
+    ensures { (x : List Bool) → IsFailedSet graph.now case x
+        → AreDoubtful graph.now x (source_of graph.now case) result }
+{
+    let _count = graph.node_count();
+    let edge = graph.edge(case.link);
+    match case.kind {
+        Kind::Link | Kind::Risk => NodeBits::none(),
+        Kind::Node => {
+            let row = trees.cells(edge.from);
+            tight(row, row[edge.to.0 as usize], trees.cells(edge.to))
+        }
     }
 }

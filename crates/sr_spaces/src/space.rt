@@ -10,7 +10,7 @@ use sr_model::{LinkNo, NodeNo};
 use sr_spf::Trees;
 
 /// Whether the link stands on a shortest walk from u to v, where u reaches v. `row` has the distances from u.
-fn holds(graph: &Graph, trees: &Trees, row: &[u64], u: NodeNo, v: NodeNo, link: LinkNo) -> bool
+fn link_holds(graph: &Graph, trees: &Trees, row: &[u64], u: NodeNo, v: NodeNo, link: LinkNo) -> bool
     requires reached { IsReached graph.now trees.now row.now u.0 v.0 }
     ensures { IsTrue result ↔ OnShortest graph.now [] u.0 v.0 link.0 }
 {
@@ -45,7 +45,7 @@ pub(crate) fn avoids_links(
     ensures { IsTrue result ↔ InP graph.now x.now u.0 v.0 }
 {
     for link in x.links() {
-        if holds(graph, trees, row, u, v, *link) {
+        if link_holds(graph, trees, row, u, v, *link) {
             return false;
         }
     }

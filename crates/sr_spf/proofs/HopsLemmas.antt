@@ -44,16 +44,16 @@ test-from_hop g rows u v l graph r a b near hop =
 pub no_hop : (g : Graph) (rows : List (List ℕ)) (u v l : ℕ) → AreRows g rows (node_count g) → u < node_count g → v < node_count g → FAR ≤ cell_in rows u v → IsNextHop g [] u v l → ⊥
 no_hop g rows u v l r a b far hop = (is_cell g rows u v r a b).far far (l ∷ hop.more) hop.shortest.0
 
-get_left : {X : Type 0} (xs ys : List X) (i : ℕ) (x : X) → slice_get xs i ≡ Some x → slice_get (xs ++ ys) i ≡ Some x
+pub get_left : {X : Type 0} (xs ys : List X) (i : ℕ) (x : X) → slice_get xs i ≡ Some x → slice_get (xs ++ ys) i ≡ Some x
 get_left [] ys i x e = absurd {0} (cc)
 get_left (z ∷ xs) ys zero x e = e
 get_left (z ∷ xs) ys (suc i) x e = get_left xs ys i x e
 
-get_last : {X : Type 0} (xs : List X) (y : X) → slice_get (xs ++ y ∷ []) (length xs) ≡ Some y
+pub get_last : {X : Type 0} (xs : List X) (y : X) → slice_get (xs ++ y ∷ []) (length xs) ≡ Some y
 get_last [] y = refl
 get_last (z ∷ xs) y = get_last xs y
 
-get_push : {X : Type 0} (xs : List X) (y : X) (i : ℕ) (x : X) → slice_get (xs ++ y ∷ []) i ≡ Some x → (slice_get xs i ≡ Some x) ⊎ ((i ≡ length xs) × (y ≡ x))
+pub get_push : {X : Type 0} (xs : List X) (y : X) (i : ℕ) (x : X) → slice_get (xs ++ y ∷ []) i ≡ Some x → (slice_get xs i ≡ Some x) ⊎ ((i ≡ length xs) × (y ≡ x))
 get_push [] y zero x e = inr (refl, cc)
 get_push [] y (suc i) x e = absurd {0} (cc)
 get_push (z ∷ xs) y zero x e = inl e

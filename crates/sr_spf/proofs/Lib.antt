@@ -6,3 +6,4 @@ pub mod TreesLemmas
 pub mod SharedLemmas
 pub mod RenewedLemmas
 pub mod HopsLemmas
+pub mod CarriedLemmas

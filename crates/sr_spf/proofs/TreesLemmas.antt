@@ -1,10 +1,12 @@
 -- The rows, and the lists of next hops, that come from the nodes in order.
 use Rattle.std.proofs.Common.{ℕ, List, [], ◌∷◌, map}
 use Rattle.std.specs.List.{AllZip, range_with_len}
-use Rattle.sr_model.specs.Graph.{Graph, node_count, IsGraph}
+use Rattle.sr_model.specs.Graph.{Graph, node_count, link_count, IsGraph}
 use Rattle.sr_model.specs.Walk.{IsRow}
 use Rattle.sr_spf.specs.declared.rows.Counted.{Counted}
 use Rattle.sr_spf.specs.Rows.{rows_in}
+use Rattle.sr_lanes.specs.declared.words.NodeBits.{NodeBits}
+use Rattle.sr_spf.specs.Carried.{AreCarried}
 use Rattle.sr_spf.specs.Trees.{AreRows, AreHopTables, AreTrees}
 use Rattle.sr_spf.specs.Hops.{HopLists, AreHopsFrom}
 use Rattle.sr_spf.proofs.OrderLemmas.{in_order}
@@ -28,10 +30,11 @@ hops-in_order g hops zip =
     let lists = in_order (AreHopsFrom g) (node_count g) hops (record { starts = []; links = [] }) zip in
     record { long = lists.0; each = lists.1 }
 
-pub trees-whole : (g : Graph) (rows : List (List ℕ)) (hops : List HopLists) → AreRows g rows (node_count g) → AreHopTables g hops (node_count g) → AreTrees g (record { rows = rows; hops = hops })
-trees-whole g rows hops r h = record {
+pub trees-whole : (g : Graph) (rows : List (List ℕ)) (hops : List HopLists) (carried : List NodeBits) → AreRows g rows (node_count g) → AreHopTables g hops (node_count g) → AreCarried g carried (link_count g) → AreTrees g (record { rows = rows; hops = hops; carried = carried })
+trees-whole g rows hops carried r h s = record {
   graph = r.graph;
   long = r.long;
   rows = r.each;
   hops = λ u v a b. (h.each u a).each v b;
+  carried = s;
 }

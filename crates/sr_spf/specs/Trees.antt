@@ -2,8 +2,10 @@
 use Rattle.std.specs.Prelude.{◌≡◌, ℕ, ◌+◌, ◌<◌, ◌≤◌, nat_lt, if◌then◌else◌, List, [], length, Option, Some, None, slice_index, slice_index_or}
 use Rattle.sr_model.specs.declared.link.TheConstants.{FAR, MOST_NODES}
 use Rattle.sr_model.specs.declared.link.LinkNo.{LinkNo}
-use Rattle.sr_model.specs.Graph.{Graph, IsGraph, node_count}
+use Rattle.sr_lanes.specs.declared.words.NodeBits.{NodeBits}
+use Rattle.sr_model.specs.Graph.{Graph, IsGraph, node_count, link_count}
 use Rattle.sr_model.specs.Walk.{IsRow}
+use Rattle.sr_spf.specs.Carried.{AreCarried}
 use Rattle.sr_spf.specs.Hops.{AreNextHops, AreHopsFrom, HopLists, hops_to}
 
 -- the distances from node u
@@ -25,10 +27,12 @@ pub record AreHopTables (g : Graph) (hops : List HopLists) (n : ℕ) : Type 0 wh
   pub long : length hops ≡ n
   pub each : (u : ℕ) → u < n → AreHopsFrom g u (lists_at hops u)
 
--- the distances and the next hops from each node, by number
+-- the distances and the next hops from each node, by number, and for each link the nodes towards which it is a next
+-- hop
 pub record Forest : Type 0 where
   pub rows : List (List ℕ)
   pub hops : List HopLists
+  pub carried : List NodeBits
 
 -- how many nodes there are
 abbrev pub tree_count : Forest → ℕ
@@ -60,6 +64,7 @@ pub record AreTrees (g : Graph) (t : Forest) : Type 0 where
   pub long : tree_count t ≡ node_count g
   pub rows : (u : ℕ) → u < node_count g → IsRow g [] u (row_at t.rows u)
   pub hops : (u v : ℕ) → u < node_count g → v < node_count g → AreNextHops g u v (hops_at t u v)
+  pub carried : AreCarried g t.carried (link_count g)
 
 -- a cell as a distance, if there is one
 abbrev pub distance_of : ℕ → Option ℕ

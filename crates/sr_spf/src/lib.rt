@@ -3,6 +3,7 @@
 #![tactic(auto)]
 
 mod begun;
+mod carried;
 mod dijkstra;
 mod hops;
 mod renewed;

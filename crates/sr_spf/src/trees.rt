@@ -1,18 +1,21 @@
 //! Distances and next hops from each node in the whole graph.
-ghost use Rattle.std.specs.Prelude.{◌≡◌, ◌+◌, ◌<◌, ◌≤◌, [], length, IfOk, OnOk};
+ghost use Rattle.std.specs.Prelude.{◌≡◌, ◌+◌, ◌<◌, ◌≤◌, [], length, Some, slice_get, IfOk, OnOk};
 ghost use Rattle.sr_model.specs.Graph.{Graph as Topology, node_count};
 ghost use Rattle.sr_model.specs.Walk.{Distance};
 ghost use Rattle.sr_model.specs.declared.link.TheConstants.{MOST_NODES as MostNodes};
+ghost use Rattle.sr_spf.specs.Carried.{IsCarried};
 ghost use Rattle.sr_spf.specs.Hops.{AreNextHops, AreHopsFrom};
 ghost use Rattle.sr_spf.specs.Trees.{AreTrees, AreRows, AreHopTables, row_at, cell_at, hops_at, lists_at, tree_count, distance_of};
 ghost use Rattle.sr_spf.specs.Renewed.{AreRenewable, fallen};
 
+use crate::carried::carried_of_all;
 use crate::hops::{HopTable, hops_of};
 use crate::renewed::{are_in_place, kept_tables, moved_tables, renewed_rows};
 use crate::rows::rows_of;
 use crate::shared::Shared;
 use crate::steps::Steps;
 use sr_graph::Graph;
+use sr_lanes::NodeBits;
 use sr_model::{FAR, LinkNo, NodeNo};
 use sr_seq::Seq;
 use sr_threads::{Share, made_of_each};
@@ -33,6 +36,8 @@ pub struct Trees {
     /// For each node the distance to each node, by number; `FAR` where there is no walk.
     rows: Shared<Seq<u64>>,
     hops: Shared<HopTable>,
+    /// For each link, by number, the nodes towards which it is a next hop from where it begins.
+    carried: Vec<NodeBits>,
 }
 
 impl Model for Trees {
@@ -40,9 +45,9 @@ impl Model for Trees {
 
     ghost Value = { Forest };
 
-    ghost view = { λ a. record { rows = a.rows; hops = a.hops } };
+    ghost view = { λ a. record { rows = a.rows; hops = a.hops; carried = a.carried.items } };
 
-    ghost invariant = { λ a. IsWholeForest (record { rows = a.rows; hops = a.hops }) };
+    ghost invariant = { λ a. IsWholeForest (record { rows = a.rows; hops = a.hops; carried = a.carried.items }) };
 }
 
 /// The next hops from each node, in threads where there are any.
@@ -80,7 +85,12 @@ impl Trees {
     {
         let rows = rows_of(rt, alloc, graph, steps)?;
         let hops = hops_of_all(rt, alloc, graph, &rows)?;
-        Ok(Trees { rows, hops })
+        let carried = carried_of_all(alloc, graph, &rows)?;
+        Ok(Trees {
+            rows,
+            hops,
+            carried,
+        })
     }
 
     /// The distances and next hops from each node of a new graph. The marked trees stay, and share what stays; `links` has
@@ -107,7 +117,12 @@ impl Trees {
         } else {
             moved_tables(rt, alloc, graph, &rows, &self.hops, stays, links)?
         };
-        Ok(Trees { rows, hops })
+        let carried = carried_of_all(alloc, graph, &rows)?;
+        Ok(Trees {
+            rows,
+            hops,
+            carried,
+        })
     }
 
     /// How many nodes there are.
@@ -156,5 +171,14 @@ impl Trees {
         ensures hops { (g : Topology) → AreTrees g self.now → AreNextHops g from.0 to.0 result.now }
     {
         self.table(from).towards(to)
+    }
+
+    /// The nodes towards which the link is a next hop from where it begins.
+    pub fn carried(&self, link: LinkNo) -> NodeBits
+        requires { link.0 < length self.now.carried }
+        ensures set { slice_get self.now.carried link.0 ≡ Some result }
+        ensures nodes { (g : Topology) → AreTrees g self.now → IsCarried g link.0 result }
+    {
+        self.carried[link.0 as usize]
     }
 }

@@ -1,14 +1,9 @@
-use Rattle.std.proofs.Common.{◌≡◌, ap, ◌∙◌, subst}
-use Rattle.sr_model.specs.Graph.{tail}
 use Rattle.sr_model.specs.Case.{IsFailedSet, source_of}
-use Rattle.sr_post.specs.Kept.{LieAt}
-use Rattle.sr_post.proofs.SourceLemmas.{lie-at-source}
+use Rattle.sr_post.specs.Kept.{AreDoubtful}
 use Rattle.sr_post.proofs.failure.begin.Goals as goal
 
-pub known_distances-requires-clause-at_source : goal.known_distances-requires-clause-at_source
-known_distances-requires-clause-at_source c = λ yes.
-    let net = c.graph-graph.ensures.net in
-    let set : IsFailedSet c.args.net.now.graph c.args.case c.in_ok-failed.failed = subst (λ g. IsFailedSet g c.args.case c.in_ok-failed.failed) c.graph-graph.ensures.value c.in_ok-failed.ensures in
-    let lie : LieAt c.args.net.now.graph c.in_ok-failed.failed (source_of c.args.net.now.graph c.args.case) = lie-at-source c.args.net.now.graph net.graph net.named c.args.case c.requires.case c.in_ok-failed.failed set (c.fails_at_source.ensures.0 yes) in
-    let from : c.edge.result.from.0 ≡ source_of c.args.net.now.graph c.args.case = c.edge.ensures.from ∙ ap (λ g. tail g c.args.case.link.0) c.graph-graph.ensures.value in
-    rw (c.spaces_of.ensures, c.graph-graph.ensures.value, from) lie
+pub known_distances-requires-clause-doubtful : goal.known_distances-requires-clause-doubtful
+known_distances-requires-clause-doubtful c =
+    let set : IsFailedSet c.graph-graph.result.now c.args.case c.in_ok-failed.failed = c.in_ok-failed.ensures in
+    let doubt : AreDoubtful c.graph-graph.result.now c.in_ok-failed.failed (source_of c.graph-graph.result.now c.args.case) c.doubtful_of.result = c.doubtful_of.ensures c.in_ok-failed.failed set in
+    rw (c.spaces_of.ensures, c.edge.ensures.from) doubt

@@ -2,10 +2,10 @@ use Rattle.std.proofs.Common.{arith}
 use Rattle.sr_spaces.proofs.SpaceLemmas.{member-InP, InP-members}
 use Rattle.sr_spaces.proofs.space.avoids_links.Goals as goal
 
-pub returns-then-holds : goal.returns-then-holds
-returns-then-holds c = (
+pub returns-then-link_holds : goal.returns-then-link_holds
+returns-then-link_holds c = (
   λ no. absurd (cc),
-  λ inside. absurd (member-InP c.args.graph.now c.args.x.now c.links-link-items.result.now c.args.u.0 c.args.v.0 c.loop-link.link-index c.links-link-items.ensures c.loop-link-test.true (c.holds.ensures.0 c.if-holds.true) inside),
+  λ inside. absurd (member-InP c.args.graph.now c.args.x.now c.links-link-items.result.now c.args.u.0 c.args.v.0 c.loop-link.link-index c.links-link-items.ensures c.loop-link-test.true (c.link_holds.ensures.0 c.if-link_holds.true) inside),
 )
 
 pub returns : goal.returns

@@ -21,4 +21,4 @@ returns-clause-trees g c =
       | then-are_in_place+in_ok-hops w ↦ rw w.hops-is w.in_ok-hops.ensures
       | else-are_in_place+in_ok-hops-2 w ↦ rw w.hops-is w.in_ok-hops-2.ensures
     ] in
-    trees-whole _ _ _ c.in_ok-rows.ensures.rows hops
+    trees-whole _ _ _ _ c.in_ok-rows.ensures.rows hops c.in_ok-carried.ensures
