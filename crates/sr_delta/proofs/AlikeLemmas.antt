@@ -5,14 +5,14 @@ use Rattle.std.proofs.lemmas.Bool.{cases_eq, ne_eqb, lt-ltb}
 use Rattle.sr_lanes.specs.declared.words.NodeBits.{NodeBits}
 use Rattle.sr_lanes.specs.Bits.{is_in}
 use Rattle.sr_laws.proofs.Parts.{true_or}
-use Rattle.sr_delta.specs.Alike.{AreThose}
+use Rattle.sr_delta.specs.Alike.{IsSetOf}
 
 -- no node lies below 0
-pub those-none : (p : ℕ → Type 0) (set : NodeBits) → ((v : ℕ) → is_in set v ≡ false) → AreThose p 0 set
+pub those-none : (p : ℕ → Type 0) (set : NodeBits) → ((v : ℕ) → is_in set v ≡ false) → IsSetOf p 0 set
 those-none p set none = record { each = λ v lt. absurd (omega arith); above = λ v le. none v }
 
 -- one more node
-pub those-put : (p : ℕ → Type 0) (v : ℕ) (set after : NodeBits) (b : Bool) → AreThose p v set → ((u : ℕ) → is_in after u ≡ (if u == v then (is_in set u || b) else is_in set u)) → (b ≡ true) ↔ p v → AreThose p (v + 1) after
+pub those-put : (p : ℕ → Type 0) (v : ℕ) (set after : NodeBits) (b : Bool) → IsSetOf p v set → ((u : ℕ) → is_in after u ≡ (if u == v then (is_in set u || b) else is_in set u)) → (b ≡ true) ↔ p v → IsSetOf p (v + 1) after
 those-put p v set after b r put is =
     let other : (u : ℕ) → u ≢ v → is_in after u ≡ is_in set u =
     λ u ne. put u ∙ ap (λ t. if t then (is_in set u || b) else is_in set u) (ne_eqb u v ne) in

@@ -1,31 +1,32 @@
 -- A case stays exactly where all that is asked of it holds.
-use Rattle.std.proofs.Common.{◌≡◌, ℕ, ◌<◌, Bool, true, List, length, sym, ◌∙◌, subst}
-use Rattle.std.specs.Prelude.{IfOk, Result, Ok, Err}
+use Rattle.std.proofs.Common.{◌≡◌, ℕ, ◌<◌, ⊎_elim, Bool, List, true, false, length, ap, sym, ◌∙◌, subst}
+use Rattle.std.specs.Prelude.{◌&&◌, not}
+use Rattle.std.proofs.lemmas.Bool.{and_from, and_left, and_right, cases_Bool, true≢false}
 use Rattle.sr_model.specs.declared.link.LinkNo.{LinkNo}
 use Rattle.sr_model.specs.declared.case.Case.{Case}
-use Rattle.sr_model.specs.Graph.{IsNamed, node_count, has}
+use Rattle.sr_model.specs.Graph.{IsNamed, IsLink, link_at, node_count}
 use Rattle.sr_model.specs.Walk.{IsRow}
 use Rattle.sr_model.specs.Case.{IsFailedSet, IsOnRepairWay, source_of}
 use Rattle.sr_model.specs.Label.{Net}
-use Rattle.sr_model.specs.Stay.{HaveSameName, IsIdle, IsKeptCase, IsKeptNode, IsOfFailedPair, case_with}
+use Rattle.sr_model.specs.Stay.{HaveSameName, IsIdle, IsKeptCase, IsOfFailedPair, case_with}
 use Rattle.sr_walks.proofs.Rows.{row-one}
 use Rattle.sr_laws.proofs.Keys.{key-one}
 use Rattle.sr_laws.proofs.Parts.{link_is}
 use Rattle.sr_laws.proofs.Failures.{failed-one}
 use Rattle.sr_post.specs.Post.{Remains, IsPost}
-use Rattle.sr_post.specs.Marks.{AreWalks}
+use Rattle.sr_lanes.specs.declared.words.NodeBits.{NodeBits}
+use Rattle.sr_lanes.specs.Bits.{is_in}
+use Rattle.sr_walks.proofs.Walks.{walk-within}
+use Rattle.sr_delta.specs.declared.staying.Staying.{Staying}
+use Rattle.sr_delta.specs.Stayers.{AreStaying}
 use Rattle.sr_delta.specs.declared.change.Change.{Change}
+use Rattle.sr_delta.specs.Idle.{AreIdleOrFailed}
 use Rattle.sr_delta.specs.Changed.{IsChange, change_at}
 use Rattle.sr_delta.specs.Changes.{Differences, AreChanges}
 use Rattle.sr_delta.specs.Pairs.{HaveSameFailures}
 use Rattle.sr_delta.specs.Cases.{Computed, IsComputed, IsKeptHere, AreWalksKept}
 use Rattle.sr_delta.proofs.IdleLemmas.{idle-from_change, change-from_idle}
 use Rattle.sr_delta.proofs.FailureLemmas.{failed-exists, same-from_failures, failures-from_same, failing-from_failed, failed-from_failing}
-
--- what holds of a value gives what holds of it
-pub if_ok-as : {T E : Type 0} → (p q : T → Type 0) (r : Result T E) → ((x : T) → p x → q x) → IfOk r p → IfOk r q
-if_ok-as p q (Ok x) f h = f x h
-if_ok-as p q (Err e) f h = tt
 
 -- there is a distance for each node
 pub cells-long : (c : Computed) → IsComputed c → length c.cells ≡ node_count c.net.graph
@@ -59,21 +60,24 @@ kept-from_parts c m d link is changes same name here failures walks =
       way = λ w lt on. walks x.0 x.1 w lt on;
     }
 
+-- changed links are idle after the failure where the case stays
+pub idle-from_kept : (n m : Net) (case : Case) (cells : List ℕ) (d : Differences) → ((x : List Bool) → IsFailedSet n.graph case x → IsRow n.graph x (source_of n.graph case) cells) → AreChanges n m d → d.same ≡ true → IsKeptCase n m case → AreIdleOrFailed n.graph case cells d.links
+idle-from_kept n m case cells d rows changes same k i lt free =
+    let s : ℕ = source_of n.graph case in
+    let row : k.post ≡ cells = row-one n.graph k.x s k.post cells k.row (rows k.x k.failed) in
+    let a : Change = change_at d.links i in
+    let one : IsChange n.graph m.graph a = (changes.links same).each i lt in
+    let idle : IsIdle n.graph m.graph k.post a.key = k.idle a.key one.changed (λ of. free (failing-from_failed n.graph case k.x a.key k.failed of)) in
+    change-from_idle n.graph m.graph changes.old.named cells a one (subst (λ c. IsIdle n.graph m.graph c a.key) row idle)
+
 -- and the other way round
 pub here-from_kept : (c : Computed) (m : Net) (d : Differences) → IsComputed c → AreChanges c.net m d → d.same ≡ true → IsKeptCase c.net m c.case → IsKeptHere c m d.links
-here-from_kept c m d is changes same k =
-    let s : ℕ = source_of c.net.graph c.case in
-    let row : k.post ≡ c.cells = row-one c.net.graph k.x s k.post c.cells k.row (is.row k.x k.failed) in
-    record {
-      depth = k.depth;
-      tree = k.tree;
-      idle = λ n lt free.
-          let a : Change = change_at d.links n in
-          let one : IsChange c.net.graph m.graph a = (changes.links same).each n lt in
-          let idle : IsIdle c.net.graph m.graph k.post a.key = k.idle a.key one.changed (λ of. free (failing-from_failed c.net.graph c.case k.x a.key k.failed of)) in
-          change-from_idle c.net.graph m.graph changes.old.named c.cells a one (subst (λ cells. IsIdle c.net.graph m.graph cells a.key) row idle);
-      index = λ v lt led. k.index v lt led.0 led.1;
-    }
+here-from_kept c m d is changes same k = record {
+  depth = k.depth;
+  tree = k.tree;
+  idle = idle-from_kept c.net m c.case c.cells d is.row changes same k;
+  index = λ v lt led. k.index v lt led.0 led.1;
+}
 
 pub failures-from_kept : (n m : Net) (case : Case) → IsNamed m.graph → (link : LinkNo) → HaveSameName n.graph m.graph case.link.0 link.0 → IsKeptCase n m case → HaveSameFailures n.graph case m.graph (case_with case link)
 failures-from_kept n m case named link name k =
@@ -84,14 +88,30 @@ failures-from_kept n m case named link name k =
 pub walks-from_kept : (n m : Net) (case : Case) → IsKeptCase n m case → AreWalksKept n m case
 walks-from_kept n m case k = λ x failed w lt on. k.way w lt (subst (λ z. IsOnRepairWay n case z w) (failed-one n.graph case x k.x failed k.failed) on)
 
--- the nodes on the walks are the marked ones
-pub walks-from_marks : (n m : Net) (case : Case) (marks : List Bool) → AreWalks n case marks → ((w : ℕ) → w < node_count n.graph → has marks w ≡ true → IsKeptNode n m w) → AreWalksKept n m case
-walks-from_marks n m case marks are each = λ x failed w lt on. each w lt (((are.marks x failed).each w lt).1 on)
+-- where no node on the walks is missing from those that are kept, each of them is kept
+pub walks-from_none : (c : Computed) (m : Net) (s : Staying) (rest : NodeBits) → IsComputed c → AreStaying c.net m s
+    → ((v : ℕ) → is_in rest v ≡ (is_in c.walks v && not (is_in s.nodes v))) → ((v : ℕ) → is_in rest v ≡ false) → AreWalksKept c.net m c.case
+walks-from_none c m s rest is stay minus none x failed w lt on =
+    let there : is_in c.walks w ≡ true = (is.walks.marks x failed w).1 on in
+    (stay.nodes.each w lt).0 (⊎_elim
+    (λ yes'. yes')
+    (λ (out : is_in s.nodes w ≡ false). absurd (true≢false (sym (minus w ∙ and_from (is_in c.walks w) (not (is_in s.nodes w)) there (ap not out)) ∙ none w)))
+    (cases_Bool (is_in s.nodes w)))
 
-pub marks-from_walks : (n m : Net) (case : Case) (marks : List Bool) → AreWalks n case marks → AreWalksKept n m case → (w : ℕ) → w < node_count n.graph → has marks w ≡ true → IsKeptNode n m w
-marks-from_walks n m case marks are kept w lt given =
-    let x = failed-exists n.graph case in
-    kept x.0 x.1 w lt (((are.marks x.0 x.1).each w lt).0 given)
+-- and the other way round
+pub none-from_walks : (c : Computed) (m : Net) (s : Staying) (rest : NodeBits) → IsComputed c → AreStaying c.net m s
+    → ((v : ℕ) → is_in rest v ≡ (is_in c.walks v && not (is_in s.nodes v))) → AreWalksKept c.net m c.case → (v : ℕ) → is_in rest v ≡ false
+none-from_walks c m s rest is stay minus kept v =
+    ⊎_elim
+    (λ (there : is_in c.walks v ≡ true).
+    let x = failed-exists c.net.graph c.case in
+    let on : IsOnRepairWay c.net c.case x.0 v = (is.walks.marks x.0 x.1 v).0 there in
+    let ends : IsLink c.net.graph (link_at c.net.graph c.case.link.0) = is.trees.graph.each c.case.link.0 is.within in
+    let lt : v < node_count c.net.graph = walk-within c.net.graph x.0 (source_of c.net.graph c.case) on.2.before v is.trees.graph ends.0 on.2.to in
+    let one : is_in s.nodes v ≡ true = (stay.nodes.each v lt).1 (kept x.0 x.1 v lt on) in
+    minus v ∙ and_right (is_in c.walks v) (not (is_in s.nodes v)) (ap not one))
+    (λ (off : is_in c.walks v ≡ false). minus v ∙ and_left (is_in c.walks v) (not (is_in s.nodes v)) off)
+    (cases_Bool (is_in c.walks v))
 
 -- what a case leaves is told by any of its failed sets, which are one
 pub row-from_post : (n : Net) (case : Case) (p : Remains) → IsPost n case p → (x : List Bool) → IsFailedSet n.graph case x → IsRow n.graph x (source_of n.graph case) p.cells

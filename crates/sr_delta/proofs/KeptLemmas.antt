@@ -17,13 +17,8 @@ use Rattle.sr_spf.specs.Hops.{AreNextHops}
 use Rattle.sr_spf.specs.Trees.{Forest, AreTrees, hops_at}
 use Rattle.sr_spf.specs.Renewed.{moved_link, moved_links, AreRenewable}
 use Rattle.sr_delta.specs.Partners.{IsPartner, partner_at, ArePartners}
-use Rattle.sr_delta.specs.KeptTrees.{AreKeptBelow, AreKeptTrees}
-
--- what stands in a list whose items were changed
-got_back : {X Y : Type 0} (f : X → Y) (xs : List X) (i : ℕ) (y : Y) → slice_get (map f xs) i ≡ Some y → (x : X) × (slice_get xs i ≡ Some x) × (f x ≡ y)
-got_back f [] i y e = absurd {0} (cc)
-got_back f (x ∷ xs) zero y e = (x, refl, cc)
-got_back f (x ∷ xs) (suc i) y e = got_back f xs i y e
+use Rattle.sr_delta.specs.KeptTrees.{AreTreesKeptBelow, AreKeptTrees}
+use Rattle.sr_laws.proofs.Places.{map-from}
 
 got_there : {X Y : Type 0} (f : X → Y) (xs : List X) (i : ℕ) (x : X) → slice_get xs i ≡ Some x → slice_get (map f xs) i ≡ Some (f x)
 got_there f [] i x e = absurd {0} (cc)
@@ -68,13 +63,13 @@ module _ (g h : Graph) (links : List (Option LinkNo)) (are : AreMatched g h link
   pub hops-moved : (list : List LinkNo) → AreNextHops g u v list → AreNextHops h u v (moved_links links list)
   hops-moved list r = record {
     each = λ i l e.
-        let was = got_back (moved_link links) list i l e in
+        let was = map-from (moved_link links) list i l e in
         let hop : IsNextHop g [] u v was.0.0 = r.each i was.0 was.1 in
         let P : LinkNo → Type 0 = λ k. IsNextHop h [] u v k.0 in
         subst P was.2 ((hops-same g h are.old are.named are.new are.named' u v was.0.0 (moved_link links was.0).0 from to kept (hop_named was.0 hop)).0 hop);
     ascending = λ i j k l lt e f.
-        let a = got_back (moved_link links) list i k e in
-        let b = got_back (moved_link links) list j l f in
+        let a = map-from (moved_link links) list i k e in
+        let b = map-from (moved_link links) list j l f in
         let up : a.0.0 < b.0.0 = r.ascending i j a.0 b.0 lt a.1 b.1 in
         let P : LinkNo → LinkNo → Type 0 = λ x y. x.0 < y.0 in
         subst (λ x. P x l) a.2 (subst (λ y. P (moved_link links a.0) y) b.2 (name_up g h are.named are.named' a.0.0 b.0.0 (moved_link links a.0).0 (moved_link links b.0).0 (hop_named a.0 (r.each i a.0 a.1)) (hop_named b.0 (r.each j b.0 b.1)) up));
@@ -103,11 +98,11 @@ kept-renewable n m t links marks are nodes trees kept = record {
 }
 
 -- no mark of no node
-pub kept-none : (n m : Net) → AreKeptBelow n m 0 []
+pub kept-none : (n m : Net) → AreTreesKeptBelow n m 0 []
 kept-none n m = record { long = refl; each = λ u lt. absurd (omega arith) }
 
 -- one mark more
-pub kept-push : (n m : Net) (count : ℕ) (marks : List Bool) (mark : Bool) → AreKeptBelow n m count marks → (mark ≡ true) ↔ IsKeptTree n.graph m.graph count → AreKeptBelow n m (count + 1) (marks ++ mark ∷ [])
+pub kept-push : (n m : Net) (count : ℕ) (marks : List Bool) (mark : Bool) → AreTreesKeptBelow n m count marks → (mark ≡ true) ↔ IsKeptTree n.graph m.graph count → AreTreesKeptBelow n m (count + 1) (marks ++ mark ∷ [])
 kept-push n m count marks mark r is = record {
   long = omega (arith, length_push marks mark, r.long);
   each = λ u lt. ⊎_elim

@@ -6,3 +6,6 @@ pub mod PairLemmas
 pub mod FailureLemmas
 pub mod CaseLemmas
 pub mod KeptLemmas
+pub mod StayingLemmas
+pub mod MovedLemmas
+pub mod SteadyLemmas

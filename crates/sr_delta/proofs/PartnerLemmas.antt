@@ -35,7 +35,7 @@ none-has g named key at below first other k within is =
     (cases_eq k at))
     (cases_lt k at)
 
--- what is found by the key is the partner
+-- the link found by the key is the partner
 pub partner-found : (g h : Graph) (l : ℕ) → l < link_count g → (p : Option LinkNo) → IfSome p (λ (k : LinkNo). (k.0 < link_count h) × (key_at h k.0 ≡ key_at g l)) → IfNone p ((k : ℕ) → k < link_count h → key_at h k ≢ key_at g l) → IsPartner g h l p
 partner-found g h l within None found none = λ k is. none k is.1 is.2
 partner-found g h l within (Some k) found none = (within, found.0, found.1)

@@ -24,7 +24,7 @@ abbrev pub IsIndexedAlike : Net → Net → ℕ → Type 0
 IsIndexedAlike n m v = is_some (labels_at n v).index ≡ is_some (labels_at m v).index
 
 -- the set has just those nodes below this number for which the test holds
-pub record AreThose (test : ℕ → Type 0) (count : ℕ) (set : NodeBits) : Type 0 where
+pub record IsSetOf (test : ℕ → Type 0) (count : ℕ) (set : NodeBits) : Type 0 where
   pub each : (v : ℕ) → v < count → (is_in set v ≡ true) ↔ test v
   pub above : (v : ℕ) → count ≤ v → is_in set v ≡ false
 
@@ -38,7 +38,7 @@ pub record Likeness : Type 0 where
 
 -- these are told of the nodes below this number
 pub record AreAlike (n m : Net) (count : ℕ) (a : Likeness) : Type 0 where
-  pub labels : AreThose (HasSameLabels n m) count a.labels
-  pub indexed : AreThose (IsIndexedAlike n m) count a.indexed
-  pub depths : AreThose (HasSameDepth n m) count a.depths
-  pub pairs : AreThose (HaveSamePairsAt n.graph m.graph) count a.pairs
+  pub labels : IsSetOf (HasSameLabels n m) count a.labels
+  pub indexed : IsSetOf (IsIndexedAlike n m) count a.indexed
+  pub depths : IsSetOf (HasSameDepth n m) count a.depths
+  pub pairs : IsSetOf (HaveSamePairsAt n.graph m.graph) count a.pairs

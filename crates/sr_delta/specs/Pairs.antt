@@ -9,7 +9,8 @@ use Rattle.sr_delta.specs.declared.change.Change.{Change}
 
 -- the key is of the pair of a link that fails in the case
 abbrev pub IsOfFailingPair : Graph → Case → LinkKey → Type 0
-IsOfFailingPair g case key = (l : ℕ) × (l < link_count g) × FailsWith g case.kind case.link.0 l × IsSamePair (key_at g l) key
+IsOfFailingPair g case key = (l : ℕ) × (l < link_count g) × FailsWith g case.kind case.link.0 l
+    × IsSamePair (key_at g l) key
 
 -- each link of g that fails in its case is of the pair of a link of h that fails in the other
 abbrev pub HavePairsIn : Graph → Case → Graph → Case → Type 0

@@ -1,11 +1,11 @@
 //! Whether a case stays.
-ghost use Rattle.std.specs.Prelude.{◌≡◌, ◌↔◌, ◌<◌, true, length, IsTrue, IfOk};
+ghost use Rattle.std.specs.Prelude.{◌≡◌, ◌↔◌, ◌<◌, true, IsTrue};
 ghost use Rattle.sr_model.specs.Graph.{node_count, link_count};
 ghost use Rattle.sr_model.specs.Label.{Net as Labelled};
 ghost use Rattle.sr_model.specs.Stay.{HaveSameName, IsKeptCase, case_with};
 ghost use Rattle.sr_delta.specs.Changes.{AreChanges};
-ghost use Rattle.sr_delta.specs.KeptTrees.{AreKeptTrees};
 ghost use Rattle.sr_delta.specs.Pairs.{HaveSameFailures};
+ghost use Rattle.sr_delta.specs.Stayers.{AreStaying};
 ghost use Rattle.sr_delta.specs.Cases.{IsKeptHere};
 
 use crate::after::are_idle_or_failed;
@@ -13,14 +13,19 @@ use crate::differences::Changes;
 use crate::ends::are_ends_alike;
 use crate::old_case::OldCase;
 use crate::risks::have_same_risks;
+use crate::staying::Staying;
 use crate::ways::are_walks_kept;
 use sr_labels::Net;
 use sr_model::{Case, Kind, LinkNo};
-use std::alloc::{AllocError, Global};
 
 /// Whether the links that fail in the same case of the new net are of the same pairs. `link` is the number of the
 /// protected link there. In a link case they are the links of its pair; in a node case, those at its end.
-fn have_same_failures(changes: &Changes, old: &OldCase<'_>, new: &Net, link: LinkNo) -> bool
+pub(crate) fn have_same_failures(
+    changes: &Changes,
+    old: &OldCase<'_>,
+    new: &Net,
+    link: LinkNo,
+) -> bool
     requires changes { AreChanges old.now.net new.now changes.now }
     requires same { changes.now.same ≡ true }
     requires name { HaveSameName old.now.net.graph new.now.graph old.now.case.link.0 link.0 }
@@ -46,18 +51,17 @@ fn have_same_failures(changes: &Changes, old: &OldCase<'_>, new: &Net, link: Lin
 
 /// Whether the old case has all that is asked of it but of the links that fail in the new net and of the nodes on the
 /// walks.
-fn is_kept_here(changes: &Changes, kept: &[bool], old: &OldCase<'_>) -> bool
-    requires nodes { changes.now.nodes ≡ node_count old.now.net.graph }
-    requires kept { length kept.now ≡ node_count old.now.net.graph }
+fn is_kept_here(changes: &Changes, staying: &Staying, old: &OldCase<'_>) -> bool
+    requires { changes.now.nodes ≡ node_count old.now.net.graph }
     ensures { (m : Labelled) → AreChanges old.now.net m changes.now → changes.now.same ≡ true
-        → AreKeptTrees old.now.net m kept.now → IsTrue result ↔ IsKeptHere old.now m changes.now.links }
+        → AreStaying old.now.net m staying.now → IsTrue result ↔ IsKeptHere old.now m changes.now.links }
 {
     let case = old.case();
     let source = old.graph().edge(case.link).from.0 as usize;
     if !changes.depths_alike().has(source) {
         return false;
     }
-    if !kept[source] {
+    if !staying.trees.has(source) {
         return false;
     }
     if !are_idle_or_failed(old.graph(), case, old.cells(), changes.links()) {
@@ -67,32 +71,26 @@ fn is_kept_here(changes: &Changes, kept: &[bool], old: &OldCase<'_>) -> bool
 }
 
 /// Whether the case of the old net stays: what was computed for it is what would be computed in the new net, links matched
-/// by key. `changes` are the differences of the two nets, `kept` the tests of the old net's trees that stay. The tests
-/// that cost least come first; memory is asked for only where all but the last hold.
-pub fn case_stays(
-    alloc: Global,
-    changes: &Changes,
-    kept: &[bool],
-    old: &OldCase<'_>,
-    new: &Net,
-) -> Result<bool, AllocError>
+/// by key. `changes` are the differences of the two nets, `staying` the nodes that stay. The tests that cost least come
+/// first.
+pub fn case_stays(changes: &Changes, staying: &Staying, old: &OldCase<'_>, new: &Net) -> bool
     requires changes { AreChanges old.now.net new.now changes.now }
-    requires kept { AreKeptTrees old.now.net new.now kept.now }
-    ensures { IfOk result (λ stays. IsTrue stays ↔ IsKeptCase old.now.net new.now old.now.case) }
+    requires staying { changes.now.same ≡ true → AreStaying old.now.net new.now staying.now }
+    ensures { IsTrue result ↔ IsKeptCase old.now.net new.now old.now.case }
 {
     if !changes.same_nodes() {
-        return Ok(false);
+        return false;
     }
     match changes.partner(old.case().link) {
-        None => Ok(false),
+        None => false,
         Some(link) => {
-            if !is_kept_here(changes, kept, old) {
-                return Ok(false);
+            if !are_walks_kept(staying, old) {
+                return false;
             }
-            if !have_same_failures(changes, old, new, link) {
-                return Ok(false);
+            if !is_kept_here(changes, staying, old) {
+                return false;
             }
-            are_walks_kept(alloc, changes, kept, old)
+            have_same_failures(changes, old, new, link)
         }
     }
 }

@@ -28,14 +28,14 @@ none-answers n case none = record {
   all = λ d is. absurd (none (d, is));
 }
 
--- what is kept after the pass is what is found for the case
+-- the record after the pass is that of the case
 kept-found : (former : Option Passage) (n : Net) (case : Case) (one : Passed) → IsPassed former n case one → IsFound n case (kept_of one)
 kept-found former n case Nothing none = none
 kept-found former n case AsLink like = like
 kept-found former n case (Stays solved) is = is
 kept-found former n case (Listed solved search) is = is.0
 
--- what is kept after the passes is what is found for the cases
+-- the records after the passes are those of the cases
 pub all-kept : (former : Option Passage) (n : Net) (m : ℕ) (passed : List Passed) → AreAllPassed former n m passed → AreAllFound n m (map kept_of passed)
 all-kept former n m passed r = record {
   long = length-map passed kept_of ∙ r.long;

@@ -23,7 +23,7 @@ abbrev pub AreLabelled : Net → ℕ → List Segment → ℕ → ℕ → ℕ �
 AreLabelled n start ss d k at ts =
     (more : List ℕ) → IsLabels n at (drop k ss ++ last d ∷ []) more → IsLabels n start (ss ++ last d ∷ []) (ts ++ more)
 
-have-cons : (n : Net) (s : Segment) (ss : List Segment) → CanLabel n s → HaveLabels n ss → HaveLabels n (s ∷ ss)
+pub have-cons : (n : Net) (s : Segment) (ss : List Segment) → CanLabel n s → HaveLabels n ss → HaveLabels n (s ∷ ss)
 have-cons n s ss here rest zero lt = here
 have-cons n s ss here rest (suc k) lt = rest k (omega arith)
 

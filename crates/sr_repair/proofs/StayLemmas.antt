@@ -19,7 +19,8 @@ use Rattle.sr_model.specs.Rule.{IsNet}
 use Rattle.sr_model.specs.Repair.{IsCaseAnswer}
 use Rattle.sr_model.specs.Stay.{HaveSameName, IsKeptCase, case_with, AreSegmentsSame, IsSameList, IsSameAnswer}
 use Rattle.sr_laws.proofs.Keys.{key-one, nodes-same, pair-trans}
-use Rattle.sr_laws.proofs.Kept.{affected-same, answer-renumbered, post-same}
+use Rattle.sr_laws.specs.Steady.{IsSteadyCase}
+use Rattle.sr_laws.proofs.Kept.{affected-same, answer-renumbered, post-same, steady-from_kept}
 use Rattle.sr_laws.proofs.KeptWays.{answer-there}
 use Rattle.sr_spf.specs.Renewed.{moved_link, AreInPlace}
 use Rattle.sr_graph.specs.Failed.{FailsAsLink}
@@ -28,6 +29,7 @@ use Rattle.sr_encode.specs.declared.answers.NodeAnswer.{NodeAnswer}
 use Rattle.sr_encode.specs.Answered.{AreAnswers, destination_at, answer_at, node_answer_at}
 use Rattle.sr_encode.specs.Renumbered.{moved_segment, moved_answer, moved_entry}
 use Rattle.sr_encode.proofs.AnswerLemmas.{affected-within, no_entry}
+use Rattle.sr_delta.specs.declared.staying.Staying.{Staying}
 use Rattle.sr_delta.specs.Changes.{Differences}
 use Rattle.sr_repair.specs.Answers.{AffectsSome}
 use Rattle.sr_repair.specs.Former.{IsFormer, IsSearched, StaySolved}
@@ -104,7 +106,7 @@ module _ (n m : Net) (links : List (Option LinkNo)) (partners : ArePartners n.gr
   destination-moved list i lt = ap (λ (e : NodeAnswer). e.destination.0) (moved-at list i lt)
 
   -- an old case that stays, and the case of the new net whose protected link has its name
-  module _ (N : IsNet n) (M : IsNet m) (old new : Case) (kind : old.kind ≡ new.kind) (name : HaveSameName n.graph m.graph old.link.0 new.link.0) (stays : IsKeptCase n m old) where
+  module _ (N : IsNet n) (M : IsNet m) (old new : Case) (kind : old.kind ≡ new.kind) (name : HaveSameName n.graph m.graph old.link.0 new.link.0) (stays : IsSteadyCase n m old) where
     is-new : case_with old stays.link ≡ new
     is-new = case_is (case_with old stays.link) new kind (key-one m.graph M.named stays.link.0 new.link.0 stays.protected.1 name.1 (stays.protected.2 ∙ sym name.2))
 
@@ -158,7 +160,7 @@ none-affected n m N M old new kind name stays none some =
     let is : case_with old stays.link ≡ new = case_is (case_with old stays.link) new kind (key-one m.graph M.named stays.link.0 new.link.0 stays.protected.1 name.1 (stays.protected.2 ∙ sym name.2)) in
     let nodes : node_count m.graph ≡ node_count n.graph = nodes-same n.graph m.graph stays.nodes in
     let within : some.0 < node_count m.graph = affected-within m new some.0 M.nodes some.1 in
-    none (some.0, (affected-same n m N M old stays some.0 (omega (arith, within, nodes))).1 (subst (λ c. IsAffected m c some.0) (sym is) some.1))
+    none (some.0, (affected-same n m N M old (steady-from_kept n m N M old stays) some.0 (omega (arith, within, nodes))).1 (subst (λ c. IsAffected m c some.0) (sym is) some.1))
 
 -- where an old SRLG case fails as its link case and stays, the new one fails as its link case
 pub like-stays : (n m : Net) → IsNet m → (old new : Case) → old.kind ≡ new.kind → HaveSameName n.graph m.graph old.link.0 new.link.0 → IsKeptCase n m old → FailsAsLink n.graph old → FailsAsLink m.graph new
@@ -185,7 +187,7 @@ pub name-back : (n m : Net) (l k : ℕ) → HaveSameName n.graph m.graph l k →
 name-back n m l k name = (name.1, name.0, sym name.2)
 
 -- the net before, with what differs
-module _ (p : Passage) (changes : Differences) (kept : List Bool) (in_place : Bool) (r : IsFormer p changes kept in_place) where
+module _ (p : Passage) (changes : Differences) (staying : Staying) (in_place : Bool) (r : IsFormer p changes staying in_place) where
   pub moved-stays : (s : Solution) → StaySolved p s (moved_solution changes.partners s)
   moved-stays s old new kind name stays is =
       solution-moved p.old p.new changes.partners (r.differ.partners r.same) r.differ.old r.differ.new old new kind name stays s is

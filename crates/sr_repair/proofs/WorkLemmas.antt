@@ -13,7 +13,7 @@ use Rattle.sr_spf.specs.Renewed.{fallen}
 use Rattle.sr_delta.specs.KeptTrees.{AreKeptTrees}
 use Rattle.sr_repair.specs.declared.passes.Passed.{Passed}
 use Rattle.sr_repair.specs.declared.passes.Passed.TheVariants.{Nothing, AsLink, Stays, Listed}
-use Rattle.sr_repair.specs.Answers.{case_count, slot_of, AreAllPassed, IsPassed, searches_of, searches}
+use Rattle.sr_repair.specs.Answers.{case_count, slot_of, AreAllPassed, IsPassed, searches_of, pass_searches}
 use Rattle.sr_repair.specs.Spared.{Passage, IsSpared}
 use Rattle.sr_repair.specs.Work.{how_many, IsWithinTrees, IsWithinCases, IsWithinWork}
 use Rattle.sr_repair.proofs.KeptLemmas.{rank-small}
@@ -53,7 +53,7 @@ listed-one AsLink = refl
 listed-one (Stays solved) = refl
 listed-one (Listed solved search) = refl
 
-searches-are : (passed : List Passed) → searches passed ≡ how_many (map is_listed passed)
+searches-are : (passed : List Passed) → pass_searches passed ≡ how_many (map is_listed passed)
 searches-are [] = refl
 searches-are (one ∷ rest) = omega (arith, listed-one one, searches-are rest, many-cons (is_listed one) (map is_listed rest))
 
@@ -67,7 +67,7 @@ slot-within : (n : Net) (case : Case) → IsCase n.graph case → slot_of case <
 slot-within n case within = let small : rank_of case.kind < 3 = rank-small case.kind in omega (arith, small, within)
 
 -- the passes over all cases make searches for cases alone that aren't spared
-pub within-passed : (former : Option Passage) (n : Net) (passed : List Passed) (w : ℕ) → AreAllPassed former n (case_count n.graph) passed → w ≤ searches passed → IsWithinCases former n w
+pub within-passed : (former : Option Passage) (n : Net) (passed : List Passed) (w : ℕ) → AreAllPassed former n (case_count n.graph) passed → w ≤ pass_searches passed → IsWithinCases former n w
 within-passed former n passed w r most = record {
   cases = map is_listed passed;
   long = length-map passed is_listed ∙ r.long;

@@ -71,11 +71,11 @@ searches_of (Stays solved) = 0
 searches_of (Listed solved search) = 1
 
 -- how many searches were counted in the passes
-abbrev pub searches : List Passed → ℕ
-searches [] = 0
-searches (one ∷ rest) = searches_of one + searches rest
+abbrev pub pass_searches : List Passed → ℕ
+pass_searches [] = 0
+pass_searches (one ∷ rest) = searches_of one + pass_searches rest
 
--- what is kept of the case after the pass
+-- the record of the case after the pass
 abbrev pub kept_of : Passed → Found
 kept_of Nothing = NothingFound
 kept_of AsLink = AsLinkFound
@@ -88,7 +88,7 @@ IsFound n case NothingFound = AffectsSome n case → ⊥
 IsFound n case AsLinkFound = FailsAsLink n.graph case
 IsFound n case (Own solved) = IsSolution n case (arc_value solved)
 
--- what is kept of the cases in the first m slots
+-- the records of the cases in the first m slots
 abbrev pub AreAllFound : Net → ℕ → List Found → Type 0
 AreAllFound n = StandInSlots AsLinkFound n.graph (IsFound n)
 

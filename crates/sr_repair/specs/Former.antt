@@ -5,18 +5,28 @@ use Rattle.sr_model.specs.Label.{Net}
 use Rattle.sr_spf.specs.Trees.{Forest, AreTrees}
 use Rattle.sr_spf.specs.Renewed.{AreInPlace}
 use Rattle.sr_delta.specs.Changes.{Differences, AreChanges}
-use Rattle.sr_delta.specs.KeptTrees.{AreKeptTrees}
-use Rattle.sr_model.specs.Stay.{HaveSameName, IsKeptCase}
+use Rattle.sr_delta.specs.declared.staying.Staying.{Staying}
+use Rattle.sr_delta.specs.Stayers.{AreStaying}
+use Rattle.sr_delta.specs.Moved.{AreMoved}
+use Rattle.sr_lanes.specs.declared.words.NodeBits.{NodeBits}
+use Rattle.sr_laws.specs.Steady.{IsSteadyCase}
+use Rattle.sr_model.specs.Graph.{node_count}
+use Rattle.sr_model.specs.Stay.{HaveSameName}
 use Rattle.sr_repair.specs.Answers.{AffectsSome}
 use Rattle.sr_repair.specs.Solutions.{Solution, IsSolution}
 use Rattle.sr_repair.specs.Spared.{Passage, IsSpared}
 
--- the differences of the nets, which have the same nodes; the trees that stay; and whether each link keeps its number
-pub record IsFormer (p : Passage) (changes : Differences) (kept : List Bool) (in_place : Bool) : Type 0 where
+-- the differences of the nets, which have the same nodes; the nodes that stay; and whether each link keeps its number
+pub record IsFormer (p : Passage) (changes : Differences) (staying : Staying) (in_place : Bool) : Type 0 where
   pub differ : AreChanges p.old p.new changes
   pub same : changes.same ≡ true
-  pub stay : AreKeptTrees p.old p.new kept
+  pub stay : AreStaying p.old p.new staying
   pub numbers : in_place ≡ true → AreInPlace changes.partners
+
+-- the trees of the new net, and for each node those to which it isn't as far in the new net as in the old one
+pub record AreMeasured (p : Passage) (forest : Forest) (sets : List NodeBits) : Type 0 where
+  pub trees : AreTrees p.new.graph forest
+  pub moved : AreMoved p.old.graph p.new.graph sets (node_count p.old.graph)
 
 -- where some destination is affected, the case isn't spared
 abbrev pub IsSearched : Option Passage → Net → Case → Type 0
@@ -33,8 +43,9 @@ pub record IsSetting (s : Setting) : Type 0 where
   pub trees : AreTrees s.net.graph s.trees
   pub new : (p : Passage) → s.former ≡ Some p → p.new ≡ s.net
 
--- where a case stays whose solution is s, t is the solution of the case of the new net whose protected link has its name
+-- where a case is steady whose solution is s, t is the solution of the case of the new net whose protected link has its
+-- name
 abbrev pub StaySolved : Passage → Solution → Solution → Type 0
 StaySolved p s t =
     (old new : Case) → old.kind ≡ new.kind → HaveSameName p.old.graph p.new.graph old.link.0 new.link.0
-    → IsKeptCase p.old p.new old → IsSolution p.old old s → IsSolution p.new new t
+    → IsSteadyCase p.old p.new old → IsSolution p.old old s → IsSolution p.new new t

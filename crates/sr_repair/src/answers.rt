@@ -1,9 +1,9 @@
-//! What is kept of all cases.
+//! The records of all cases.
 ghost use Rattle.std.specs.Prelude.{◌≡◌, ◌+◌, ◌*◌, ◌≤◌, [], map, IfOk, OnOk};
 ghost use Rattle.sr_model.specs.declared.case.Kind.TheVariants.{Link as LinkKind};
 ghost use Rattle.sr_model.specs.Case.{IsCase};
 ghost use Rattle.sr_encode.specs.Answered.{AreAnswers};
-ghost use Rattle.sr_repair.specs.Answers.{case_count, kept_of, searches_of, searches, AreAllFound, IsFound};
+ghost use Rattle.sr_repair.specs.Answers.{case_count, kept_of, searches_of, pass_searches, AreAllFound, IsFound};
 
 use crate::cases::{link_case, slot_of};
 use crate::passes::Passed;
@@ -16,7 +16,7 @@ use std::alloc::{AllocError, Global};
 use std::sync::Arc;
 use std::sync::ledger::Ledger;
 
-/// What is kept of a case.
+/// The record of a case.
 #[derive(Drop)]
 pub(crate) enum Found {
     /// That it affects no destination.
@@ -27,7 +27,7 @@ pub(crate) enum Found {
     Own(Arc<Solved>),
 }
 
-/// What is kept of a case after the pass over it. The search that was made for it is taken in.
+/// The record of a case after the pass over it. The search that was made for it is taken in.
 fn kept<L: Ledger>(passed: Passed, steps: &mut Steps<L>) -> Found
     ensures found { result ≡ kept_of passed }
     ensures steps { steps.new ≡ steps.old + searches_of passed }
@@ -43,15 +43,15 @@ fn kept<L: Ledger>(passed: Passed, steps: &mut Steps<L>) -> Found
     }
 }
 
-/// What is kept of all cases after the passes over them. The searches that were made for them are taken in.
+/// The records of all cases after the passes over them. The searches that were made for them are taken in.
 pub(crate) fn all_kept<L: Ledger>(
     alloc: Global,
     passed: Vec<Passed>,
     steps: &mut Steps<L>,
 ) -> Result<Vec<Found>, AllocError>
     ensures found { IfOk result (λ found. found.items ≡ map kept_of passed.items) }
-    ensures steps { OnOk result (steps.new ≡ steps.old + searches passed.items) }
-    ensures most { steps.new ≤ steps.old + searches passed.items }
+    ensures steps { OnOk result (steps.new ≡ steps.old + pass_searches passed.items) }
+    ensures most { steps.new ≤ steps.old + pass_searches passed.items }
     ensures least { steps.old ≤ steps.new }
 {
     let mut found = Vec::with_capacity(alloc, passed.len())?;
@@ -61,7 +61,7 @@ pub(crate) fn all_kept<L: Ledger>(
     Ok(found)
 }
 
-/// What is kept of the case.
+/// The record of the case.
 pub(crate) fn found_of<'a>(net: &Net, found: &'a [Found], case: Case) -> &'a Found
     requires case { IsCase net.now.graph case }
     requires found { AreAllFound net.now (case_count net.now.graph) found.now }
@@ -70,7 +70,7 @@ pub(crate) fn found_of<'a>(net: &Net, found: &'a [Found], case: Case) -> &'a Fou
     &found[slot_of(net.graph(), case) as usize]
 }
 
-/// The answers of a link case, among what is kept. `none` are those of a case that affects no destination.
+/// The answers of a link case, among the records. `none` are those of a case that affects no destination.
 fn answers_of_link<'a>(
     net: &Net,
     found: &'a [Found],
@@ -90,7 +90,7 @@ fn answers_of_link<'a>(
     }
 }
 
-/// The answers of the case, among what is kept. `none` are those of a case that affects no destination.
+/// The answers of the case, among the records. `none` are those of a case that affects no destination.
 pub(crate) fn answers_of<'a>(
     net: &Net,
     found: &'a [Found],

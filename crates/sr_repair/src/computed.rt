@@ -14,7 +14,7 @@ use crate::answers::{Found, answers_of, found_of};
 use crate::former::Former;
 use crate::made::{Made, made_of};
 use crate::setting::Setting;
-use sr_delta::{Changes, changes, kept_trees};
+use sr_delta::{Changes, changes, kept_trees, moved_distances};
 use sr_encode::CaseAnswers;
 use sr_fib::Fib;
 use sr_labels::Net;
@@ -96,7 +96,8 @@ impl Computed {
         let trees = self
             .trees
             .renew(rt, alloc, net.graph(), &kept, changes.partners(), steps)?;
-        let former = Former::new(self, &net, changes, &kept);
+        let farther = moved_distances(alloc, &self.trees, &trees)?;
+        let former = Former::new(self, &net, changes, &kept, &trees, &farther);
         let setting = Setting::after(&net, &trees, former);
         let Made { fib, found } = made_of(rt, alloc, &setting, steps)?;
         Ok(Computed {
@@ -158,7 +159,7 @@ impl Computed {
         answers_of(&self.net, &self.found, &self.none, case)
     }
 
-    /// What is kept of the case.
+    /// The record of the case.
     pub(crate) fn found(&self, case: Case) -> &Found
         requires { IsCase self.now.graph case }
         ensures { IsFound self.now case result.now }

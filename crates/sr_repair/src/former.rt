@@ -1,9 +1,14 @@
-//! The version before, from which a case is taken where it stays.
-ghost use Rattle.std.specs.Prelude.{◌≡◌, true, Some, IfOk, MatchOption};
+//! The version before, from which a case is taken where it is steady.
+ghost use Rattle.std.specs.Prelude.{◌≡◌, true, Some, IfOk, IsTrue, MatchOption};
 ghost use Rattle.std.specs.Arc.{arc_value};
 ghost use Rattle.sr_graph.specs.Failed.{FailsAsLink};
 ghost use Rattle.sr_model.specs.Case.{IsCase};
+ghost use Rattle.sr_model.specs.Graph.{node_count};
 ghost use Rattle.sr_model.specs.Stay.{HaveSameName, IsKeptCase};
+ghost use Rattle.sr_laws.specs.Steady.{IsSteadyCase};
+ghost use Rattle.sr_spf.specs.Trees.{AreTrees};
+ghost use Rattle.sr_delta.specs.Moved.{AreMoved};
+ghost use Rattle.sr_delta.specs.Stayers.{AreStaying};
 ghost use Rattle.sr_delta.specs.Changes.{AreChanges};
 ghost use Rattle.sr_delta.specs.KeptTrees.{AreKeptTrees};
 ghost use Rattle.sr_repair.specs.Solutions.{Solution, IsSolution};
@@ -13,10 +18,12 @@ ghost use Rattle.sr_repair.specs.Spared.{IsOldCase};
 use crate::answers::Found;
 use crate::computed::Computed;
 use crate::solved::Solved;
-use sr_delta::{Changes, OldCase, case_stays};
+use sr_delta::{Changes, OldCase, Staying, case_stays, is_steady, may_stay};
 use sr_labels::Net;
+use sr_lanes::NodeBits;
 use sr_model::Case;
-use sr_spf::are_in_place;
+use sr_post::walks_along;
+use sr_spf::{Trees, are_in_place};
 use std::alloc::{AllocError, Global};
 use std::marker::Model;
 use std::sync::Arc;
@@ -27,46 +34,57 @@ pub(crate) struct Former<'a> {
     computed: &'a Computed,
     net: &'a Net,
     changes: &'a Changes,
-    /// For each node whether its tree stays.
-    kept: &'a [bool],
+    staying: Staying,
+    /// The trees of the new net.
+    trees: &'a Trees,
+    /// For each node those to which it isn't as far in the new net as in the old one.
+    farther: &'a [NodeBits],
     /// Whether each link has its number in the new net too.
     in_place: bool,
 }
 
 impl<'a> Model for Former<'a> {
     ghost use Rattle.sr_repair.specs.Spared.{Passage};
-    ghost use Rattle.sr_repair.specs.Former.{IsFormer};
+    ghost use Rattle.sr_repair.specs.Former.{AreMeasured, IsFormer};
 
     ghost Value = { Passage };
 
     ghost view = { λ f. record { old = f.computed.now; new = f.net.now } };
 
-    ghost invariant = { λ f. IsFormer (record { old = f.computed.now; new = f.net.now }) f.changes.now f.kept.now f.in_place };
+    ghost invariant = { λ f. IsFormer (record { old = f.computed.now; new = f.net.now }) f.changes.now f.staying f.in_place
+        × AreMeasured (record { old = f.computed.now; new = f.net.now }) f.trees.now f.farther.now };
 }
 
 impl<'a> Former<'a> {
-    /// What was computed of the net before, and what differs. The nodes are the same.
+    /// What was computed of the net before, and what differs. The nodes are the same. `kept` are the tests of the trees that
+    /// stay, `trees` are those of the new net, and `farther` has for each node those to which it isn't as far as it was.
     pub(crate) fn new(
         computed: &'a Computed,
         net: &'a Net,
         changes: &'a Changes,
-        kept: &'a [bool],
+        kept: &[bool],
+        trees: &'a Trees,
+        farther: &'a [NodeBits],
     ) -> Former<'a>
         requires changes { AreChanges computed.now net.now changes.now }
         requires same { changes.now.same ≡ true }
         requires kept { AreKeptTrees computed.now net.now kept.now }
+        requires trees { AreTrees net.now.graph trees.now }
+        requires farther { AreMoved computed.now.graph net.now.graph farther.now (node_count computed.now.graph) }
         ensures { result ≡ record { old = computed.now; new = net.now } }
     {
         Former {
             computed,
             net,
             changes,
-            kept,
+            staying: Staying::new(changes, kept),
+            trees,
+            farther,
             in_place: are_in_place(changes.partners()),
         }
     }
 
-    /// What was computed for an old case that stays, by the new numbers of links.
+    /// What was computed for an old case that is steady, by the new numbers of links.
     fn moved(&self, alloc: Global, solved: &Arc<Solved>) -> Result<Arc<Solved>, AllocError>
         ensures { IfOk result (λ moved. StaySolved self.now (arc_value solved.now) (arc_value moved)) }
     {
@@ -76,7 +94,27 @@ impl<'a> Former<'a> {
         solved.renumbered(alloc, self.changes.partners())
     }
 
-    /// What was computed for the old case, by the new numbers of links, if the case stays.
+    /// Whether the old case is steady. So is one that stays, which mostly costs less to tell.
+    fn outlasts(&self, old: &OldCase<'_>) -> bool
+        requires { old.now.net ≡ self.now.old }
+        ensures kept { IsKeptCase self.now.old self.now.new old.now.case → IsTrue result }
+        ensures steady { IsTrue result → IsSteadyCase self.now.old self.now.new old.now.case }
+    {
+        if case_stays(self.changes, &self.staying, old, self.net) {
+            return true;
+        }
+        is_steady(
+            self.changes,
+            &self.staying,
+            self.farther,
+            old,
+            self.net,
+            self.trees,
+        )
+    }
+
+    /// What was computed for the old case, by the new numbers of links, if the case is steady. The nodes on its walks are
+    /// found only where all that costs less to tell holds.
     fn solved_of(
         &self,
         alloc: Global,
@@ -87,22 +125,24 @@ impl<'a> Former<'a> {
         requires solved { IsSolution self.now.old old (arc_value solved.now) }
         ensures { IfOk result (λ found. MatchOption found
             (IsKeptCase self.now.old self.now.new old → ⊥)
-            (λ moved. IsKeptCase self.now.old self.now.new old
+            (λ moved. IsSteadyCase self.now.old self.now.new old
             × StaySolved self.now (arc_value solved.now) (arc_value moved))) }
     {
-        let was = OldCase::new(
-            self.computed.net(),
-            self.computed.trees(),
-            old,
-            solved.cells(),
-        );
-        if !case_stays(alloc, self.changes, self.kept, &was, self.net)? {
+        let net = self.computed.net();
+        if !may_stay(self.changes, net, old, solved.cells()) {
+            return Ok(None);
+        }
+        let trees = self.computed.trees();
+        let failed = net.graph().failed(alloc, old)?;
+        let walks = walks_along(net, trees, old, &failed, solved.cells());
+        let was = OldCase::new(net, trees, old, solved.cells(), walks);
+        if !self.outlasts(&was) {
             return Ok(None);
         }
         Ok(Some(self.moved(alloc, solved)?))
     }
 
-    /// What was computed for the case, if it is an old case that stays and affects some destination.
+    /// What was computed for the case, if it is an old case that is steady and affects some destination.
     pub(crate) fn solved(
         &self,
         alloc: Global,

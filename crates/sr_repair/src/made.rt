@@ -13,14 +13,14 @@ use std::alloc::{AllocError, Global};
 use std::sync::ledger::Ledger;
 use std::thread::Threads;
 
-/// The label tables of a net, and what is kept of all cases, in order of slot.
+/// The label tables of a net, and the records of all cases, in order of slot.
 #[derive(Drop)]
 pub(crate) struct Made {
     pub(crate) fib: Fib,
     pub(crate) found: Vec<Found>,
 }
 
-/// The label tables of the net, and what is kept of all cases, which are split among threads where there are any. At most
+/// The label tables of the net, and the records of all cases, which are split among threads where there are any. At most
 /// one search is counted for each case, and none for a case that stays from the version before.
 pub(crate) fn made_of<L: Ledger>(
     rt: &(impl Threads + Sync),

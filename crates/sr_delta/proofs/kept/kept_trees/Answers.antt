@@ -4,7 +4,7 @@ use Rattle.sr_model.specs.Label.{Net}
 use Rattle.sr_spf.specs.Trees.{AreTrees}
 use Rattle.sr_laws.proofs.Keys.{nodes-same}
 use Rattle.sr_delta.specs.Changes.{AreChanges}
-use Rattle.sr_delta.specs.KeptTrees.{AreKeptBelow, AreKeptTrees}
+use Rattle.sr_delta.specs.KeptTrees.{AreTreesKeptBelow, AreKeptTrees}
 use Rattle.sr_delta.proofs.KeptLemmas.{kept-none, kept-push, kept-renewable}
 use Rattle.sr_delta.proofs.kept.kept_trees.Goals as goal
 
@@ -19,7 +19,7 @@ pub returns : goal.returns
 returns c =
     let kept : (n m : Net) → AreChanges n m c.args.changes.now → AreTrees n.graph c.args.old.now → AreKeptTrees n m c.loop-u.list.items = λ n m changes trees.
     let end : c.loop-u.u ≡ node_count n.graph = omega (arith, c.loop-u-test.false, c.loop-u.auto.u-end, c.node_count-count.ensures.count, c.node_count-count.ensures.few, trees.long) in
-    subst (λ k. AreKeptBelow n m k c.loop-u.list.items) end (c.loop-u.invariant n m changes trees) in
+    subst (λ k. AreTreesKeptBelow n m k c.loop-u.list.items) end (c.loop-u.invariant n m changes trees) in
     record {
       kept = kept;
       renewable = λ n m changes trees same.

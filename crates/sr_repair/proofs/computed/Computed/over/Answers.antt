@@ -49,3 +49,14 @@ returns-clause-searches g c =
     let cases : IsWithinCases (Some (record { old = n; new = m })) m made.0 = rw c.new-former.ensures at (rw c.after-setting.ensures at made.2) in
     let sum : c.renew.new.steps ≡ c.args.steps.now + fallen kept = rw c.deref.ensures.value at c.in_ok-trees.ensures.steps in
     (fallen kept + made.0, omega (arith, sum, made.1), work-of n m (fallen kept + made.0) (fallen kept) made.0 (omega arith) (within-trees n m kept (fallen kept) nodes stay (omega arith)) cases)
+
+pub returns-in_err-farther-clause-searches : goal.returns-in_err-farther-clause-searches
+returns-in_err-farther-clause-searches g c =
+    let n = c.args.self.now in
+    let m = c.args.net in
+    let kept = c.in_ok-kept.kept.items in
+    let trees : AreTrees n.graph c.self.inside.trees = subst (λ (k : Net). AreTrees k.graph c.self.inside.trees) c.self.view_is c.self.invariant.0 in
+    let stay : AreKeptTrees n m kept = c.in_ok-kept.ensures.kept n m c.requires.changes trees in
+    let nodes : node_count m.graph ≡ node_count n.graph = nodes-same n.graph m.graph (c.requires.changes.nodes.0 c.requires.same) in
+    let sum : c.renew.new.steps ≡ c.args.steps.now + fallen kept = rw c.deref.ensures.value at c.in_ok-trees.ensures.steps in
+    (fallen kept, sum, work-of n m (fallen kept) (fallen kept) 0 (omega arith) (within-trees n m kept (fallen kept) nodes stay (omega arith)) (within-none (Some (record { old = n; new = m })) m))

@@ -14,7 +14,7 @@ returns-then-self c =
     let s : Solution = arc_value c.args.solved.now in
     subst (λ (q : Passage). IfOk c.try_clone.result (λ moved. StaySolved q s (arc_value moved))) c.self.view_is
     (IfOk-weaker c.try_clone.result _ _
-    (λ moved same. subst (λ (t : Solution). StaySolved p s t) (sym same) (same-stays p f.changes.now f.kept.now f.in_place c.self.invariant c.if-self.true s))
+    (λ moved same. subst (λ (t : Solution). StaySolved p s t) (sym same) (same-stays p f.changes.now f.staying f.in_place c.self.invariant.0 c.if-self.true s))
     c.try_clone.ensures)
 
 pub returns : goal.returns
@@ -25,5 +25,5 @@ returns c =
     let is_moved : moved_solution c.partners.result.now c.deref.result.now ≡ moved_solution f.changes.now.partners s = rw (c.partners.ensures, c.deref.ensures) refl in
     subst (λ (q : Passage). IfOk c.renumbered.result (λ moved. StaySolved q s (arc_value moved))) c.self.view_is
     (IfOk-weaker c.renumbered.result _ _
-    (λ moved is. subst (λ (t : Solution). StaySolved p s t) (sym (is ∙ is_moved)) (moved-stays p f.changes.now f.kept.now f.in_place c.self.invariant s))
+    (λ moved is. subst (λ (t : Solution). StaySolved p s t) (sym (is ∙ is_moved)) (moved-stays p f.changes.now f.staying f.in_place c.self.invariant.0 s))
     c.renumbered.ensures)

@@ -20,14 +20,14 @@ returns-in-Own c =
     let case = c.args.case in
     let link = c.in-Some.link in
     let old : Case = record { kind = case.kind; link = link } in
-    let r : IsFormer q f.changes.now f.kept.now f.in_place = subst (λ (p : Passage). IsFormer p f.changes.now f.kept.now f.in_place) c.self.view_is c.self.invariant in
+    let r : IsFormer q f.changes.now f.staying f.in_place = subst (λ (p : Passage). IsFormer p f.changes.now f.staying f.in_place) c.self.view_is c.self.invariant.0 in
     let name : HaveSameName q.new.graph q.old.graph case.link.0 link.0 = subst (λ o. IsPartner q.new.graph q.old.graph case.link.0 o) (sym c.origin.ensures ∙ c.in-Some.is) ((r.differ.origins r.same).each case.link.0 c.requires.case) in
     let here : IsFound f.computed.now old (Own c.in-Own.solved) = subst (λ k. IsFound f.computed.now old k) c.in-Own.is c.found.ensures in
     let there : IsSolution q.old old (arc_value c.in-Own.solved) = subst (λ (p : Passage). IsFound p.old old (Own c.in-Own.solved)) c.self.view_is here in
     IfOk-weaker c.solved_of.result _ _
     (λ found m.
     found-weaker found _ _ _ _
-    (λ not. searched-unless q f.changes.now f.kept.now f.in_place r case link name (λ affects stays. not stays))
+    (λ not. searched-unless q f.changes.now f.staying f.in_place r case link name (λ affects stays. not stays))
     (λ solved both. both.1 old case refl (name-back q.new q.old case.link.0 link.0 name) both.0 there)
     m)
     c.solved_of.ensures
@@ -39,11 +39,11 @@ returns-in-Nothing c =
     let case = c.args.case in
     let link = c.in-Some.link in
     let old : Case = record { kind = case.kind; link = link } in
-    let r : IsFormer q f.changes.now f.kept.now f.in_place = subst (λ (p : Passage). IsFormer p f.changes.now f.kept.now f.in_place) c.self.view_is c.self.invariant in
+    let r : IsFormer q f.changes.now f.staying f.in_place = subst (λ (p : Passage). IsFormer p f.changes.now f.staying f.in_place) c.self.view_is c.self.invariant.0 in
     let name : HaveSameName q.new.graph q.old.graph case.link.0 link.0 = subst (λ o. IsPartner q.new.graph q.old.graph case.link.0 o) (sym c.origin.ensures ∙ c.in-Some.is) ((r.differ.origins r.same).each case.link.0 c.requires.case) in
     let here : IsFound f.computed.now old Nothing = subst (λ k. IsFound f.computed.now old k) c.in-Nothing.is c.found.ensures in
     let none : AffectsSome q.old old → ⊥ = subst (λ (p : Passage). IsFound p.old old Nothing) c.self.view_is here in
-    searched-nothing q f.changes.now f.kept.now f.in_place r case link name none
+    searched-nothing q f.changes.now f.staying f.in_place r case link name none
 
 pub returns-in-AsLink : goal.returns-in-AsLink
 returns-in-AsLink c =
@@ -52,8 +52,8 @@ returns-in-AsLink c =
     let case = c.args.case in
     let link = c.in-Some.link in
     let old : Case = record { kind = case.kind; link = link } in
-    let r : IsFormer q f.changes.now f.kept.now f.in_place = subst (λ (p : Passage). IsFormer p f.changes.now f.kept.now f.in_place) c.self.view_is c.self.invariant in
+    let r : IsFormer q f.changes.now f.staying f.in_place = subst (λ (p : Passage). IsFormer p f.changes.now f.staying f.in_place) c.self.view_is c.self.invariant.0 in
     let name : HaveSameName q.new.graph q.old.graph case.link.0 link.0 = subst (λ o. IsPartner q.new.graph q.old.graph case.link.0 o) (sym c.origin.ensures ∙ c.in-Some.is) ((r.differ.origins r.same).each case.link.0 c.requires.case) in
     let here : IsFound f.computed.now old AsLink = subst (λ k. IsFound f.computed.now old k) c.in-AsLink.is c.found.ensures in
     let like : FailsAsLink q.old.graph old = subst (λ (p : Passage). IsFound p.old old AsLink) c.self.view_is here in
-    searched-like q f.changes.now f.kept.now f.in_place r case link name like c.requires.own
+    searched-like q f.changes.now f.staying f.in_place r case link name like c.requires.own
