@@ -16,8 +16,9 @@ use Rattle.sr_domain.specs.Links.{is_in_use}
 use Rattle.sr_domain.proofs.MemberLemmas.{here, cases, nowhere, picked-from, picked-to}
 use Rattle.sr_adjprot.specs.declared.protected.Flagged.{Flagged}
 use Rattle.sr_adjprot.specs.Backup.{GivesBackup, IsBackupLabel}
-use Rattle.sr_adjprot.specs.Protected.{flagged_of, is_own, label_beside, labels_beside, IsLeastOf}
-use Rattle.sr_adjprot.proofs.EligibleLemmas.{same-from, same-itself, some-there, there-some, found-from, found-announces, found-to}
+use Rattle.sr_adjprot.specs.Protected.{flagged_of, is_own_label, label_beside, labels_beside, IsLeastOf}
+use Rattle.sr_adjprot.proofs.EligibleLemmas.{some-there, there-some, found-from, found-announces, found-to}
+use Rattle.sr_domain.proofs.KeyLemmas.{same-from, same-itself}
 
 -- ---- the least of numbers
 
@@ -63,18 +64,18 @@ least-take xs k o found lt e is = rw (e, take_more xs k 0 lt) (least-push (get_o
 -- ---- labels beside others
 
 -- the label is the link's own exactly where the two are the same
-own-is : (own : Option ℕ) (t : ℕ) → is_own own t ≡ true → own ≡ Some t
+own-is : (own : Option ℕ) (t : ℕ) → is_own_label own t ≡ true → own ≡ Some t
 own-is None t e = absurd (false≢true e)
 own-is (Some s) t e = ap Some (eqb-true s t e)
 
-not-own : (own : Option ℕ) (t : ℕ) → is_own own t ≡ false → own ≢ Some t
+not-own : (own : Option ℕ) (t : ℕ) → is_own_label own t ≡ false → own ≢ Some t
 not-own None t e same = absurd (cc)
 not-own (Some s) t e same = eqb-false s t e (same_Some s t same)
 
-other-not_own : (own : Option ℕ) (t : ℕ) → own ≢ Some t → is_own own t ≡ false
-other-not_own own t ne = by (is_own own t) refl
+other-not_own : (own : Option ℕ) (t : ℕ) → own ≢ Some t → is_own_label own t ≡ false
+other-not_own own t ne = by (is_own_label own t) refl
   where
-    by : (b : Bool) → is_own own t ≡ b → b ≡ false
+    by : (b : Bool) → is_own_label own t ≡ b → b ≡ false
     by true e = absurd (ne (own-is own t e))
     by false e = refl
 
@@ -86,9 +87,9 @@ record IsBeside (key : LinkKey) (own : Option ℕ) (one : Flagged) (t : ℕ) : T
   other : own ≢ Some t
 
 beside-is : (key : LinkKey) (own : Option ℕ) (one : Flagged) (t : ℕ) → label_beside key own one ≡ Some t → IsBeside key own one t
-beside-is key own one t e = by one.clear (same_key key one.announcement.key) (is_own own one.label) refl refl refl e
+beside-is key own one t e = by one.clear (same_key key one.announcement.key) (is_own_label own one.label) refl refl refl e
   where
-    by : (c s o : Bool) → one.clear ≡ c → same_key key one.announcement.key ≡ s → is_own own one.label ≡ o → cond (c && s && not o) (Some one.label) None ≡ Some t → IsBeside key own one t
+    by : (c s o : Bool) → one.clear ≡ c → same_key key one.announcement.key ≡ s → is_own_label own one.label ≡ o → cond (c && s && not o) (Some one.label) None ≡ Some t → IsBeside key own one t
     by true true false c s o h =
         let label : one.label ≡ t = same_Some one.label t h in
         record { clear = c; key_is = same-from key one.announcement.key s; label = label; other = subst (λ (k : ℕ). own ≢ Some k) label (not-own own one.label o) }
@@ -126,7 +127,7 @@ beside-to facts net l t gives =
     let label : f.0 ≡ t = same_Some f.0 t (sym f.1 ∙ gives.given) in
     let both : clear ≡ true = some-there (adj_sid_labels false gives.reach.adj) gives.clear in
     let same : same_key key a.key ≡ true = ap (same_key key) gives.named ∙ same-itself key in
-    let other : is_own own f.0 ≡ false = ap (is_own own) label ∙ other-not_own own t gives.other in
+    let other : is_own_label own f.0 ≡ false = ap (is_own_label own) label ∙ other-not_own own t gives.other in
     let listed : label_beside key own one ≡ Some f.0 = rw (both, same, other) refl in
     picked-to (label_beside key own) (flagged_of facts) one t f.2 (listed ∙ ap Some label)
 

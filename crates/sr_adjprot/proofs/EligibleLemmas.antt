@@ -1,20 +1,16 @@
 -- The labels that may be protected: from announcements in lists to the links of the net.
 use Rattle.std.proofs.Common.{◌≡◌, ℕ, zero, suc, ◌<◌, ⊎_elim, Bool, true, false, cond, not, List, [], ◌∷◌, length, get_or, filter, refl, arith, ap, sym, ◌∙◌, subst, Option, Some, None}
 use Rattle.std.specs.Prelude.{Contains, MatchOption, slice_get, is_some, ◌&&◌, ◌==◌}
-use Rattle.std.specs.Cmp.{Equal-is}
 use Rattle.std.specs.List.{filter_map}
 use Rattle.std.specs.Option.{IsSomeAnd}
-use Rattle.std.specs.Ordering.{is_eq}
 use Rattle.std.proofs.lemmas.Bool.{false≢true}
-use Rattle.std.proofs.lemmas.Cmp.{tied_itself}
 use Rattle.std.proofs.lemmas.List.Elements.{Contains-append_left, Contains-append_right, Contains-append_cases}
 use Rattle.std.proofs.lemmas.List.Sorted.{IsPermutation-sym, Contains-permutation}
 use Rattle.std.proofs.lemmas.Option.{same_Some}
 use Rattle.sr_model.specs.declared.link.Link.{Link}
 use Rattle.sr_model.specs.declared.name.LinkKey.{LinkKey}
 use Rattle.sr_model.specs.Key.{mirror}
-use Rattle.sr_model.specs.KeyOrder.{key_cmp, same_key}
-use Rattle.sr_model.proofs.KeyOrderLemmas.{key_total, key-from_cmp}
+use Rattle.sr_model.specs.KeyOrder.{same_key}
 use Rattle.sr_model.specs.Graph.{no_link, link_count, link_at}
 use Rattle.sr_model.specs.Case.{key_at}
 use Rattle.sr_model.specs.Label.{Net, adj_at}
@@ -33,11 +29,11 @@ use Rattle.sr_domain.specs.Least.{IsLeastNumber, IsAdjLabel}
 use Rattle.sr_domain.specs.Links.{is_in_use, link_by, link_of, links_of, labelled}
 use Rattle.sr_domain.specs.Net.{IsNetOf}
 use Rattle.sr_domain.proofs.FlatLemmas.{adj_label-least}
-use Rattle.sr_domain.proofs.KeyLemmas.{any-to, any-from}
+use Rattle.sr_domain.proofs.KeyLemmas.{any-to, any-from, same-from, same-itself}
 use Rattle.sr_domain.proofs.MemberLemmas.{here, later, cases, nowhere, picked-from, picked-to}
 use Rattle.sr_domain.proofs.NetLemmas.{found_as}
 use Rattle.sr_adjprot.specs.declared.protected.Flagged.{Flagged}
-use Rattle.sr_adjprot.specs.Eligible.{AnnouncesLink, IsEligible}
+use Rattle.sr_adjprot.specs.Eligible.{AnnouncesReach, IsEligible}
 use Rattle.sr_adjprot.specs.Protected.{if_used, flagged, flagged_by, flagged_in, flagged_of, if_protected, protected_of}
 
 -- ---- what a filter keeps
@@ -65,12 +61,6 @@ filtered-to {X} p (y ∷ ys) x c e = ⊎_elim
     by false h = h
 
 -- ---- keys
-
-pub same-from : (a b : LinkKey) → same_key a b ≡ true → a ≡ b
-same-from a b e = key-from_cmp a b ((Equal-is (key_cmp a b)).0 e)
-
-pub same-itself : (a : LinkKey) → same_key a a ≡ true
-same-itself a = ap is_eq (tied_itself key_total a)
 
 -- ---- announcements and their places in the database
 
@@ -275,7 +265,7 @@ found-from facts one there =
     record { entry = at.0; part = at.1; stands = at.2; has = at.3; says = part-from facts at.0.0.system at.1 one at.4 }
 
 -- its part announces its link
-abbrev pub found-announces : (facts : Facts) (one : Flagged) → (f : IsFound facts one) → AnnouncesLink facts f.entry.0.system f.says.reach
+abbrev pub found-announces : (facts : Facts) (one : Flagged) → (f : IsFound facts one) → AnnouncesReach facts f.entry.0.system f.says.reach
 found-announces facts one f = record {
   id = f.entry.0;
   stored = f.entry.1;
@@ -287,7 +277,7 @@ found-announces facts one f = record {
 }
 
 -- what is announced of a link in use with a label with the flag B is in the list
-pub found-to : (facts : Facts) (node : ℕ) (reach : ReachPart) → AnnouncesLink facts node reach → is_in_use facts (announcement_of node reach) ≡ true → is_some (least (adj_sid_labels true reach.adj)) ≡ true → (t : ℕ) × (least (adj_sid_labels true reach.adj) ≡ Some t) × Contains (flagged_of facts) (record { announcement = announcement_of node reach; label = t; clear = is_some (least (adj_sid_labels false reach.adj)) })
+pub found-to : (facts : Facts) (node : ℕ) (reach : ReachPart) → AnnouncesReach facts node reach → is_in_use facts (announcement_of node reach) ≡ true → is_some (least (adj_sid_labels true reach.adj)) ≡ true → (t : ℕ) × (least (adj_sid_labels true reach.adj) ≡ Some t) × Contains (flagged_of facts) (record { announcement = announcement_of node reach; label = t; clear = is_some (least (adj_sid_labels false reach.adj)) })
 found-to facts node reach announced used some =
     let a : Announcement = announcement_of node reach in
     let by_node = part-to facts node reach a some announced.announces used in

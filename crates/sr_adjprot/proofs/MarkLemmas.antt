@@ -13,7 +13,7 @@ use Rattle.sr_lsdb.specs.declared.facts.Facts.{Facts}
 use Rattle.sr_domain.specs.Announced.{AreKeysOf}
 use Rattle.sr_domain.specs.Net.{IsNetOf}
 use Rattle.sr_adjprot.specs.Eligible.{AreEligible, IsEligible}
-use Rattle.sr_adjprot.specs.Protected.{AreMarked, protected_of}
+use Rattle.sr_adjprot.specs.Protected.{AreKeysMarked, protected_of}
 use Rattle.sr_adjprot.proofs.EligibleLemmas.{eligible-from, eligible-to}
 
 -- the first n links are tested
@@ -37,11 +37,11 @@ marked-more g keys tests n test k here = record {
       (cases_eq l n);
 }
 
-pub marked-all : (g : Graph) (keys : List LinkKey) (tests : List Bool) (n : ℕ) → n ≡ link_count g → AreMarkedBelow g keys tests n → AreMarked g keys tests
+pub marked-all : (g : Graph) (keys : List LinkKey) (tests : List Bool) (n : ℕ) → n ≡ link_count g → AreMarkedBelow g keys tests n → AreKeysMarked g keys tests
 marked-all g keys tests n e k = record { long = k.long ∙ e; each = λ l lt. k.each l (omega arith) }
 
 -- the links whose keys are announced with a label of the flag B are those whose labels may be protected
-pub marked-eligible : (facts : Facts) (net : Net) (keys : List LinkKey) (tests : List Bool) → IsNetOf facts net → AreKeysOf (protected_of facts) keys → AreMarked net.graph keys tests → AreEligible facts net tests
+pub marked-eligible : (facts : Facts) (net : Net) (keys : List LinkKey) (tests : List Bool) → IsNetOf facts net → AreKeysOf (protected_of facts) keys → AreKeysMarked net.graph keys tests → AreEligible facts net tests
 marked-eligible facts net keys tests is keyed marked = record {
   long = marked.long;
   each = λ l within.

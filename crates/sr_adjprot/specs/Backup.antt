@@ -11,7 +11,7 @@ use Rattle.sr_domain.specs.Announced.{announcement_of, adj_sid_labels, least}
 use Rattle.sr_domain.specs.Links.{is_in_use}
 use Rattle.sr_adjprot.specs.declared.answer.AdjAnswer.{AdjAnswer}
 use Rattle.sr_adjprot.specs.declared.answer.BackupLabel.{BackupLabel}
-use Rattle.sr_adjprot.specs.Eligible.{AnnouncesLink}
+use Rattle.sr_adjprot.specs.Eligible.{AnnouncesReach}
 use Rattle.sr_adjprot.specs.Active.{IsAdjAnswer}
 use Rattle.sr_adjprot.specs.Delivery.{AdjDelivers}
 
@@ -21,7 +21,7 @@ use Rattle.sr_adjprot.specs.Delivery.{AdjDelivers}
 pub record GivesBackup (facts : Facts) (net : Net) (l t : ℕ) : Type 0 where
   pub node : ℕ
   pub reach : ReachPart
-  pub announced : AnnouncesLink facts node reach
+  pub announced : AnnouncesReach facts node reach
   pub used : is_in_use facts (announcement_of node reach) ≡ true
   pub named : (announcement_of node reach).key ≡ key_at net.graph l
   pub clear : 0 < length (adj_sid_labels false reach.adj)

@@ -14,7 +14,7 @@ use Rattle.sr_domain.specs.Least.{IsLeastNumber}
 use Rattle.sr_domain.specs.Links.{is_in_use}
 
 -- a live LSP of the present node announces this link of the node
-pub record AnnouncesLink (facts : Facts) (node : ℕ) (reach : ReachPart) : Type 0 where
+pub record AnnouncesReach (facts : Facts) (node : ℕ) (reach : ReachPart) : Type 0 where
   pub id : LspId
   pub stored : Stored
   pub stands : Contains facts.database (id, stored)
@@ -28,7 +28,7 @@ pub record AnnouncesLink (facts : Facts) (node : ℕ) (reach : ReachPart) : Type
 pub record IsEligible (facts : Facts) (net : Net) (l : ℕ) : Type 0 where
   pub node : ℕ
   pub reach : ReachPart
-  pub announced : AnnouncesLink facts node reach
+  pub announced : AnnouncesReach facts node reach
   pub used : is_in_use facts (announcement_of node reach) ≡ true
   pub named : (announcement_of node reach).key ≡ key_at net.graph l
   pub clear : adj_sid_labels false reach.adj ≡ []

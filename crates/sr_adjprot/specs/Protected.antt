@@ -57,14 +57,14 @@ abbrev pub protected_of : Facts → List Announcement
 protected_of facts = filter_map if_protected (flagged_of facts)
 
 -- the label is the own one of a link, where it has one
-abbrev pub is_own : Option ℕ → ℕ → Bool
-is_own None label = false
-is_own (Some own) label = own == label
+abbrev pub is_own_label : Option ℕ → ℕ → Bool
+is_own_label None label = false
+is_own_label (Some own) label = own == label
 
 -- the label with the flag B of the link of this key, where it has one with the flag clear too and this isn't its own
 abbrev pub label_beside : LinkKey → Option ℕ → Flagged → Option ℕ
 label_beside key own one =
-    if one.clear && same_key key one.announcement.key && not (is_own own one.label) then Some one.label else None
+    if one.clear && same_key key one.announcement.key && not (is_own_label own one.label) then Some one.label else None
 
 -- all such labels
 abbrev pub labels_beside : Facts → LinkKey → Option ℕ → List ℕ
@@ -76,6 +76,6 @@ IsLeastOf numbers None = numbers ≡ []
 IsLeastOf numbers (Some number) = Contains numbers number × ((other : ℕ) → Contains numbers other → number ≤ other)
 
 -- for each link of the graph whether its key is among these
-pub record AreMarked (g : Graph) (keys : List LinkKey) (tests : List Bool) : Type 0 where
+pub record AreKeysMarked (g : Graph) (keys : List LinkKey) (tests : List Bool) : Type 0 where
   pub long : length tests ≡ link_count g
   pub each : (l : ℕ) → l < link_count g → has tests l ≡ list_any (same_key (key_at g l)) keys

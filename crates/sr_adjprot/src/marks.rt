@@ -4,7 +4,7 @@ ghost use Rattle.std.specs.List.Sorted.{IsStrictlySortedBy};
 ghost use Rattle.sr_model.specs.KeyOrder.{key_cmp};
 ghost use Rattle.sr_domain.specs.Net.{IsNetOf};
 ghost use Rattle.sr_adjprot.specs.Eligible.{AreEligible};
-ghost use Rattle.sr_adjprot.specs.Protected.{AreMarked};
+ghost use Rattle.sr_adjprot.specs.Protected.{AreKeysMarked};
 
 use crate::protected::protected_list;
 use sr_domain::{holds, keys_of};
@@ -17,7 +17,7 @@ use std::alloc::{AllocError, Global};
 /// For each link of the graph whether its key is among these, which ascend.
 fn marks(alloc: Global, graph: &Graph, keys: &[LinkKey]) -> Result<Vec<bool>, AllocError>
     requires { IsStrictlySortedBy key_cmp keys.now }
-    ensures { IfOk result (λ v. AreMarked graph.now keys.now v.items) }
+    ensures { IfOk result (λ v. AreKeysMarked graph.now keys.now v.items) }
 {
     let mut out = Vec::with_capacity(alloc, graph.link_count() as usize)?;
     for number in 0..graph.link_count() {

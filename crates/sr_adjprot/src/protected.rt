@@ -1,11 +1,12 @@
 //! The announcements of links in use that have labels with the flag B.
 ghost use Rattle.std.specs.Prelude.{◌≡◌, ◌++◌, IfOk, OnOk};
 ghost use Rattle.std.specs.List.{filter_map};
-ghost use Rattle.sr_adjprot.specs.Protected.{if_used as if_used_in, flagged_by as flagged_by_in, flagged_of, if_protected, protected_of, is_own as is_own_in, label_beside as label_beside_in, labels_beside};
+ghost use Rattle.sr_lsp.specs.Parts.{part_of};
+ghost use Rattle.sr_adjprot.specs.Protected.{if_used as if_used_in, flagged_by as flagged_by_in, flagged_of, if_protected, protected_of, is_own_label as is_own_in, label_beside as label_beside_in, labels_beside};
 
 use sr_domain::{Announcement, announced_by, is_present, least_label, link_by};
 use sr_lsdb::Facts;
-use sr_lsp::Part;
+use sr_lsp::{PartRef, Parts};
 use sr_model::{LinkKey, MOST_LINKS, SystemId};
 use std::alloc::{AllocError, Global};
 
@@ -33,11 +34,11 @@ fn if_used(facts: &Facts, announced: Option<Announcement>) -> Option<Announcemen
 }
 
 /// The announcement that the part is, if its link is in use and has a label with the flag B.
-fn flagged_by(facts: &Facts, node: SystemId, part: &Part) -> Option<Flagged>
-    ensures { result ≡ flagged_by_in facts.now node part.now }
+fn flagged_by(facts: &Facts, node: SystemId, part: PartRef<'_>) -> Option<Flagged>
+    ensures { result ≡ flagged_by_in facts.now node (part_of part.entry) }
 {
     match part {
-        Part::Reach(reach) => {
+        PartRef::Reach(reach) => {
             let sids = reach.adj.as_slice();
             let announcement = if_used(facts, announced_by(node, part))?;
             let label = least_label(true, sids)?;
@@ -55,14 +56,14 @@ fn flagged_by(facts: &Facts, node: SystemId, part: &Part) -> Option<Flagged>
 fn add_flagged(
     facts: &Facts,
     node: SystemId,
-    parts: &[Part],
+    parts: &Parts,
     out: &mut Vec<Flagged>,
 ) -> Result<(), AllocError>
     ensures { OnOk result
         (out.new.items ≡ out.old.items ++ filter_map (flagged_by_in facts.now node) parts.now) }
 {
-    for part in parts {
-        match flagged_by(facts, node, part) {
+    for at in 0..parts.count() {
+        match flagged_by(facts, node, parts.at(at)) {
             Some(one) => out.push(one)?,
             None => {}
         }
@@ -80,9 +81,7 @@ fn flagged_list(alloc: Global, facts: &Facts) -> Result<Vec<Flagged>, AllocError
     for (id, stored) in database {
         if id.pseudonode == 0 && is_present(facts, id.system) {
             match &stored.live {
-                Some(shared) => {
-                    add_flagged(facts, id.system, shared.lsp().parts.as_slice(), &mut out)?
-                }
+                Some(shared) => { add_flagged(facts, id.system, &shared.lsp().parts, &mut out)? }
                 None => {}
             }
         }

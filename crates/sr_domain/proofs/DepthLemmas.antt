@@ -29,7 +29,7 @@ abbrev pub plain_imposition : List (LspId × Stored) → Option ℕ
 plain_imposition [] = None
 plain_imposition (e ∷ es) = option_or (imposition_in (parts_of e.1.live)) (plain_imposition es)
 
-first-append : (xs ys : List ℕ) → slice_get (xs ++ ys) 0 ≡ option_or (slice_get xs 0) (slice_get ys 0)
+pub first-append : (xs ys : List ℕ) → slice_get (xs ++ ys) 0 ≡ option_or (slice_get xs 0) (slice_get ys 0)
 first-append [] ys = refl
 first-append (x ∷ xs) ys = refl
 

@@ -20,10 +20,10 @@ use Rattle.sr_domain.specs.declared.announced.Announcement.{Announcement}
 use Rattle.sr_domain.specs.Announced.{AreKeysOf, is_announced, announced_key}
 use Rattle.sr_domain.proofs.MemberLemmas.{here, later, mapped-to, mapped-from}
 
-same-from : (a b : LinkKey) → same_key a b ≡ true → a ≡ b
+pub same-from : (a b : LinkKey) → same_key a b ≡ true → a ≡ b
 same-from a b e = key-from_cmp a b ((Equal-is (key_cmp a b)).0 e)
 
-same-itself : (a : LinkKey) → same_key a a ≡ true
+pub same-itself : (a : LinkKey) → same_key a a ≡ true
 same-itself a = ap is_eq (tied_itself key_total a)
 
 -- a test that some element passes

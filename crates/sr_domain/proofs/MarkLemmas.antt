@@ -1,5 +1,5 @@
 -- The marks of overloaded nodes: which they are, and that they change nothing else of a graph.
-use Rattle.std.proofs.Common.{◌≡◌, ℕ, ◌<◌, ⊎_elim, Bool, true, false, cond, List, [], ◌∷◌, map, length, get_or, refl, arith, ap, sym, ◌∙◌, subst}
+use Rattle.std.proofs.Common.{◌≡◌, ℕ, ◌<◌, ⊎_elim, Bool, true, false, cond, List, [], ◌∷◌, map, length, arith, ap, sym, ◌∙◌, subst}
 use Rattle.std.specs.Prelude.{Contains, filter}
 use Rattle.std.proofs.lemmas.List.{ext_get_or, get_or_default, get_or-map, length-map}
 use Rattle.std.proofs.lemmas.List.Elements.{All-contains, filter_passes}
@@ -7,6 +7,7 @@ use Rattle.sr_model.specs.declared.link.Link.{Link}
 use Rattle.sr_model.specs.Graph.{Graph, has, system_at, IsGraph, IsNamed, IsGrouped}
 use Rattle.sr_graph.specs.Marks.{IsMarked}
 use Rattle.sr_domain.proofs.MemberLemmas.{here, later, cases, nowhere}
+use Rattle.sr_laws.proofs.Failures.{test-same}
 
 -- what passes the test is kept
 passed : (p : ℕ → Bool) (xs : List ℕ) (z : ℕ) → Contains xs z → p z ≡ true → Contains (filter p xs) z
@@ -20,18 +21,13 @@ passed p (x ∷ xs) z c e = ⊎_elim
     by true r = later x (filter p xs) z r
     by false r = r
 
-both : (a b : Bool) → (a ≡ true → b ≡ true) → (b ≡ true → a ≡ true) → a ≡ b
-both true b there back = sym (there refl)
-both false true there back = back refl
-both false false there back = refl
-
 -- the marks of the nodes that pass a test are the tests of all nodes
 pub marks-are : (p : ℕ → Bool) (g after : Graph) → IsMarked g (filter p g.systems) after → after.overloaded ≡ map p g.systems
 marks-are p g after is = ext_get_or false after.overloaded (map p g.systems) (is.long ∙ sym (length-map g.systems p)) (λ v lt.
     let long : length after.overloaded ≡ length g.systems = is.long in
     let within : v < length g.systems = omega arith in
     let there : Contains g.systems (system_at g v) = (v, within, get_or_default g.systems v (system_at g v) 0 within) in
-    both (has after.overloaded v) (p (system_at g v))
+    test-same (has after.overloaded v) (p (system_at g v))
     (λ e. All-contains (λ (x : ℕ). p x ≡ true) (filter p g.systems) (system_at g v) (filter_passes p g.systems) ((is.each v within).0 e))
     (λ e. (is.each v within).1 (passed p g.systems (system_at g v) there e))
     ∙ sym (get_or-map p g.systems v 0 false within))

@@ -1,10 +1,11 @@
 //! What the nodes announce of their links.
 ghost use Rattle.std.specs.Prelude.{◌≡◌, ◌++◌, IfOk, OnOk};
 ghost use Rattle.std.specs.List.{filter_map};
+ghost use Rattle.sr_lsp.specs.Parts.{part_of};
 ghost use Rattle.sr_domain.specs.Announced.{first_id, is_present as is_present_in, ident_by_ids, ident_of, adj_sid_label, adj_label, least, adj_sid_labels, lesser, announced_by, announcements_of};
 
 use sr_lsdb::Facts;
-use sr_lsp::{LspId, Part, Reach};
+use sr_lsp::{LspId, PartRef, Parts, Reach};
 use sr_model::{Ident, LinkKey, MOST_LINKS, SystemId};
 use sr_subtlv::{AdjSid, LinkIds, Sid};
 use sr_wire::registry::{ADJ_SID_BACKUP, ADJ_SID_IPV6, ADJ_SID_SET};
@@ -125,11 +126,11 @@ fn adj_label(sids: &[AdjSid]) -> Option<u32>
 }
 
 /// The announcement that the part is, if it counts.
-pub fn announced_by(node: SystemId, part: &Part) -> Option<Announcement>
-    ensures { result ≡ announced_by node part.now }
+pub fn announced_by(node: SystemId, part: PartRef<'_>) -> Option<Announcement>
+    ensures { result ≡ announced_by node (part_of part.entry) }
 {
     match part {
-        Part::Reach(reach) => {
+        PartRef::Reach(reach) => {
             if reach.pseudonode == 0 && reach.neighbour != node {
                 Some(Announcement {
                     key: LinkKey {
@@ -152,14 +153,14 @@ pub fn announced_by(node: SystemId, part: &Part) -> Option<Announcement>
 /// Appends what the parts of an LSP announce.
 fn add_announced(
     node: SystemId,
-    parts: &[Part],
+    parts: &Parts,
     out: &mut Vec<Announcement>,
 ) -> Result<(), AllocError>
     ensures { OnOk result
         (out.new.items ≡ out.old.items ++ filter_map (announced_by node) parts.now) }
 {
-    for part in parts {
-        match announced_by(node, part) {
+    for at in 0..parts.count() {
+        match announced_by(node, parts.at(at)) {
             Some(announcement) => out.push(announcement)?,
             None => {}
         }
@@ -177,7 +178,7 @@ pub fn announcements(alloc: Global, facts: &Facts) -> Result<Vec<Announcement>, 
     for (id, stored) in database {
         if id.pseudonode == 0 && is_present(facts, id.system) {
             match &stored.live {
-                Some(shared) => add_announced(id.system, shared.lsp().parts.as_slice(), &mut out)?,
+                Some(shared) => add_announced(id.system, &shared.lsp().parts, &mut out)?,
                 None => {}
             }
         }

@@ -3,12 +3,13 @@ ghost use Rattle.std.specs.Prelude.{◌≡◌, map, slice_get, IfOk};
 ghost use Rattle.std.specs.Option.{option_map};
 ghost use Rattle.std.specs.List.{filter_map};
 ghost use Rattle.std.specs.List.Sorted.{IsStrictlyIncreasing};
+ghost use Rattle.sr_lsp.specs.Parts.{part_of};
 ghost use Rattle.sr_domain.specs.Nodes.{past_own, nodes_of, first_ranges, srgb_of as srgb_in, node_sid_by, lesser_sid, least_sid, sid_of_part, least_of_parts, node_sid_of, imposition_by, imposition_in, imposition_of, has_overload_bit as has_overload_bit_in};
 ghost use Rattle.sr_domain.specs.Announced.{first_id};
 
 use crate::announced::first_id;
 use sr_lsdb::Facts;
-use sr_lsp::{LspId, Part};
+use sr_lsp::{LspId, PartRef, Parts};
 use sr_model::{Range, SystemId};
 use sr_subtlv::{Msd, PrefixSid, Sid};
 use sr_wire::registry::{
@@ -51,12 +52,12 @@ pub(crate) fn node_list(alloc: Global, facts: &Facts) -> Result<Vec<SystemId>, A
 }
 
 /// A copy of the label ranges of the first SR-Capabilities among the parts.
-fn first_ranges(alloc: Global, parts: &[Part]) -> Result<Option<Vec<Range>>, AllocError>
+fn first_ranges(alloc: Global, parts: &Parts) -> Result<Option<Vec<Range>>, AllocError>
     ensures { IfOk result (λ o. option_map (λ v. v.items) o ≡ first_ranges parts.now) }
 {
-    for part in parts {
-        match part {
-            Part::Capability(capability) => match &capability.srgb {
+    for at in 0..parts.count() {
+        match parts.at(at) {
+            PartRef::Capability(capability) => match &capability.srgb {
                 Some(cap) => return Ok(Some(Vec::from_slice(alloc, cap.ranges.as_slice())?)),
                 None => {}
             },
@@ -92,7 +93,7 @@ pub fn srgb_of(
     let database = facts.database.as_map();
     for (_id, stored) in database.range(first..past) {
         match &stored.live {
-            Some(shared) => match first_ranges(alloc, shared.lsp().parts.as_slice())? {
+            Some(shared) => match first_ranges(alloc, &shared.lsp().parts)? {
                 Some(ranges) => return Ok(Some(ranges)),
                 None => {}
             },
@@ -150,11 +151,11 @@ fn least_sid(sids: &[PrefixSid]) -> Option<NodeSid>
 }
 
 /// The index that the part gives its node.
-fn sid_of_part(part: &Part) -> Option<NodeSid>
-    ensures { result ≡ sid_of_part part.now }
+fn sid_of_part(part: PartRef<'_>) -> Option<NodeSid>
+    ensures { result ≡ sid_of_part (part_of part.entry) }
 {
     match part {
-        Part::Prefix(prefix) => {
+        PartRef::Prefix(prefix) => {
             if prefix.length == ADDRESS_BITS {
                 least_sid(prefix.sids.as_slice())
             } else {
@@ -166,12 +167,12 @@ fn sid_of_part(part: &Part) -> Option<NodeSid>
 }
 
 /// The least index of these parts.
-fn least_of_parts(parts: &[Part]) -> Option<NodeSid>
+fn least_of_parts(parts: &Parts) -> Option<NodeSid>
     ensures { result ≡ least_of_parts parts.now }
 {
     let mut found = None;
-    for part in parts {
-        found = lesser_sid(found, sid_of_part(part));
+    for at in 0..parts.count() {
+        found = lesser_sid(found, sid_of_part(parts.at(at)));
     }
     found
 }
@@ -185,9 +186,7 @@ pub fn node_sid(facts: &Facts, node: SystemId) -> Option<NodeSid>
     let database = facts.database.as_map();
     for (_id, stored) in database.range(first..past) {
         match &stored.live {
-            Some(shared) => {
-                found = lesser_sid(found, least_of_parts(shared.lsp().parts.as_slice()))
-            }
+            Some(shared) => { found = lesser_sid(found, least_of_parts(&shared.lsp().parts)) }
             None => {}
         }
     }
@@ -207,12 +206,12 @@ pub fn first_imposition(msds: &[Msd]) -> Option<u8>
 }
 
 /// The first of these parts' depths that says how many labels the node can impose.
-fn imposition_in(parts: &[Part]) -> Option<u8>
+fn imposition_in(parts: &Parts) -> Option<u8>
     ensures { result ≡ imposition_in parts.now }
 {
-    for part in parts {
-        match part {
-            Part::Capability(capability) => match first_imposition(capability.msd.as_slice()) {
+    for at in 0..parts.count() {
+        match parts.at(at) {
+            PartRef::Capability(capability) => match first_imposition(capability.msd.as_slice()) {
                 Some(depth) => return Some(depth),
                 None => {}
             },
@@ -230,7 +229,7 @@ pub(crate) fn imposition(facts: &Facts, node: SystemId) -> Option<u8>
     let database = facts.database.as_map();
     for (_id, stored) in database.range(first..past) {
         match &stored.live {
-            Some(shared) => match imposition_in(shared.lsp().parts.as_slice()) {
+            Some(shared) => match imposition_in(&shared.lsp().parts) {
                 Some(depth) => return Some(depth),
                 None => {}
             },

@@ -1,10 +1,11 @@
 //! What the nodes say of the risks that their links share.
 ghost use Rattle.std.specs.Prelude.{◌≡◌, ℕ, ◌++◌, map, IfOk, OnOk};
+ghost use Rattle.sr_lsp.specs.Parts.{part_of};
 ghost use Rattle.sr_domain.specs.Groups.{notes_by, notes_from, notes_of, numbered_name, unnumbered_name};
 
 use crate::announced::{Announcement, is_present};
 use sr_lsdb::Facts;
-use sr_lsp::Part;
+use sr_lsp::{PartRef, Parts};
 use sr_model::{Ident, MOST_LINKS, SystemId};
 use std::alloc::{AllocError, Global};
 
@@ -41,11 +42,15 @@ fn add_groups(name: &RiskName, groups: &[u32], out: &mut Vec<RiskNote>) -> Resul
 }
 
 /// Appends what the part says.
-fn add_notes_by(node: SystemId, part: &Part, out: &mut Vec<RiskNote>) -> Result<(), AllocError>
-    ensures { OnOk result (out.new.items ≡ out.old.items ++ notes_by node part.now) }
+fn add_notes_by(
+    node: SystemId,
+    part: PartRef<'_>,
+    out: &mut Vec<RiskNote>,
+) -> Result<(), AllocError>
+    ensures { OnOk result (out.new.items ≡ out.old.items ++ notes_by node (part_of part.entry)) }
 {
     match part {
-        Part::Risk(risk) => {
+        PartRef::Risk(risk) => {
             if risk.pseudonode == 0 {
                 let name = RiskName {
                     from: node,
@@ -64,11 +69,11 @@ fn add_notes_by(node: SystemId, part: &Part, out: &mut Vec<RiskNote>) -> Result<
 }
 
 /// Appends what the parts of an LSP say.
-fn add_notes(node: SystemId, parts: &[Part], out: &mut Vec<RiskNote>) -> Result<(), AllocError>
+fn add_notes(node: SystemId, parts: &Parts, out: &mut Vec<RiskNote>) -> Result<(), AllocError>
     ensures { OnOk result (out.new.items ≡ out.old.items ++ notes_from node parts.now) }
 {
-    for part in parts {
-        add_notes_by(node, part, out)?;
+    for at in 0..parts.count() {
+        add_notes_by(node, parts.at(at), out)?;
     }
     Ok(())
 }
@@ -83,7 +88,7 @@ pub(crate) fn notes(alloc: Global, facts: &Facts) -> Result<Vec<RiskNote>, Alloc
     for (id, stored) in database {
         if id.pseudonode == 0 && is_present(facts, id.system) {
             match &stored.live {
-                Some(shared) => add_notes(id.system, shared.lsp().parts.as_slice(), &mut out)?,
+                Some(shared) => add_notes(id.system, &shared.lsp().parts, &mut out)?,
                 None => {}
             }
         }

@@ -5,6 +5,8 @@ pub mod Name
 pub mod Risk
 pub mod Capability
 pub mod Table
+pub mod Spots
+pub mod Parts
 pub mod Lsp
 pub mod InRange
 pub mod Text

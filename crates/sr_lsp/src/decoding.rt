@@ -9,8 +9,8 @@ ghost use Rattle.sr_lsp.specs.Table.{rows};
 
 use crate::header::{HEADER_OCTETS, Header};
 use crate::lsp::{Lsp, LspId};
+use crate::parts::Parts;
 use crate::table::{Part, push_parts};
-use sr_seq::Seq;
 use sr_wire::{Check, Malformed, ReadFault, frame};
 use std::alloc::Global;
 
@@ -41,7 +41,7 @@ pub fn read_lsp(alloc: Global, octets: &[u8]) -> Result<Lsp, ReadFault>
         sequence: header.sequence,
         checksum: header.checksum,
         flags: header.flags,
-        parts: Seq::new(parts),
+        parts: Parts::new(alloc, parts)?,
     })
 }
 

@@ -9,6 +9,7 @@ mod laws;
 mod lsp;
 mod name;
 mod octets;
+mod parts;
 mod prefix;
 mod prefix_extent;
 mod reach;
@@ -26,6 +27,7 @@ pub use laws::{
 };
 pub use lsp::{Lsp, LspId};
 pub use name::Name;
+pub use parts::{PartRef, Parts};
 pub use prefix::Prefix;
 pub use reach::Reach;
 pub use risk::Risk;

@@ -1,8 +1,7 @@
 //! A link-state PDU as a value.
 
-use crate::table::Part;
+use crate::parts::Parts;
 use sr_model::SystemId;
-use sr_seq::Seq;
 
 /// The name of a link-state PDU: its system, and the pseudonode and the fragment that it is of (ISO 10589, 9.9).
 #[derive(Clone, Copy, Debug, PartialEq, Eq, PartialOrd, Ord, Hash)]
@@ -20,5 +19,5 @@ pub struct Lsp {
     pub sequence: u32,
     pub checksum: u16,
     pub flags: u8,
-    pub parts: Seq<Part>,
+    pub parts: Parts,
 }

@@ -6,10 +6,12 @@ ghost use Rattle.sr_wire.specs.Fault.{IfMalformed};
 ghost use Rattle.sr_wire.specs.Format.{TlvSays, ValueFault};
 ghost use Rattle.sr_wire.specs.Parts.{HasShortValue, part_text};
 ghost use Rattle.sr_lsp.specs.declared.table.Part.{Part};
+ghost use Rattle.sr_lsp.specs.Parts.{part_of};
 ghost use Rattle.sr_lsp.specs.Table.{rows, spelling};
 
 use crate::capability::Capability;
 use crate::name::Name;
+use crate::parts::PartRef;
 use crate::prefix::Prefix;
 use crate::reach::Reach;
 use crate::risk::Risk;
@@ -33,11 +35,11 @@ pub enum Part {
 macro_rules! of_part {
     ($part:expr, $value:ident => $call:expr) => {
         match $part {
-            Part::Reach($value) => $call,
-            Part::Prefix($value) => $call,
-            Part::Name($value) => $call,
-            Part::Risk($value) => $call,
-            Part::Capability($value) => $call,
+            PartRef::Reach($value) => $call,
+            PartRef::Prefix($value) => $call,
+            PartRef::Name($value) => $call,
+            PartRef::Risk($value) => $call,
+            PartRef::Capability($value) => $call,
         }
     };
 }
@@ -69,33 +71,33 @@ pub(crate) fn push_parts(
 }
 
 /// How many octets the value of the part's TLV has.
-pub(crate) fn part_length(part: &Part) -> u128
-    requires { (spelling part.now).fits }
-    ensures { result ≡ length (spelling part.now).value }
+pub(crate) fn part_length(part: PartRef<'_>) -> u128
+    requires { (spelling (part_of part)).fits }
+    ensures { result ≡ length (spelling (part_of part.entry)).value }
 {
     of_part!(part, value => value.length())
 }
 
 /// Appends the TLV of a part. After an error what was there still stands, and other octets may follow it.
-pub(crate) fn write_part(part: &Part, out: &mut Vec<u8>) -> Result<(), AllocError>
-    requires fits { (spelling part.now).fits }
-    requires short { HasShortValue spelling part.now }
-    ensures ok { OnOk result (out.new.items ≡ out.old.items ++ part_text spelling part.now) }
+pub(crate) fn write_part(part: PartRef<'_>, out: &mut Vec<u8>) -> Result<(), AllocError>
+    requires fits { (spelling (part_of part)).fits }
+    requires short { HasShortValue spelling (part_of part) }
+    ensures ok { OnOk result (out.new.items ≡ out.old.items ++ part_text spelling (part_of part.entry)) }
     ensures err { OnErr result (Continues out.old.items out.new.items) }
 {
     of_part!(part, value => value.write(out))
 }
 
 /// Whether the fields of a part fit its layout.
-pub(crate) fn fits_part(part: &Part) -> bool
-    ensures { IsTrue result ↔ (spelling part.now).fits }
+pub(crate) fn fits_part(part: PartRef<'_>) -> bool
+    ensures { IsTrue result ↔ (spelling (part_of part.entry)).fits }
 {
     of_part!(part, value => value.fits())
 }
 
 /// The numbers of a part fit their octets, as those of every value in memory do.
-pub(crate) fn part_widths(part: &Part)
-    ensures { (spelling part.now).widths }
+pub(crate) fn part_widths(part: PartRef<'_>)
+    ensures { (spelling (part_of part.entry)).widths }
 {
     of_part!(part, value => value.widths())
 }

@@ -12,7 +12,8 @@ ghost use Rattle.sr_lsp.specs.WriteFault.{IsWriteFault};
 
 use crate::header::HEADER_OCTETS;
 use crate::lsp::Lsp;
-use crate::table::{Part, fits_part, part_length, part_widths, write_part};
+use crate::parts::Parts;
+use crate::table::{fits_part, part_length, part_widths, write_part};
 use crate::write_fault::WriteFault;
 use byteorder::{BigEndian, ByteOrder};
 use sr_wire::registry::{FRAME, LONGEST_PDU, LONGEST_VALUE};
@@ -22,8 +23,9 @@ use std::alloc::{AllocError, Global};
 pub fn in_range(lsp: &Lsp) -> bool
     ensures { IsTrue result ↔ FitsLsp lsp.now }
 {
-    for part in lsp.parts.as_slice() {
-        if !fits_part(part) {
+    let parts = &lsp.parts;
+    for place in 0..parts.count() {
+        if !fits_part(parts.at(place)) {
             return false;
         }
     }
@@ -65,15 +67,15 @@ fn widths_of(lsp: &Lsp)
     let _system = lsp.id.system.value();
     let _sequence = lsp.sequence;
     let _checksum = lsp.checksum;
-    widths_of_parts(lsp.parts.as_slice());
+    widths_of_parts(&lsp.parts);
 }
 
 /// The numbers of every part fit their octets.
-fn widths_of_parts(parts: &[Part])
+fn widths_of_parts(parts: &Parts)
     ensures { All HasPartWidths parts.now }
 {
-    for part in parts {
-        part_widths(part);
+    for place in 0..parts.count() {
+        part_widths(parts.at(place));
     }
 }
 
@@ -85,8 +87,9 @@ fn lsp_length(lsp: &Lsp) -> Result<u128, usize>
     ensures long { IfErr result (IsFirstTooLong spelling lsp.now.parts) }
 {
     let mut octets = HEADER_OCTETS as u128;
-    for (place, part) in lsp.parts.as_slice().iter().enumerate() {
-        let own = part_length(part);
+    let parts = &lsp.parts;
+    for place in 0..parts.count() {
+        let own = part_length(parts.at(place));
         if own > LONGEST_VALUE {
             return Err(place);
         }
@@ -104,8 +107,9 @@ fn write_octets(alloc: Global, lsp: &Lsp, octets: u16) -> Result<Vec<u8>, AllocE
 {
     let mut out = Vec::with_capacity(alloc, usize::from(octets))?;
     write_header(lsp, octets, &mut out)?;
-    for part in lsp.parts.as_slice() {
-        write_part(part, &mut out)?;
+    let parts = &lsp.parts;
+    for place in 0..parts.count() {
+        write_part(parts.at(place), &mut out)?;
     }
     Ok(out)
 }

@@ -24,9 +24,9 @@ use Rattle.sr_make.specs.declared.pairs.MadePair.{MadePair}
 use Rattle.sr_make.specs.declared.pairs.Span.{Span}
 use Rattle.sr_make.specs.Draws.{drawn_from, next_state}
 use Rattle.sr_make.specs.Pairs.{drawn_pair, drawn_pairs, made_pairs, made_spans}
-use Rattle.sr_make.specs.Nodes.{made_capability, made_links, made_lsp, made_prefix, made_reach, made_risk, sid_flags, touches}
+use Rattle.sr_make.specs.Nodes.{made_capability, made_links, made_lsp, made_prefix, made_reach, made_risk, made_sid_flags, touches}
 use Rattle.sr_make.specs.Script.{audit_lines, lsp_line, lsp_lines, made_script}
-use Rattle.sr_make.specs.Sizes.{ArePairs, EachMadePduFits, IsMadePair}
+use Rattle.sr_make.specs.Sizes.{AreMadePairs, EachMadePduFits, IsMadePair}
 use Rattle.sr_make.proofs.PairLemmas.{length-kept, length-spans}
 
 -- ---- the pairs
@@ -48,7 +48,7 @@ pairs-small x number (span ∷ spans) few =
     (pairs-small (next_state (next_state x)) (number + 1) spans (omega (arith, few)))
 
 -- the pairs of a made net are few, and their numbers small
-pub made-small : (nodes start : ℕ) → nodes ≤ MOST_NODES → ArePairs (made_pairs nodes start)
+pub made-small : (nodes start : ℕ) → nodes ≤ MOST_NODES → AreMadePairs (made_pairs nodes start)
 made-small nodes start most =
     let spans = length-spans nodes in
     record {
@@ -85,15 +85,15 @@ capability-fits i =
 
 prefix-fits : (i : ℕ) → i < 2 ^ 16 → FitsPart (made_prefix i)
 prefix-fits i small =
-    let sid : FitsPrefixSid (record { flags = sid_flags i; algorithm = 0; sid = Index i }) = (flags-form (i % 3 == 0) (i % 6 == 0), omega (arith, small)) in
-    record { bits = omega arith; past = All-nil (λ octet. octet ≡ 0); subs = (All-cons FitsPrefixSid (record { flags = sid_flags i; algorithm = 0; sid = Index i }) [] sid (All-nil FitsPrefixSid), tt) }
+    let sid : FitsPrefixSid (record { flags = made_sid_flags i; algorithm = 0; sid = Index i }) = (flags-form (i % 3 == 0) (i % 6 == 0), omega (arith, small)) in
+    record { bits = omega arith; past = All-nil (λ octet. octet ≡ 0); subs = (All-cons FitsPrefixSid (record { flags = made_sid_flags i; algorithm = 0; sid = Index i }) [] sid (All-nil FitsPrefixSid), tt) }
 
 reach-fits : (i : ℕ) (pair : MadePair) → IsMadePair pair → FitsPart (made_reach i pair)
 reach-fits i pair small =
     let sid : FitsAdjSid (record { flags = ADJ_SID_FORM; weight = 0; sid = Label (24000 + pair.number) }) = (refl, omega (arith, small.number)) in
     record { metric = small.metric; link = (tt, (tt, (tt, (All-cons FitsAdjSid (record { flags = ADJ_SID_FORM; weight = 0; sid = Label (24000 + pair.number) }) [] sid (All-nil FitsAdjSid), tt)))) }
 
-pub node-range : (pairs : List MadePair) (i : ℕ) → ArePairs pairs → i < 2 ^ 16 → FitsLsp (made_lsp pairs i)
+pub node-range : (pairs : List MadePair) (i : ℕ) → AreMadePairs pairs → i < 2 ^ 16 → FitsLsp (made_lsp pairs i)
 node-range pairs i are small =
     parts-all FitsPart pairs i (capability-fits i) (prefix-fits i small) (λ k d less. reach-fits i (get_or pairs k d) (are.each k d less)) (λ k d less. tt)
 
@@ -133,10 +133,10 @@ parts-few pairs i =
     omega (arith, length-append (map (made_reach i) kept) (map (made_risk i) kept), length-map kept (made_reach i), length-map kept (made_risk i), length-kept (touches i) pairs)
 
 -- the PDU is short
-pub node-short : (pairs : List MadePair) (i : ℕ) → ArePairs pairs → pdu_length (made_lsp pairs i) ≤ 30807
+pub node-short : (pairs : List MadePair) (i : ℕ) → AreMadePairs pairs → pdu_length (made_lsp pairs i) ≤ 30807
 node-short pairs i are = omega (arith, body-short (made_lsp pairs i).parts (parts-short pairs i), parts-few pairs i, are.few)
 
-pub node-spelling : (pairs : List MadePair) (i : ℕ) → ArePairs pairs → HasSpelling (made_lsp pairs i)
+pub node-spelling : (pairs : List MadePair) (i : ℕ) → AreMadePairs pairs → HasSpelling (made_lsp pairs i)
 node-spelling pairs i are = record {
   parts = λ k d less. (let one = parts-short pairs i k d less in omega (arith, one));
   whole = omega (arith, node-short pairs i are);
@@ -148,14 +148,14 @@ header-long : (lsp : Lsp) (n : ℕ) → length (header_text lsp n) ≡ 27
 header-long lsp n = refl
 
 -- the line of a node is short
-line-short : (pairs : List MadePair) (i : ℕ) → ArePairs pairs → length (lsp_line pairs i) ≤ 61619
+line-short : (pairs : List MadePair) (i : ℕ) → AreMadePairs pairs → length (lsp_line pairs i) ≤ 61619
 line-short pairs i are =
     let lsp = made_lsp pairs i in
     let octets : length (lsp_text lsp) ≡ pdu_length lsp = length-append (header_text lsp (pdu_length lsp)) (body_text spelling lsp.parts) ∙ omega (arith, header-long lsp (pdu_length lsp)) in
     let digits : length (encode_lower (lsp_text lsp)) ≡ 2 * length (lsp_text lsp) = length-encode_with lower_digits (lsp_text lsp) in
     omega (arith, length-append (encode_lower (lsp_text lsp)) (codes "\n"), digits, octets, node-short pairs i are)
 
-lines-short : (pairs : List MadePair) (a n : ℕ) → ArePairs pairs → length (flat_map (lsp_line pairs) (range_with_len a n)) ≤ 61619 * n
+lines-short : (pairs : List MadePair) (a n : ℕ) → AreMadePairs pairs → length (flat_map (lsp_line pairs) (range_with_len a n)) ≤ 61619 * n
 lines-short pairs a zero are = omega arith
 lines-short pairs a (suc n) are =
     omega (arith, length-append (lsp_line pairs a) (flat_map (lsp_line pairs) (range_with_len (a + 1) n)), line-short pairs a are, lines-short pairs (a + 1) n are)

@@ -30,8 +30,8 @@ made_capability i = CapabilityPart (record {
 })
 
 -- the Prefix-SID of node i has the flag N, at each third node P too, and at each sixth E too (RFC 8667, 2.1)
-abbrev pub sid_flags : ℕ → ℕ
-sid_flags i = 0x40 + bit_if (i % 3 == 0) 0x20 + bit_if (i % 6 == 0) 0x10
+abbrev pub made_sid_flags : ℕ → ℕ
+made_sid_flags i = 0x40 + bit_if (i % 3 == 0) 0x20 + bit_if (i % 6 == 0) 0x10
 
 -- node i announces its own address as a prefix of 32 bits, with index i
 abbrev pub made_prefix : ℕ → Part
@@ -40,7 +40,7 @@ made_prefix i = PrefixPart (record {
   down = false;
   length = ADDRESS_BITS;
   prefix = address_of i;
-  sids = record { flags = sid_flags i; algorithm = 0; sid = Index i } ∷ [];
+  sids = record { flags = made_sid_flags i; algorithm = 0; sid = Index i } ∷ [];
 })
 
 -- node i announces its link of the pair: the pair's number is the link's identifier at both ends, and comes on top of

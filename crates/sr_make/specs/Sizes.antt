@@ -15,7 +15,7 @@ pub record IsMadePair (pair : MadePair) : Type 0 where
   pub metric : pair.metric < 2 ^ 24
 
 -- the numbers of each pair fit, and there are few pairs
-pub record ArePairs (pairs : List MadePair) : Type 0 where
+pub record AreMadePairs (pairs : List MadePair) : Type 0 where
   pub each : All IsMadePair pairs
   pub few : length pairs ≤ 512
 

@@ -4,7 +4,7 @@ ghost use Rattle.sr_engine.specs.Written.{Puts, written};
 ghost use Rattle.sr_make.specs.Making.{Makes};
 ghost use Rattle.sr_make.specs.Script.{made_script};
 
-use crate::pairs::pairs_of;
+use crate::pairs::made_pairs;
 use crate::script::{put_audit_lines, put_lsp_lines};
 use sr_base::{Sink, SinkFault};
 use sr_engine::{Answers, End};
@@ -28,7 +28,7 @@ fn put_script<K: Sink>(
     ensures { Puts (written (K.held sink.old) (K.faults sink.old) out.old)
         (written (K.held sink.new) (K.faults sink.new) out.new) (made_script nodes start) result }
 {
-    match pairs_of(alloc, nodes, start) {
+    match made_pairs(alloc, nodes, start) {
         Ok(pairs) => match put_lsp_lines(alloc, &pairs, nodes, out, sink) {
             Ok(()) => put_audit_lines(out, sink),
             Err(fault) => Err(fault),

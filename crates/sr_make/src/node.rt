@@ -1,10 +1,10 @@
 //! The link-state PDU of a node of a made net.
 ghost use Rattle.std.specs.Prelude.{All, ◌≡◌, ◌<◌, ◌++◌, ◌^◌, IfOk, OnOk, filter, map};
-ghost use Rattle.sr_make.specs.Nodes.{across, made_capability, made_links, made_lsp, made_prefix, made_reach, made_risk, sid_flags, touches};
-ghost use Rattle.sr_make.specs.Sizes.{ArePairs, IsMadePair};
+ghost use Rattle.sr_make.specs.Nodes.{across, made_capability, made_links, made_lsp, made_prefix, made_reach, made_risk, made_sid_flags, touches};
+ghost use Rattle.sr_make.specs.Sizes.{AreMadePairs, IsMadePair};
 
 use crate::pairs::MadePair;
-use sr_lsp::{Capability, Lsp, LspId, Part, Prefix, Reach, Risk};
+use sr_lsp::{Capability, Lsp, LspId, Part, Parts, Prefix, Reach, Risk};
 use sr_model::{Range, SystemId};
 use sr_seq::{Few, Seq};
 use sr_subtlv::{AdjSid, LinkIds, PrefixSid, Sid, SrCap};
@@ -71,7 +71,7 @@ fn capability_of(alloc: Global, node: u32) -> Result<Part, AllocError>
 
 /// The flags of the Prefix-SID of a node.
 fn flags_of(node: u32) -> u8
-    ensures { result ≡ sid_flags node }
+    ensures { result ≡ made_sid_flags node }
 {
     let keep = if node % 3 == 0 { KEEP } else { 0 };
     let explicit = if node % 6 == 0 { EXPLICIT } else { 0 };
@@ -177,10 +177,10 @@ fn push_reaches(
     alloc: Global,
     own: &[MadePair],
     node: u32,
-    parts: &mut Seq<Part>,
+    parts: &mut Vec<Part>,
 ) -> Result<(), AllocError>
     requires { All IsMadePair own.now }
-    ensures { OnOk result (parts.new ≡ parts.old ++ map (made_reach node) own.now) }
+    ensures { OnOk result (parts.new.items ≡ parts.old.items ++ map (made_reach node) own.now) }
 {
     for pair in own {
         parts.push(pair.reach(alloc, node)?)?;
@@ -193,9 +193,9 @@ fn push_risks(
     alloc: Global,
     own: &[MadePair],
     node: u32,
-    parts: &mut Seq<Part>,
+    parts: &mut Vec<Part>,
 ) -> Result<(), AllocError>
-    ensures { OnOk result (parts.new ≡ parts.old ++ map (made_risk node) own.now) }
+    ensures { OnOk result (parts.new.items ≡ parts.old.items ++ map (made_risk node) own.now) }
 {
     for pair in own {
         parts.push(pair.risk(alloc, node)?)?;
@@ -205,11 +205,11 @@ fn push_risks(
 
 /// The PDU of a node of the net of these pairs.
 pub(crate) fn lsp_of(alloc: Global, pairs: &[MadePair], node: u32) -> Result<Lsp, AllocError>
-    requires pairs { ArePairs pairs.now }
+    requires pairs { AreMadePairs pairs.now }
     requires node { node < 2 ^ 16 }
     ensures { IfOk result (λ lsp. lsp ≡ made_lsp pairs.now node) }
 {
-    let mut parts = Seq::empty(alloc);
+    let mut parts = Vec::new(alloc);
     parts.push(capability_of(alloc, node)?)?;
     parts.push(prefix_of(alloc, node)?)?;
     let own = pairs_at(alloc, pairs, node)?;
@@ -225,6 +225,6 @@ pub(crate) fn lsp_of(alloc: Global, pairs: &[MadePair], node: u32) -> Result<Lsp
         sequence: 1,
         checksum: 0,
         flags: LEVEL_2,
-        parts,
+        parts: Parts::new(alloc, parts)?,
     })
 }

@@ -101,7 +101,7 @@ fn draw_pairs(alloc: Global, spans: &[Span], start: u32) -> Result<Vec<MadePair>
 }
 
 /// The pairs of a net with this number of nodes, numbered from 1, by draws from this start.
-pub(crate) fn pairs_of(alloc: Global, nodes: u16, start: u32) -> Result<Vec<MadePair>, AllocError>
+pub(crate) fn made_pairs(alloc: Global, nodes: u16, start: u32) -> Result<Vec<MadePair>, AllocError>
     ensures { IfOk result (λ pairs. pairs.items ≡ made_pairs nodes start) }
 {
     let spans = spans_of(alloc, u32::from(nodes))?;

@@ -5,7 +5,7 @@ ghost use Rattle.sr_lsp.specs.Text.{HasSpelling, lsp_text};
 ghost use Rattle.sr_engine.specs.Written.{Puts, written};
 ghost use Rattle.sr_make.specs.Nodes.{made_lsp};
 ghost use Rattle.sr_make.specs.Script.{audit_lines, lsp_line, lsp_lines};
-ghost use Rattle.sr_make.specs.Sizes.{ArePairs};
+ghost use Rattle.sr_make.specs.Sizes.{AreMadePairs};
 
 use crate::node::lsp_of;
 use crate::pairs::MadePair;
@@ -29,7 +29,7 @@ fn octets_of(alloc: Global, lsp: &Lsp) -> Result<Vec<u8>, AllocError>
 
 /// The line that hands in the PDU of a node.
 fn line_of(alloc: Global, pairs: &[MadePair], node: u32) -> Result<Vec<u8>, AllocError>
-    requires pairs { ArePairs pairs.now }
+    requires pairs { AreMadePairs pairs.now }
     requires node { node < 2 ^ 16 }
     ensures { IfOk result (λ line. line.items ≡ lsp_line pairs.now node) }
 {
@@ -50,7 +50,7 @@ pub(crate) fn put_lsp_lines<K: Sink>(
     out: &mut Answers,
     sink: &mut K,
 ) -> Result<(), SinkFault>
-    requires { ArePairs pairs.now }
+    requires { AreMadePairs pairs.now }
     ensures { Puts (written (K.held sink.old) (K.faults sink.old) out.old)
         (written (K.held sink.new) (K.faults sink.new) out.new) (lsp_lines pairs.now nodes) result }
 {

@@ -3,5 +3,5 @@ use Rattle.sr_domain.specs.Nodes.{imposition_in}
 use Rattle.sr_domain.proofs.DepthLemmas.{plain_depths}
 use Rattle.sr_domain.proofs.nodes.imposition_in.Given as goal
 
-abbrev pub invariant-loop-part : goal.invariant-loop-part
-invariant-loop-part l = plain_depths (drop l.part-index l.parts) ≡ imposition_in l.parts
+abbrev pub invariant-loop-at : goal.invariant-loop-at
+invariant-loop-at l = plain_depths (drop l.at l.parts) ≡ imposition_in l.parts

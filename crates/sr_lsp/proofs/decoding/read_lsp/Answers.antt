@@ -11,4 +11,4 @@ returns-clause-range c =
     let P : List Part → Type 0 = λ ps. All FitsPart ps in
     let octets = c.args.octets.now in
     let parts = c.in-Ok-read_parts.parts.items in
-    subst P (sym c.new.ensures) (body_in_range (take (c.from.result - 27) (drop 27 octets)) parts (octets_range octets 27 c.from.result (λ k. omega (arith, c.type_inv.octets k))) c.in-Ok-read_parts.ensures.says)
+    subst P (sym c.in_ok-new.ensures) (body_in_range (take (c.from.result - 27) (drop 27 octets)) parts (octets_range octets 27 c.from.result (λ k. omega (arith, c.type_inv.octets k))) c.in-Ok-read_parts.ensures.says)

@@ -3,5 +3,5 @@ use Rattle.std.proofs.Common.{All, take}
 use Rattle.sr_lsp.specs.InRange.{FitsPart}
 use Rattle.sr_lsp.proofs.writing.in_range.Given as goal
 
-abbrev pub invariant-loop-part : goal.invariant-loop-part
-invariant-loop-part l = All FitsPart (take l.part-index l.part-items)
+abbrev pub invariant-loop-place : goal.invariant-loop-place
+invariant-loop-place l = All FitsPart (take l.place l.lsp.parts)

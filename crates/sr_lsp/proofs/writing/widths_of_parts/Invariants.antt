@@ -3,5 +3,5 @@ use Rattle.std.proofs.Common.{All, take}
 use Rattle.sr_lsp.specs.InRange.{HasPartWidths}
 use Rattle.sr_lsp.proofs.writing.widths_of_parts.Given as goal
 
-abbrev pub invariant-loop-part : goal.invariant-loop-part
-invariant-loop-part l = All HasPartWidths (take l.part-index l.parts)
+abbrev pub invariant-loop-place : goal.invariant-loop-place
+invariant-loop-place l = All HasPartWidths (take l.place l.parts)

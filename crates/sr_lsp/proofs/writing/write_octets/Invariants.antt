@@ -5,5 +5,5 @@ use Rattle.sr_lsp.specs.Table.{spelling}
 use Rattle.sr_lsp.specs.Text.{header_text}
 use Rattle.sr_lsp.proofs.writing.write_octets.Given as goal
 
-abbrev pub invariant-loop-part : goal.invariant-loop-part
-invariant-loop-part l = l.out.items ≡ header_text l.fn.lsp l.fn.octets ++ body_text spelling (take l.part-index l.part-items)
+abbrev pub invariant-loop-place : goal.invariant-loop-place
+invariant-loop-place l = l.out.items ≡ header_text l.fn.lsp l.fn.octets ++ body_text spelling (take l.place l.fn.lsp.parts)

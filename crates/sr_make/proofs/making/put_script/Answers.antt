@@ -3,13 +3,13 @@ use Rattle.sr_engine.specs.Written.{Breaks, Says, written}
 use Rattle.sr_engine.proofs.Answering.{breaks-more}
 use Rattle.sr_make.specs.Pairs.{made_pairs}
 use Rattle.sr_make.specs.Script.{audit_lines, lsp_lines}
-use Rattle.sr_make.specs.Sizes.{ArePairs}
+use Rattle.sr_make.specs.Sizes.{AreMadePairs}
 use Rattle.sr_make.proofs.MakingLemmas.{puts-then}
 use Rattle.sr_make.proofs.SizeLemmas.{made-small}
 use Rattle.sr_make.proofs.making.put_script.Goals as goal
 
 pub put_lsp_lines-requires : goal.put_lsp_lines-requires
-put_lsp_lines-requires g c = subst ArePairs (sym (c.deref.ensures.value ∙ c.in-Ok.ensures)) (made-small c.args.nodes c.args.start c.requires)
+put_lsp_lines-requires g c = subst AreMadePairs (sym (c.deref.ensures.value ∙ c.in-Ok.ensures)) (made-small c.args.nodes c.args.start c.requires)
 
 pub returns-in-Ok-put_lsp_lines : goal.returns-in-Ok-put_lsp_lines
 returns-in-Ok-put_lsp_lines g c =

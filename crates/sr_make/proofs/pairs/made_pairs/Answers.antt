@@ -1,6 +1,6 @@
 use Rattle.std.proofs.Common.{arith, ap, length, ◌∙◌}
 use Rattle.sr_make.proofs.PairLemmas.{length-spans}
-use Rattle.sr_make.proofs.pairs.pairs_of.Goals as goal
+use Rattle.sr_make.proofs.pairs.made_pairs.Goals as goal
 
 pub draw_pairs-requires : goal.draw_pairs-requires
 draw_pairs-requires c =
