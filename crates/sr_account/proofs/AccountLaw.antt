@@ -12,7 +12,7 @@ use Rattle.sr_account.specs.declared.aside.Aside.{Aside}
 use Rattle.sr_account.specs.declared.aside.Place.{Place}
 use Rattle.sr_account.specs.declared.aside.Reason.{Reason}
 use Rattle.sr_account.specs.declared.aside.Reason.TheVariants.{HostName}
-use Rattle.sr_account.specs.Items.{IsItem, IsPartAt, Item, PartPlace, PlaceBefore, place_of}
+use Rattle.sr_account.specs.Items.{IsFactItem, IsPartAt, Item, PartPlace, PlaceBefore, item_place}
 use Rattle.sr_account.specs.Items.Item.{OfPart, OfAdj, OfPrefix}
 use Rattle.sr_account.specs.Reasons.{IsUnhindered, LspFails, PartFails}
 use Rattle.sr_account.specs.Used.{IsPartUsed, IsUsed}
@@ -41,13 +41,13 @@ module _ (facts : Facts) (net : Net) (up : IsInOrder facts) (is : IsNetOf facts 
   part-free place (part.Capability capability) used r = ⊎_elim (lsp-free facts net up is place.id used.node used.of_node r) (capability-free facts net place capability used r)
 
   -- an item of which no reason holds is used
-  pub item-used : (item : Item) → IsItem facts item → IsUnhindered facts item → IsUsed facts net item
+  pub item-used : (item : Item) → IsFactItem facts item → IsUnhindered facts item → IsUsed facts net item
   item-used (OfPart place said) has free = part-used place said has (λ r fails. free r (inl fails)) (λ r fails. free r (inr fails))
   item-used (OfAdj place reach k sid) has free = adj-used facts net is place reach k sid has.0 has.1 (λ r fails. free r (inl fails)) (λ r fails. free r (inr (inl fails))) (λ r fails. free r (inr (inr fails)))
   item-used (OfPrefix place prefix k sid) has free = prefix-sid-used facts net up is place prefix k sid has.0 has.1 (λ r fails. free r (inl fails)) (λ r fails. free r (inr fails))
 
   -- no reason holds of an item that is used
-  pub item-free : (item : Item) → IsItem facts item → IsUsed facts net item → IsUnhindered facts item
+  pub item-free : (item : Item) → IsFactItem facts item → IsUsed facts net item → IsUnhindered facts item
   item-free (OfPart place said) has used = part-free place said used
   item-free (OfAdj place reach k sid) has used = λ r. ⊎_elim
       (lsp-free facts net up is place.id used.gives.node used.gives.of_node r)
@@ -58,7 +58,7 @@ module _ (facts : Facts) (net : Net) (up : IsInOrder facts) (is : IsNetOf facts 
 
 module _ (facts : Facts) (asides : List Aside) (are : AreAsides facts asides) where
   -- a line tells of the item at its place, of which a reason holds
-  told-item : (item : Item) → IsItem facts item → (n : ℕ) (aside : Aside) → slice_get asides n ≡ Some aside → aside.place ≡ place_of item → IsUnhindered facts item → ⊥
+  told-item : (item : Item) → IsFactItem facts item → (n : ℕ) (aside : Aside) → slice_get asides n ≡ Some aside → aside.place ≡ item_place item → IsUnhindered facts item → ⊥
   told-item item has n aside at place free =
       let line = are.each n aside at in
       let same : line.item ≡ item = item-one facts line.item item line.is_item has (ap (λ (a : Aside). a.place) (sym line.is) ∙ place) in

@@ -21,6 +21,7 @@ use Rattle.sr_lsp.specs.declared.table.Part.TheVariants as part
 use Rattle.sr_lsdb.specs.declared.facts.Stored.{Stored}
 use Rattle.sr_lsdb.specs.declared.facts.Facts.{Facts}
 use Rattle.sr_lsdb.specs.Order.{id_cmp}
+use Rattle.sr_domain.proofs.DepthLemmas.{first-append as first-of_two}
 use Rattle.sr_domain.specs.Announced.{parts_of}
 use Rattle.sr_domain.specs.Nodes.{first_ranges, imposition_by, imposition_of, is_own, labels_of, msds_in, own_parts, ranges_from, ranges_in, srgb_of}
 use Rattle.sr_domain.specs.Net.{IsNetOf}
@@ -30,7 +31,7 @@ use Rattle.sr_account.specs.declared.aside.Reason.TheVariants.{Silent, NotFirst}
 use Rattle.sr_account.specs.Items.{IsPartAt, PartPlace, PlaceBefore, part_place}
 use Rattle.sr_account.specs.Laws.{IsInOrder}
 use Rattle.sr_account.specs.Reasons.{CapabilityFails, IsSaidBefore, LspFails, SaysImposition, SaysRanges}
-use Rattle.sr_account.specs.Used.{GivesCapability, IsNodeOf}
+use Rattle.sr_account.specs.Used.{GivesCapability, IsNodeOfLsp}
 use Rattle.sr_account.proofs.SearchLaw.{Decided, decided-both, decided-like, decided-test}
 use Rattle.sr_account.proofs.PlaceLaw.{decided-before, entry-from, entry-to, search-parts}
 use Rattle.sr_account.proofs.LinkLaw.{labels-node}
@@ -70,10 +71,6 @@ ranges-as node (e ∷ es) = ap (λ (o : Option (List Range)). option_or o (range
 -- the first MSD of a part
 abbrev depth_in : Part → Option ℕ
 depth_in said = slice_get (filter_map imposition_by (msds_in said)) 0
-
-first-of_two : (xs ys : List ℕ) → slice_get (xs ++ ys) 0 ≡ option_or (slice_get xs 0) (slice_get ys 0)
-first-of_two [] ys = refl
-first-of_two (x ∷ xs) ys = refl
 
 depth-parts : (parts : List Part) → slice_get (filter_map imposition_by (flat_map msds_in parts)) 0 ≡ first_by depth_in parts
 depth-parts [] = refl
@@ -194,7 +191,7 @@ first-or facts up says decide place said = by (decide said) (decided-said facts 
 
 -- ---- the two ways
 
-module _ (facts : Facts) (net : Net) (up : IsInOrder facts) (is : IsNetOf facts net) (place : PartPlace) (capability : Capability) (at : IsPartAt facts place (part.Capability capability)) (v : ℕ) (node : IsNodeOf net place.id v) where
+module _ (facts : Facts) (net : Net) (up : IsInOrder facts) (is : IsNetOf facts net) (place : PartPlace) (capability : Capability) (at : IsPartAt facts place (part.Capability capability)) (v : ℕ) (node : IsNodeOfLsp net place.id v) where
   labels-same : labels_at net v ≡ labels_of facts place.id.system
   labels-same = labels-node facts net is v node.within ∙ ap (labels_of facts) node.system
 
@@ -234,7 +231,7 @@ capability-used facts net up is place capability at clear free =
     let v = node-used facts net is place.id clear in
     by v.0 v.1 (first-or facts up SaysRanges decided-ranges place (part.Capability capability)) (first-or facts up SaysImposition decided-depth place (part.Capability capability))
   where
-    by : (v : ℕ) → IsNodeOf net place.id v → (SaysRanges (part.Capability capability) × (IsSaidBefore SaysRanges facts place → ⊥)) ⊎ (SaysRanges (part.Capability capability) → IsSaidBefore SaysRanges facts place) → (SaysImposition (part.Capability capability) × (IsSaidBefore SaysImposition facts place → ⊥)) ⊎ (SaysImposition (part.Capability capability) → IsSaidBefore SaysImposition facts place) → GivesCapability facts net place capability
+    by : (v : ℕ) → IsNodeOfLsp net place.id v → (SaysRanges (part.Capability capability) × (IsSaidBefore SaysRanges facts place → ⊥)) ⊎ (SaysRanges (part.Capability capability) → IsSaidBefore SaysRanges facts place) → (SaysImposition (part.Capability capability) × (IsSaidBefore SaysImposition facts place → ⊥)) ⊎ (SaysImposition (part.Capability capability) → IsSaidBefore SaysImposition facts place) → GivesCapability facts net place capability
     by v node (inl first) depth = gives-ranges facts net up is place capability at v node first.0 first.1
     by v node (inr late) (inl first) = gives-depth facts net up is place capability at v node first.0 first.1
     by v node (inr late) (inr later_too) = absurd (free NotFirst (late, later_too))

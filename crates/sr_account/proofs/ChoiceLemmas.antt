@@ -24,7 +24,7 @@ use Rattle.sr_account.specs.declared.choice.OwnPart.{OwnPart}
 use Rattle.sr_account.specs.declared.choice.Saying.{Saying}
 use Rattle.sr_account.specs.Items.{Item, PartPlace}
 use Rattle.sr_account.specs.Items.Item.{OfPart, OfAdj, OfPrefix}
-use Rattle.sr_account.specs.Steps.{adj_item, at_part, each_from, entry_items, first_saying, items_in, least_offer, lesser_offer, offer_at, offer_of, own_part, part_items, prefix_item, says, sid_items}
+use Rattle.sr_account.specs.Steps.{adj_item, at_part, each_from, entry_items, first_saying, items_of_entries, least_offer, lesser_offer, index_offer, offer_of, own_part, part_items, prefix_item, says, sid_items}
 use Rattle.sr_account.proofs.EachLemmas.{each-next, get-any}
 
 pub lesser-none : (found : Option Offer) → lesser_offer found None ≡ found
@@ -45,11 +45,11 @@ least-next give i xs x found next lt e f =
 pub least-end : {X : Type 0} (give : ℕ → X → List Item) (i : ℕ) (xs : List X) (found : Option Offer) → length xs ≤ i → least_offer found (each_from give i (drop i xs)) ≡ found
 least-end {X} give i xs found le = ap (λ (ys : List X). least_offer found (each_from give i ys)) (drop_of_length-le xs le)
 
-pub least-host : (place : PartPlace) (prefix : Prefix) (k : ℕ) (sid : PrefixSid) → prefix.length ≡ ADDRESS_BITS → offer_of (OfPrefix place prefix k sid) ≡ offer_at place.id.fragment place.part k sid
-least-host place prefix k sid host = ap (λ (n : ℕ). cond (n == ADDRESS_BITS) (offer_at place.id.fragment place.part k sid) None) host
+pub least-host : (place : PartPlace) (prefix : Prefix) (k : ℕ) (sid : PrefixSid) → prefix.length ≡ ADDRESS_BITS → offer_of (OfPrefix place prefix k sid) ≡ index_offer place.id.fragment place.part k sid
+least-host place prefix k sid host = ap (λ (n : ℕ). cond (n == ADDRESS_BITS) (index_offer place.id.fragment place.part k sid) None) host
 
 -- one more SID of a prefix of full length
-pub least-sid : (id : LspId) (at : ℕ) (prefix : Prefix) (k : ℕ) (xs : List PrefixSid) (d : PrefixSid) (found mid next : Option Offer) → prefix.length ≡ ADDRESS_BITS → k < length xs → next ≡ lesser_offer found mid → mid ≡ offer_at id.fragment at k (get_or xs k d) → least_offer next (each_from (prefix_item (at_part id at) prefix) (k + 1) (drop (k + 1) xs)) ≡ least_offer found (each_from (prefix_item (at_part id at) prefix) k (drop k xs))
+pub least-sid : (id : LspId) (at : ℕ) (prefix : Prefix) (k : ℕ) (xs : List PrefixSid) (d : PrefixSid) (found mid next : Option Offer) → prefix.length ≡ ADDRESS_BITS → k < length xs → next ≡ lesser_offer found mid → mid ≡ index_offer id.fragment at k (get_or xs k d) → least_offer next (each_from (prefix_item (at_part id at) prefix) (k + 1) (drop (k + 1) xs)) ≡ least_offer found (each_from (prefix_item (at_part id at) prefix) k (drop k xs))
 least-sid id at prefix k xs d found mid next host lt e f =
     least-next (prefix_item (at_part id at) prefix) k xs (get_or xs k d) found next lt (get-any xs k (get_or xs k d) d lt)
     (e ∙ ap (lesser_offer found) (f ∙ sym (least-host (at_part id at) prefix k (get_or xs k d) host)))
@@ -58,11 +58,11 @@ least-sid id at prefix k xs d found mid next host lt e f =
 parts-live : (stored : Stored) (shared : Lsp) (slice : List Part) → stored.live ≡ Some shared → slice ≡ shared.parts → slice ≡ parts_of stored.live
 parts-live stored shared slice live e = e ∙ ap parts_of (sym live)
 
-pub least-entry : (id : LspId) (stored : Stored) (shared : Lsp) (slice : List Part) (es rest : List (LspId × Stored)) (found next : Option Offer) → es ≡ (id, stored) ∷ rest → stored.live ≡ Some shared → slice ≡ shared.parts → next ≡ least_offer found (each_from (part_items id) 0 slice) → least_offer next (items_in rest) ≡ least_offer found (items_in es)
+pub least-entry : (id : LspId) (stored : Stored) (shared : Lsp) (slice : List Part) (es rest : List (LspId × Stored)) (found next : Option Offer) → es ≡ (id, stored) ∷ rest → stored.live ≡ Some shared → slice ≡ shared.parts → next ≡ least_offer found (each_from (part_items id) 0 slice) → least_offer next (items_of_entries rest) ≡ least_offer found (items_of_entries es)
 least-entry id stored shared slice es rest found next step live e f =
-    ap (λ (o : Option Offer). least_offer o (items_in rest)) (f ∙ ap (λ (ps : List Part). least_offer found (each_from (part_items id) 0 ps)) (parts-live stored shared slice live e))
-    ∙ sym (least-append found (entry_items (id, stored)) (items_in rest))
-    ∙ ap (λ (l : List (LspId × Stored)). least_offer found (items_in l)) (sym step)
+    ap (λ (o : Option Offer). least_offer o (items_of_entries rest)) (f ∙ ap (λ (ps : List Part). least_offer found (each_from (part_items id) 0 ps)) (parts-live stored shared slice live e))
+    ∙ sym (least-append found (entry_items (id, stored)) (items_of_entries rest))
+    ∙ ap (λ (l : List (LspId × Stored)). least_offer found (items_of_entries l)) (sym step)
 
 -- what isn't a Prefix-SID of a prefix of full length offers nothing
 least-adj : (found : Option Offer) (place : PartPlace) (reach : Reach) (n : ℕ) (sids : List AdjSid) → least_offer found (each_from (adj_item place reach) n sids) ≡ found
@@ -70,7 +70,7 @@ least-adj found place reach n [] = refl
 least-adj found place reach n (sid ∷ sids) = ap (λ (o : Option Offer). least_offer o (each_from (adj_item place reach) (n + 1) sids)) (lesser-none found) ∙ least-adj found place reach (n + 1) sids
 
 offer-not : (place : PartPlace) (prefix : Prefix) (k : ℕ) (sid : PrefixSid) → prefix.length ≢ ADDRESS_BITS → offer_of (OfPrefix place prefix k sid) ≡ None
-offer-not place prefix k sid other = ap (λ (b : Bool). cond b (offer_at place.id.fragment place.part k sid) None) (apart prefix.length other)
+offer-not place prefix k sid other = ap (λ (b : Bool). cond b (index_offer place.id.fragment place.part k sid) None) (apart prefix.length other)
   where
     apart : (n : ℕ) → n ≢ ADDRESS_BITS → (n == ADDRESS_BITS) ≡ false
     apart n h = grind (arith, nat_tests)
@@ -141,23 +141,23 @@ pub saying-passed : (saying : Saying) (id : LspId) (i : ℕ) (xs : List Part) (x
 saying-passed saying id i xs x lt e f = sym (saying-next saying id i xs x lt e ∙ ap (λ (b : Bool). option_or (cond b (Some (own_part id i)) None) (first_saying saying (each_from (part_items id) (i + 1) (drop (i + 1) xs)))) (sym f))
 
 -- one more LSP
-saying-entry : (saying : Saying) (id : LspId) (stored : Stored) (shared : Lsp) (slice : List Part) (es rest : List (LspId × Stored)) → es ≡ (id, stored) ∷ rest → stored.live ≡ Some shared → slice ≡ shared.parts → first_saying saying (items_in es) ≡ option_or (first_saying saying (each_from (part_items id) 0 slice)) (first_saying saying (items_in rest))
+saying-entry : (saying : Saying) (id : LspId) (stored : Stored) (shared : Lsp) (slice : List Part) (es rest : List (LspId × Stored)) → es ≡ (id, stored) ∷ rest → stored.live ≡ Some shared → slice ≡ shared.parts → first_saying saying (items_of_entries es) ≡ option_or (first_saying saying (each_from (part_items id) 0 slice)) (first_saying saying (items_of_entries rest))
 saying-entry saying id stored shared slice es rest step live e =
-    ap (λ (l : List (LspId × Stored)). first_saying saying (items_in l)) step
-    ∙ saying-append saying (entry_items (id, stored)) (items_in rest)
-    ∙ ap (λ (ps : List Part). option_or (first_saying saying (each_from (part_items id) 0 ps)) (first_saying saying (items_in rest))) (sym (parts-live stored shared slice live e))
+    ap (λ (l : List (LspId × Stored)). first_saying saying (items_of_entries l)) step
+    ∙ saying-append saying (entry_items (id, stored)) (items_of_entries rest)
+    ∙ ap (λ (ps : List Part). option_or (first_saying saying (each_from (part_items id) 0 ps)) (first_saying saying (items_of_entries rest))) (sym (parts-live stored shared slice live e))
 
-pub saying-entry_found : (saying : Saying) (id : LspId) (stored : Stored) (shared : Lsp) (slice : List Part) (es rest : List (LspId × Stored)) (place : OwnPart) → es ≡ (id, stored) ∷ rest → stored.live ≡ Some shared → slice ≡ shared.parts → Some place ≡ first_saying saying (each_from (part_items id) 0 slice) → Some place ≡ first_saying saying (items_in es)
+pub saying-entry_found : (saying : Saying) (id : LspId) (stored : Stored) (shared : Lsp) (slice : List Part) (es rest : List (LspId × Stored)) (place : OwnPart) → es ≡ (id, stored) ∷ rest → stored.live ≡ Some shared → slice ≡ shared.parts → Some place ≡ first_saying saying (each_from (part_items id) 0 slice) → Some place ≡ first_saying saying (items_of_entries es)
 saying-entry_found saying id stored shared slice es rest place step live e f =
-    ap (λ (o : Option OwnPart). option_or o (first_saying saying (items_in rest))) f ∙ sym (saying-entry saying id stored shared slice es rest step live e)
+    ap (λ (o : Option OwnPart). option_or o (first_saying saying (items_of_entries rest))) f ∙ sym (saying-entry saying id stored shared slice es rest step live e)
 
-pub saying-entry_passed : (saying : Saying) (id : LspId) (stored : Stored) (shared : Lsp) (slice : List Part) (es rest : List (LspId × Stored)) → es ≡ (id, stored) ∷ rest → stored.live ≡ Some shared → slice ≡ shared.parts → None ≡ first_saying saying (each_from (part_items id) 0 slice) → first_saying saying (items_in rest) ≡ first_saying saying (items_in es)
+pub saying-entry_passed : (saying : Saying) (id : LspId) (stored : Stored) (shared : Lsp) (slice : List Part) (es rest : List (LspId × Stored)) → es ≡ (id, stored) ∷ rest → stored.live ≡ Some shared → slice ≡ shared.parts → None ≡ first_saying saying (each_from (part_items id) 0 slice) → first_saying saying (items_of_entries rest) ≡ first_saying saying (items_of_entries es)
 saying-entry_passed saying id stored shared slice es rest step live e f =
-    ap (λ (o : Option OwnPart). option_or o (first_saying saying (items_in rest))) f ∙ sym (saying-entry saying id stored shared slice es rest step live e)
+    ap (λ (o : Option OwnPart). option_or o (first_saying saying (items_of_entries rest))) f ∙ sym (saying-entry saying id stored shared slice es rest step live e)
 
 -- the items of the part of the database that a range gave
-pub items-ranged : (n : ℕ) (ids : LspId × LspId) (es some : List (LspId × Stored)) → ids ≡ (first_id n, past_own n) → some ≡ entries_between id_cmp (Included ids.0) (Excluded ids.1) es → items_in some ≡ items_in (filter (λ (e : LspId × Stored). is_own n e.0) es)
+pub items-ranged : (n : ℕ) (ids : LspId × LspId) (es some : List (LspId × Stored)) → ids ≡ (first_id n, past_own n) → some ≡ entries_between id_cmp (Included ids.0) (Excluded ids.1) es → items_of_entries some ≡ items_of_entries (filter (λ (e : LspId × Stored). is_own n e.0) es)
 items-ranged n ids es some e f =
-    ap items_in f
-    ∙ ap (λ (i : LspId × LspId). items_in (entries_between id_cmp (Included i.0) (Excluded i.1) es)) e
-    ∙ ap items_in (own-entries n es)
+    ap items_of_entries f
+    ∙ ap (λ (i : LspId × LspId). items_of_entries (entries_between id_cmp (Included i.0) (Excluded i.1) es)) e
+    ∙ ap items_of_entries (own-entries n es)

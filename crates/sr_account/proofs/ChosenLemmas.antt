@@ -10,7 +10,6 @@ use Rattle.std.proofs.lemmas.Cmp.{tied_itself}
 use Rattle.sr_wire.specs.declared.registry.TheConstants.{ADDRESS_BITS}
 use Rattle.sr_subtlv.specs.declared.prefix_sid.PrefixSid.{PrefixSid}
 use Rattle.sr_lsp.specs.declared.lsp.LspId.{LspId}
-use Rattle.sr_lsp.specs.declared.prefix.Prefix.{Prefix}
 use Rattle.sr_lsp.specs.declared.table.Part.{Part}
 use Rattle.sr_lsp.specs.declared.table.Part.TheVariants as part
 use Rattle.sr_lsdb.specs.declared.facts.Facts.{Facts}
@@ -25,10 +24,10 @@ use Rattle.sr_account.specs.declared.choice.Offer.{Offer}
 use Rattle.sr_account.specs.declared.choice.OwnPart.{OwnPart}
 use Rattle.sr_account.specs.declared.choice.Saying.{Saying}
 use Rattle.sr_account.specs.declared.choice.Saying.TheVariants.{Ranges, Imposition}
-use Rattle.sr_account.specs.Items.{Item, IsPartAt, PartPlace, PlaceBefore, SidBefore, part_place, place_of, sid_place}
+use Rattle.sr_account.specs.Items.{Item, IsPartAt, PartPlace, PlaceBefore, SidBefore, part_place, item_place, sid_place}
 use Rattle.sr_account.specs.Items.Item.{OfPart, OfAdj, OfPrefix}
 use Rattle.sr_account.specs.Reasons.{IsCandidate, IsSaidBefore, SaysImposition}
-use Rattle.sr_account.specs.Steps.{IsOfferAt, IsOwnPart, first_saying, least_offer, lesser_offer, offer_at, offer_of, own_items, own_part, says, saying_place}
+use Rattle.sr_account.specs.Steps.{IsOfferAt, IsOwnPart, first_saying, least_offer, lesser_offer, index_offer, offer_of, own_items, own_part, says, saying_place}
 use Rattle.sr_account.proofs.ChoiceLemmas.{lesser-none}
 use Rattle.sr_account.proofs.ItemLemmas.{Ascend, Before, IsOwnItem, own-ascend, own-from, own-to}
 
@@ -62,8 +61,8 @@ abbrev pub UpTo : Item → Item → Type 0
 UpTo a b = (a ≡ b) ⊎ Before a b
 
 pub up-not : (a b : Item) → UpTo a b → Before b a → ⊥
-up-not a b (inl same) g = let self : Before b b = subst (λ (i : Item). Before b i) same g in before-not (place_of b) (place_of b) self self
-up-not a b (inr h) g = before-not (place_of a) (place_of b) h g
+up-not a b (inl same) g = let self : Before b b = subst (λ (i : Item). Before b i) same g in before-not (item_place b) (item_place b) self self
+up-not a b (inr h) g = before-not (item_place a) (item_place b) h g
 
 -- the least of what items offer
 lesser_by : (a b c : Offer) → lesser_offer (lesser_offer (Some a) (Some b)) (Some c) ≡ lesser_offer (Some a) (lesser_offer (Some b) (Some c))
@@ -194,7 +193,7 @@ saying-chosen saying (item ∷ items) up = by (saying_place saying item) refl (f
 pub record IsOffering (facts : Facts) (node : ℕ) (item : Item) (offer : Offer) : Type 0 where
   pub place : PartPlace
   pub k : ℕ
-  pub is : place_of item ≡ sid_place place k
+  pub is : item_place item ≡ sid_place place k
   pub candidate : IsCandidate facts node place k offer.index
   pub at : IsOfferAt offer place k
 
@@ -214,7 +213,7 @@ record IsOfferBy (fragment at k : ℕ) (sid : PrefixSid) (offer : Offer) : Type 
   part_is : offer.part ≡ at
   sid_is : offer.sid ≡ k
 
-offer-by : (fragment at k : ℕ) (sid : PrefixSid) (offer : Offer) → offer_at fragment at k sid ≡ Some offer → IsOfferBy fragment at k sid offer
+offer-by : (fragment at k : ℕ) (sid : PrefixSid) (offer : Offer) → index_offer fragment at k sid ≡ Some offer → IsOfferBy fragment at k sid offer
 offer-by fragment at k sid offer e = by (node_sid_by sid) refl e
   where
     by : (o : Option NodeSid) → node_sid_by sid ≡ o → option_map (λ (given : NodeSid). record { index = given.index; fragment = fragment; part = at; sid = k }) o ≡ Some offer → IsOfferBy fragment at k sid offer
@@ -235,7 +234,7 @@ pub offering : (facts : Facts) (node : ℕ) (item : Item) (offer : Offer) → Is
 offering facts node (OfPart place said) offer own e = absurd (cc)
 offering facts node (OfAdj place reach k sid) offer own e = absurd (cc)
 offering facts node (OfPrefix place prefix k sid) offer own e =
-    let h = host-length prefix.length (offer_at place.id.fragment place.part k sid) offer e in
+    let h = host-length prefix.length (index_offer place.id.fragment place.part k sid) offer e in
     let by = offer-by place.id.fragment place.part k sid offer h.1 in
     record {
       place = place;
@@ -249,7 +248,7 @@ offering facts node (OfPrefix place prefix k sid) offer own e =
 pub record IsOffered (facts : Facts) (node : ℕ) (place : PartPlace) (k index : ℕ) : Type 0 where
   pub item : Item
   pub own : IsOwnItem facts node item
-  pub is : place_of item ≡ sid_place place k
+  pub is : item_place item ≡ sid_place place k
   pub offer : Offer
   pub offers : offer_of item ≡ Some offer
   pub index_is : offer.index ≡ index
@@ -263,7 +262,7 @@ offered facts node place k index c =
       own = record { is = (c.at, c.among); system = c.own; real = c.real };
       is = refl;
       offer = record { index = given.index; fragment = place.id.fragment; part = place.part; sid = k };
-      offers = ap (λ (n : ℕ). cond (n == ADDRESS_BITS) (offer_at place.id.fragment place.part k c.sid) None) c.host
+      offers = ap (λ (n : ℕ). cond (n == ADDRESS_BITS) (index_offer place.id.fragment place.part k c.sid) None) c.host
           ∙ ap (λ (o : Option NodeSid). option_map (λ (g : NodeSid). record { index = g.index; fragment = place.id.fragment; part = place.part; sid = k }) o) c.gives.1;
       index_is = c.gives.2;
       at = (refl, refl, refl);

@@ -39,7 +39,7 @@ use Rattle.sr_account.specs.declared.aside.Reason.{Reason}
 use Rattle.sr_account.specs.declared.aside.Reason.TheVariants.{Lan, Absent, Pseudonode, Itself, NeighbourAbsent, OneWay, Identity, MaximumMetric, Down, NotHost, NoSid, Silent, Algorithm, WrongForm, Flags, Backup, NotLeast, NotFirst, NoneUsed, NoGroups, NoLink, LinkUnused, HostName}
 use Rattle.sr_account.specs.declared.sources.LinkSource.{LinkSource}
 use Rattle.sr_account.specs.Items.{IsPartAt, Item, PartPlace, PlaceBefore, SidBefore}
-use Rattle.sr_account.specs.Reasons.{AdjFails, IsFirstReason, IsUnhindered, rank}
+use Rattle.sr_account.specs.Reasons.{AdjFails, IsFirstReason, IsUnhindered, reason_rank}
 use Rattle.sr_account.specs.Asides.{AreAsides, IsTold, aside_of}
 use Rattle.sr_account.specs.Sources.{AreFlagsOf, AreSources, IsSourceOf}
 use Rattle.sr_account.specs.Filling.{no_source}
@@ -54,7 +54,7 @@ use Rattle.sr_account.proofs.AdjUsed.{label-there, sid-first, sid-least, sid-say
 abbrev reason_at : ℕ → Reason
 reason_at n = (cond (n == 0) Lan (cond (n == 1) Absent (cond (n == 2) Pseudonode (cond (n == 3) Itself (cond (n == 4) NeighbourAbsent (cond (n == 5) OneWay (cond (n == 6) Identity (cond (n == 7) MaximumMetric (cond (n == 8) Down (cond (n == 9) NotHost (cond (n == 10) NoSid (cond (n == 11) Silent (cond (n == 12) Algorithm (cond (n == 13) WrongForm (cond (n == 14) Flags (cond (n == 15) Backup (cond (n == 16) NotLeast (cond (n == 17) NotFirst (cond (n == 18) NoneUsed (cond (n == 19) NoGroups (cond (n == 20) NoLink (cond (n == 21) LinkUnused HostName))))))))))))))))))))))
 
-rank-back : (r : Reason) → reason_at (rank r) ≡ r
+rank-back : (r : Reason) → reason_at (reason_rank r) ≡ r
 rank-back Lan = refl
 rank-back Absent = refl
 rank-back Pseudonode = refl
@@ -79,18 +79,18 @@ rank-back NoLink = refl
 rank-back LinkUnused = refl
 rank-back HostName = refl
 
-rank-one : (r s : Reason) → rank r ≡ rank s → r ≡ s
+rank-one : (r s : Reason) → reason_rank r ≡ reason_rank s → r ≡ s
 rank-one r s e = sym (rank-back r) ∙ ap reason_at e ∙ rank-back s
 
 -- an item has one first reason
-reason-one : (facts : Facts) (item : Item) (r s : Reason) → IsFirstReason facts item r → IsFirstReason facts item s → r ≡ s
+pub reason-one : (facts : Facts) (item : Item) (r s : Reason) → IsFirstReason facts item r → IsFirstReason facts item s → r ≡ s
 reason-one facts item r s one two = ⊎_elim
-    (λ (same : rank r ≡ rank s). rank-one r s same)
-    (λ (apart : (rank r < rank s) ⊎ (rank s < rank r)). ⊎_elim
-    (λ (less : rank r < rank s). absurd (two.first r less one.holds))
-    (λ (less : rank s < rank r). absurd (one.first s less two.holds))
+    (λ (same : reason_rank r ≡ reason_rank s). rank-one r s same)
+    (λ (apart : (reason_rank r < reason_rank s) ⊎ (reason_rank s < reason_rank r)). ⊎_elim
+    (λ (less : reason_rank r < reason_rank s). absurd (two.first r less one.holds))
+    (λ (less : reason_rank s < reason_rank r). absurd (one.first s less two.holds))
     apart)
-    (cases_order (rank r) (rank s))
+    (cases_order (reason_rank r) (reason_rank s))
 
 -- ---- the order of places
 

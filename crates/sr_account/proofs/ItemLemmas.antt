@@ -28,14 +28,14 @@ use Rattle.sr_domain.specs.Announced.{parts_of}
 use Rattle.sr_domain.specs.Nodes.{is_own}
 use Rattle.sr_domain.proofs.MemberLemmas.{here, later, cases, nowhere, all-of}
 use Rattle.sr_account.specs.declared.aside.Place.{Place}
-use Rattle.sr_account.specs.Items.{Item, IsItem, IsPartAt, PartPlace, PlaceBefore, part_place, parts_in, place_of, sid_place}
+use Rattle.sr_account.specs.Items.{Item, IsFactItem, IsPartAt, PartPlace, PlaceBefore, part_place, parts_in, item_place, sid_place}
 use Rattle.sr_account.specs.Items.Item.{OfPart, OfAdj, OfPrefix}
-use Rattle.sr_account.specs.Steps.{adj_item, at_part, each_from, entry_items, items_in, own_items, part_items, prefix_item, sid_items}
+use Rattle.sr_account.specs.Steps.{adj_item, at_part, each_from, entry_items, items_of_entries, own_items, part_items, prefix_item, sid_items}
 use Rattle.sr_account.proofs.EachLemmas.{each-from, each-to}
 
 -- the first item stands before the second
 abbrev pub Before : Item → Item → Type 0
-Before a b = PlaceBefore (place_of a) (place_of b)
+Before a b = PlaceBefore (item_place a) (item_place b)
 
 -- each item stands before all later ones
 abbrev pub Ascend : List Item → Type 0
@@ -64,11 +64,11 @@ ascend-one : (item : Item) → Ascend (item ∷ [])
 ascend-one item = (λ other c. absurd (nowhere other c), tt)
 
 -- where the SIDs of a part stand
-sid-at : (place : PartPlace) (said : Part) (item : Item) → Contains (sid_items place said) item → (k : ℕ) × (place_of item ≡ sid_place place k)
+sid-at : (place : PartPlace) (said : Part) (item : Item) → Contains (sid_items place said) item → (k : ℕ) × (item_place item ≡ sid_place place k)
 sid-at place (part.Reach reach) item c =
-    let f = each-from (adj_item place reach) 0 reach.adj item c in (0 + f.0, sym (ap place_of (only (OfAdj place reach (0 + f.0) f.1) item f.3)))
+    let f = each-from (adj_item place reach) 0 reach.adj item c in (0 + f.0, sym (ap item_place (only (OfAdj place reach (0 + f.0) f.1) item f.3)))
 sid-at place (part.Prefix prefix) item c =
-    let f = each-from (prefix_item place prefix) 0 prefix.sids item c in (0 + f.0, sym (ap place_of (only (OfPrefix place prefix (0 + f.0) f.1) item f.3)))
+    let f = each-from (prefix_item place prefix) 0 prefix.sids item c in (0 + f.0, sym (ap item_place (only (OfPrefix place prefix (0 + f.0) f.1) item f.3)))
 sid-at place _ item c = absurd (nowhere item c)
 
 -- the same place of an LSP, with the lesser SID
@@ -81,14 +81,14 @@ moved p q r s b e f = subst (λ (t : Place). PlaceBefore r t) f (subst (λ (t : 
 ascend-adj : (place : PartPlace) (reach : Reach) (n : ℕ) (sids : List AdjSid) → Ascend (each_from (adj_item place reach) n sids)
 ascend-adj place reach n sids = ascend-each (adj_item place reach) n sids
     (λ k sid. ascend-one (OfAdj place reach k sid))
-    (λ j k x y a b lt l r. moved (sid_place place j) (sid_place place k) (place_of a) (place_of b) (sid-before place j k lt)
-    (ap place_of (only (OfAdj place reach j x) a l)) (ap place_of (only (OfAdj place reach k y) b r)))
+    (λ j k x y a b lt l r. moved (sid_place place j) (sid_place place k) (item_place a) (item_place b) (sid-before place j k lt)
+    (ap item_place (only (OfAdj place reach j x) a l)) (ap item_place (only (OfAdj place reach k y) b r)))
 
 ascend-prefix : (place : PartPlace) (prefix : Prefix) (n : ℕ) (sids : List PrefixSid) → Ascend (each_from (prefix_item place prefix) n sids)
 ascend-prefix place prefix n sids = ascend-each (prefix_item place prefix) n sids
     (λ k sid. ascend-one (OfPrefix place prefix k sid))
-    (λ j k x y a b lt l r. moved (sid_place place j) (sid_place place k) (place_of a) (place_of b) (sid-before place j k lt)
-    (ap place_of (only (OfPrefix place prefix j x) a l)) (ap place_of (only (OfPrefix place prefix k y) b r)))
+    (λ j k x y a b lt l r. moved (sid_place place j) (sid_place place k) (item_place a) (item_place b) (sid-before place j k lt)
+    (ap item_place (only (OfPrefix place prefix j x) a l)) (ap item_place (only (OfPrefix place prefix k y) b r)))
 
 ascend-sids : (place : PartPlace) (said : Part) → Ascend (sid_items place said)
 ascend-sids place (part.Reach reach) = ascend-adj place reach 0 reach.adj
@@ -98,7 +98,7 @@ ascend-sids place _ = tt
 ascend-part : (id : LspId) (k : ℕ) (said : Part) → Ascend (part_items id k said)
 ascend-part id k said = (
   λ other c. let at = sid-at (at_part id k) said other c in
-      moved (part_place (at_part id k)) (sid_place (at_part id k) at.0) (part_place (at_part id k)) (place_of other) (inr (refl, inr (refl, tt))) refl (sym at.1),
+      moved (part_place (at_part id k)) (sid_place (at_part id k) at.0) (part_place (at_part id k)) (item_place other) (inr (refl, inr (refl, tt))) refl (sym at.1),
   ascend-sids (at_part id k) said,
 )
 
@@ -107,9 +107,9 @@ record IsWithin (id : LspId) (k : ℕ) (place : Place) : Type 0 where
   same_id : place.id ≡ id
   same_part : place.part ≡ k
 
-part-at : (id : LspId) (k : ℕ) (said : Part) (item : Item) → Contains (part_items id k said) item → IsWithin id k (place_of item)
+part-at : (id : LspId) (k : ℕ) (said : Part) (item : Item) → Contains (part_items id k said) item → IsWithin id k (item_place item)
 part-at id k said item c = ⊎_elim
-    (λ (e : OfPart (at_part id k) said ≡ item). let p : part_place (at_part id k) ≡ place_of item = ap place_of e in record { same_id = ap (λ (p : Place). p.id) (sym p); same_part = ap (λ (p : Place). p.part) (sym p) })
+    (λ (e : OfPart (at_part id k) said ≡ item). let p : part_place (at_part id k) ≡ item_place item = ap item_place e in record { same_id = ap (λ (p : Place). p.id) (sym p); same_part = ap (λ (p : Place). p.part) (sym p) })
     (λ (rest : Contains (sid_items (at_part id k) said) item). let at = sid-at (at_part id k) said item rest in record { same_id = ap (λ (p : Place). p.id) at.1; same_part = ap (λ (p : Place). p.part) at.1 })
     (cases (OfPart (at_part id k) said) (sid_items (at_part id k) said) item c)
 
@@ -117,24 +117,24 @@ ascend-entry : (entry : LspId × Stored) → Ascend (entry_items entry)
 ascend-entry entry = ascend-each (part_items entry.0) 0 (parts_of entry.1.live)
     (λ k said. ascend-part entry.0 k said)
     (λ j k x y a b lt l r. let p = part-at entry.0 j x a l in let q = part-at entry.0 k y b r in
-    inr (p.same_id ∙ sym q.same_id, inl (let first : (place_of a).part ≡ j = p.same_part in let second : (place_of b).part ≡ k = q.same_part in omega arith)))
+    inr (p.same_id ∙ sym q.same_id, inl (let first : (item_place a).part ≡ j = p.same_part in let second : (item_place b).part ≡ k = q.same_part in omega arith)))
 
-entry-at : (entry : LspId × Stored) (item : Item) → Contains (entry_items entry) item → (place_of item).id ≡ entry.0
+entry-at : (entry : LspId × Stored) (item : Item) → Contains (entry_items entry) item → (item_place item).id ≡ entry.0
 entry-at entry item c = let f = each-from (part_items entry.0) 0 (parts_of entry.1.live) item c in (part-at entry.0 (0 + f.0) f.1 item f.3).same_id
 
 -- the LSP of an item
-pub item-entry : (entries : List (LspId × Stored)) (item : Item) → Contains (items_in entries) item → (entry : LspId × Stored) × Contains entries entry × Contains (entry_items entry) item
+pub item-entry : (entries : List (LspId × Stored)) (item : Item) → Contains (items_of_entries entries) item → (entry : LspId × Stored) × Contains entries entry × Contains (entry_items entry) item
 item-entry [] item c = absurd (nowhere item c)
 item-entry (entry ∷ entries) item c = ⊎_elim
     (λ (now : Contains (entry_items entry) item). (entry, here entry entries, now))
-    (λ (rest : Contains (items_in entries) item). let r = item-entry entries item rest in (r.0, later entry entries r.0 r.1, r.2))
-    (Contains-append_cases (entry_items entry) (items_in entries) item c)
+    (λ (rest : Contains (items_of_entries entries) item). let r = item-entry entries item rest in (r.0, later entry entries r.0 r.1, r.2))
+    (Contains-append_cases (entry_items entry) (items_of_entries entries) item c)
 
-pub entry-item : (entries : List (LspId × Stored)) (entry : LspId × Stored) (item : Item) → Contains entries entry → Contains (entry_items entry) item → Contains (items_in entries) item
+pub entry-item : (entries : List (LspId × Stored)) (entry : LspId × Stored) (item : Item) → Contains entries entry → Contains (entry_items entry) item → Contains (items_of_entries entries) item
 entry-item [] entry item c at = absurd (nowhere entry c)
 entry-item (first ∷ entries) entry item c at = ⊎_elim
-    (λ (e : first ≡ entry). Contains-append_left (entry_items first) (items_in entries) item (subst (λ (x : LspId × Stored). Contains (entry_items x) item) (sym e) at))
-    (λ (rest : Contains entries entry). Contains-append_right (entry_items first) (items_in entries) item (entry-item entries entry item rest at))
+    (λ (e : first ≡ entry). Contains-append_left (entry_items first) (items_of_entries entries) item (subst (λ (x : LspId × Stored). Contains (entry_items x) item) (sym e) at))
+    (λ (rest : Contains entries entry). Contains-append_right (entry_items first) (items_of_entries entries) item (entry-item entries entry item rest at))
     (cases first entries entry c)
 
 key-there : (entries : List (LspId × Stored)) (entry : LspId × Stored) → Contains entries entry → Contains (keys_of entries) entry.0
@@ -145,14 +145,14 @@ key-there (first ∷ entries) entry c = ⊎_elim
     (cases first entries entry c)
 
 -- the items of LSPs in order of ids ascend
-pub items-ascend : (entries : List (LspId × Stored)) → IsStrictlySortedBy id_cmp (keys_of entries) → Ascend (items_in entries)
+pub items-ascend : (entries : List (LspId × Stored)) → IsStrictlySortedBy id_cmp (keys_of entries) → Ascend (items_of_entries entries)
 unfolding IsStrictlySortedBy
 items-ascend [] up = tt
 items-ascend (entry ∷ entries) up =
-    ascend-append (entry_items entry) (items_in entries) (ascend-entry entry) (items-ascend entries up.1)
+    ascend-append (entry_items entry) (items_of_entries entries) (ascend-entry entry) (items-ascend entries up.1)
     (λ a b l r. let f = item-entry entries b r in
     let less : id_cmp entry.0 f.0.0 ≡ Less = all-of (λ (i : LspId). id_cmp entry.0 i ≡ Less) (keys_of entries) f.0.0 up.0 (key-there entries f.0 f.1) in
-    inl (ap (λ (i : LspId). id_cmp i (place_of b).id) (entry-at entry a l) ∙ ap (λ (i : LspId). id_cmp entry.0 i) (entry-at f.0 b f.2) ∙ less))
+    inl (ap (λ (i : LspId). id_cmp i (item_place b).id) (entry-at entry a l) ∙ ap (λ (i : LspId). id_cmp entry.0 i) (entry-at f.0 b f.2) ∙ less))
 
 -- what is stored under the id of an entry of an ordered database
 pub stored-there : (entries : List (LspId × Stored)) (entry : LspId × Stored) → IsStrictlySortedBy id_cmp (keys_of entries) → Contains entries entry → stored_at entries entry.0 ≡ Some entry.1
@@ -179,23 +179,23 @@ stored-entry (first ∷ entries) id stored e = by (λ h. stored-entry entries id
     by rest false at h = later first entries (id, stored) (rest h)
 
 -- an item of a part that the facts have
-sid-item : (facts : Facts) (place : PartPlace) (said : Part) (item : Item) → IsPartAt facts place said → Contains (sid_items place said) item → IsItem facts item
+sid-item : (facts : Facts) (place : PartPlace) (said : Part) (item : Item) → IsPartAt facts place said → Contains (sid_items place said) item → IsFactItem facts item
 sid-item facts place (part.Reach reach) item at c =
     let f = each-from (adj_item place reach) 0 reach.adj item c in
-    subst (λ (i : Item). IsItem facts i) (only (OfAdj place reach (0 + f.0) f.1) item f.3) (at, ap (slice_get reach.adj) (let same : 0 + f.0 ≡ f.0 = omega arith in same) ∙ f.2)
+    subst (λ (i : Item). IsFactItem facts i) (only (OfAdj place reach (0 + f.0) f.1) item f.3) (at, ap (slice_get reach.adj) (let same : 0 + f.0 ≡ f.0 = omega arith in same) ∙ f.2)
 sid-item facts place (part.Prefix prefix) item at c =
     let f = each-from (prefix_item place prefix) 0 prefix.sids item c in
-    subst (λ (i : Item). IsItem facts i) (only (OfPrefix place prefix (0 + f.0) f.1) item f.3) (at, ap (slice_get prefix.sids) (let same : 0 + f.0 ≡ f.0 = omega arith in same) ∙ f.2)
+    subst (λ (i : Item). IsFactItem facts i) (only (OfPrefix place prefix (0 + f.0) f.1) item f.3) (at, ap (slice_get prefix.sids) (let same : 0 + f.0 ≡ f.0 = omega arith in same) ∙ f.2)
 sid-item facts place _ item at c = absurd (nowhere item c)
 
-part-item : (facts : Facts) (id : LspId) (k : ℕ) (said : Part) (item : Item) → IsPartAt facts (at_part id k) said → Contains (part_items id k said) item → IsItem facts item
+part-item : (facts : Facts) (id : LspId) (k : ℕ) (said : Part) (item : Item) → IsPartAt facts (at_part id k) said → Contains (part_items id k said) item → IsFactItem facts item
 part-item facts id k said item at c = ⊎_elim
-    (λ (e : OfPart (at_part id k) said ≡ item). subst (λ (i : Item). IsItem facts i) e at)
+    (λ (e : OfPart (at_part id k) said ≡ item). subst (λ (i : Item). IsFactItem facts i) e at)
     (λ (rest : Contains (sid_items (at_part id k) said) item). sid-item facts (at_part id k) said item at rest)
     (cases (OfPart (at_part id k) said) (sid_items (at_part id k) said) item c)
 
 -- the items of the database are those that the facts have
-pub item-from : (facts : Facts) (item : Item) → IsStrictlySortedBy id_cmp (keys_of facts.database) → Contains (items_in facts.database) item → IsItem facts item
+pub item-from : (facts : Facts) (item : Item) → IsStrictlySortedBy id_cmp (keys_of facts.database) → Contains (items_of_entries facts.database) item → IsFactItem facts item
 item-from facts item up c =
     let e = item-entry facts.database item c in
     let f = each-from (part_items e.0.0) 0 (parts_of e.0.1.live) item e.2 in
@@ -210,7 +210,7 @@ record IsPartOf (facts : Facts) (item : Item) : Type 0 where
   at : IsPartAt facts place said
   within : Contains (part_items place.id place.part said) item
 
-part-of : (facts : Facts) (item : Item) → IsItem facts item → IsPartOf facts item
+part-of : (facts : Facts) (item : Item) → IsFactItem facts item → IsPartOf facts item
 part-of facts (OfPart place said) is = record { place = place; said = said; at = is; within = here (OfPart place said) (sid_items place said) }
 part-of facts (OfAdj place reach k sid) is = record {
   place = place;
@@ -241,10 +241,10 @@ stored-part facts place said at = by (stored_under facts place.id) refl at
 pub record IsStoredItem (facts : Facts) (item : Item) : Type 0 where
   pub entry : LspId × Stored
   pub there : Contains facts.database entry
-  pub own : entry.0 ≡ (place_of item).id
+  pub own : entry.0 ≡ (item_place item).id
   pub within : Contains (entry_items entry) item
 
-pub item-stored : (facts : Facts) (item : Item) → IsItem facts item → IsStoredItem facts item
+pub item-stored : (facts : Facts) (item : Item) → IsFactItem facts item → IsStoredItem facts item
 item-stored facts item is =
     let p = part-of facts item is in
     let s = stored-part facts p.place p.said p.at in
@@ -256,7 +256,7 @@ item-stored facts item is =
           (subst (λ (k : ℕ). Contains (part_items p.place.id k p.said) item) (let same : p.place.part ≡ 0 + p.place.part = omega arith in same) p.within);
     }
 
-pub item-to : (facts : Facts) (item : Item) → IsItem facts item → Contains (items_in facts.database) item
+pub item-to : (facts : Facts) (item : Item) → IsFactItem facts item → Contains (items_of_entries facts.database) item
 item-to facts item is = let s = item-stored facts item is in entry-item facts.database s.entry item s.there s.within
 
 -- the node's own LSPs alone
@@ -302,9 +302,9 @@ own-test node id e f = grind (arith, nat_tests)
 
 -- an item of the node's own LSPs
 pub record IsOwnItem (facts : Facts) (node : ℕ) (item : Item) : Type 0 where
-  pub is : IsItem facts item
-  pub system : (place_of item).id.system ≡ node
-  pub real : (place_of item).id.pseudonode ≡ 0
+  pub is : IsFactItem facts item
+  pub system : (item_place item).id.system ≡ node
+  pub real : (item_place item).id.pseudonode ≡ 0
 
 pub own-from : (facts : Facts) (node : ℕ) (item : Item) → IsStrictlySortedBy id_cmp (keys_of facts.database) → Contains (own_items facts node) item → IsOwnItem facts node item
 own-from facts node item up c =
@@ -312,7 +312,7 @@ own-from facts node item up c =
     let e = item-entry own item c in
     let k = kept-from (λ (e : LspId × Stored). is_own node e.0) facts.database e.0 e.1 in
     let o = own-parts node e.0.0 k.1 in
-    let at : (place_of item).id ≡ e.0.0 = entry-at e.0 item e.2 in
+    let at : (item_place item).id ≡ e.0.0 = entry-at e.0 item e.2 in
     record {
       is = item-from facts item up (entry-item facts.database e.0 item k.0 e.2);
       system = ap (λ (i : LspId). i.system) at ∙ o.0;

@@ -9,9 +9,11 @@ pub mod PrefixUsed
 pub mod AccountLaw
 pub mod SourceLaw
 pub mod DeterminedLaw
+pub mod LentLemmas
 pub mod EachLemmas
 pub mod ItemLemmas
 pub mod ToldLemmas
+pub mod TakenLemmas
 pub mod SearchLemmas
 pub mod ReasonLemmas
 pub mod ChoiceLemmas

@@ -10,7 +10,7 @@ use Rattle.sr_domain.specs.Announced.{announced_by, announcement_of}
 use Rattle.sr_account.specs.declared.aside.Reason.{Reason}
 use Rattle.sr_account.specs.Items.{PartPlace}
 use Rattle.sr_account.specs.Reasons.{PartFails}
-use Rattle.sr_account.specs.Steps.{AnnouncementFails, IsVerdict}
+use Rattle.sr_account.specs.Steps.{AnnouncementFails, IsFoundReason}
 use Rattle.sr_account.proofs.ReasonLemmas.{reach-announced}
 
 eq-from : (m n : ℕ) (b : Bool) → (m == n) ≡ b → b ≡ true → m ≡ n
@@ -36,13 +36,13 @@ entry-announced node reach a e = by (reach.pseudonode == 0) (reach.neighbour == 
     by true true u v h = absurd (cc)
     by false q u v h = absurd (cc)
 
-pub reach-own : (facts : Facts) (place : PartPlace) (said : Part) (reach : Reach) (a : Announcement) (o : Option Reason) → said ≡ part.Reach reach → announced_by place.id.system said ≡ Some a → IsVerdict (AnnouncementFails facts a) o → IsVerdict (PartFails facts place said) o
+pub reach-own : (facts : Facts) (place : PartPlace) (said : Part) (reach : Reach) (a : Announcement) (o : Option Reason) → said ≡ part.Reach reach → announced_by place.id.system said ≡ Some a → IsFoundReason (AnnouncementFails facts a) o → IsFoundReason (PartFails facts place said) o
 reach-own facts place said reach a o e f verdict =
     let at = entry-announced place.id.system reach a (ap (announced_by place.id.system) (sym e) ∙ f) in
-    subst (λ (s : Part). IsVerdict (PartFails facts place s) o) (sym e)
+    subst (λ (s : Part). IsFoundReason (PartFails facts place s) o) (sym e)
     (reach-announced facts place.id.system reach o at.real at.other
-    (subst (λ (b : Announcement). IsVerdict (AnnouncementFails facts b) o) (sym at.is) verdict))
+    (subst (λ (b : Announcement). IsFoundReason (AnnouncementFails facts b) o) (sym at.is) verdict))
 
 -- of a part that is of a kind
-pub part-at : (facts : Facts) (place : PartPlace) (said kind : Part) (o : Option Reason) → said ≡ kind → IsVerdict (PartFails facts place kind) o → IsVerdict (PartFails facts place said) o
-part-at facts place said kind o e verdict = subst (λ (s : Part). IsVerdict (PartFails facts place s) o) (sym e) verdict
+pub part-at : (facts : Facts) (place : PartPlace) (said kind : Part) (o : Option Reason) → said ≡ kind → IsFoundReason (PartFails facts place kind) o → IsFoundReason (PartFails facts place said) o
+part-at facts place said kind o e verdict = subst (λ (s : Part). IsFoundReason (PartFails facts place s) o) (sym e) verdict

@@ -23,7 +23,7 @@ use Rattle.sr_lsdb.specs.Order.{id_cmp}
 use Rattle.sr_lsdb.proofs.OrderLemmas.{id_exact, id_total}
 use Rattle.sr_domain.specs.Announced.{parts_of}
 use Rattle.sr_account.specs.declared.aside.Place.{Place}
-use Rattle.sr_account.specs.Items.{Item, IsItem, IsPartAt, PartPlace, PlaceBefore, SidBefore, parts_in, place_of}
+use Rattle.sr_account.specs.Items.{Item, IsFactItem, IsPartAt, PartPlace, PlaceBefore, SidBefore, parts_in, item_place}
 use Rattle.sr_account.specs.Items.Item.{OfPart, OfAdj, OfPrefix}
 use Rattle.sr_account.specs.Laws.{IsInOrder}
 use Rattle.sr_account.proofs.SearchLaw.{Decided, at-place, decided-both, decided-either, decided-less, decided-like, place-of, search-places}
@@ -117,7 +117,7 @@ part-one facts p q x y at there same = same_Some x y (sym at ∙ ap (λ (z : Par
 abbrev part_of_place : Place → PartPlace
 part_of_place place = record { id = place.id; part = place.part }
 
-pub item-one : (facts : Facts) (a b : Item) → IsItem facts a → IsItem facts b → place_of a ≡ place_of b → a ≡ b
+pub item-one : (facts : Facts) (a b : Item) → IsFactItem facts a → IsFactItem facts b → item_place a ≡ item_place b → a ≡ b
 item-one facts (OfPart p x) (OfPart q y) has is e =
     let place : p ≡ q = ap part_of_place e in
     let said : x ≡ y = part-one facts p q x y has is place in

@@ -23,7 +23,7 @@ use Rattle.sr_account.specs.declared.aside.Reason.TheVariants.{Lan, Absent, Pseu
 use Rattle.sr_account.specs.Items.{IsPartAt, PartPlace}
 use Rattle.sr_account.specs.Laws.{IsInOrder}
 use Rattle.sr_account.specs.Reasons.{LspFails, ReachFails, entry_key}
-use Rattle.sr_account.specs.Used.{GivesLink, IsNodeOf}
+use Rattle.sr_account.specs.Used.{GivesLink, IsNodeOfLsp}
 use Rattle.sr_account.proofs.SearchLaw.{stable}
 use Rattle.sr_account.proofs.LinkLaw.{IsFoundBy, announced-apart, announced-from_present, announced-to, counted, found-to, key-from, link-from, link-to, node-from, node-to}
 
@@ -33,13 +33,13 @@ pub lsp-used : (facts : Facts) (id : LspId) → ((r : Reason) → LspFails facts
 lsp-used facts id clear = (stable (cases_eq id.pseudonode 0) (clear Lan), true_from_ne_false (is_present facts id.system) (clear Absent))
 
 -- the node of an LSP of which no reason holds
-pub node-used : (facts : Facts) (net : Net) → IsNetOf facts net → (id : LspId) → ((r : Reason) → LspFails facts id r → ⊥) → (v : ℕ) × IsNodeOf net id v
+pub node-used : (facts : Facts) (net : Net) → IsNetOf facts net → (id : LspId) → ((r : Reason) → LspFails facts id r → ⊥) → (v : ℕ) × IsNodeOfLsp net id v
 node-used facts net is id clear =
     let lsp = lsp-used facts id clear in
     let v = node-to facts net is id.system lsp.1 in
     (v.0, record { real = lsp.0; within = v.1; system = v.2 })
 
-pub lsp-free : (facts : Facts) (net : Net) → IsInOrder facts → IsNetOf facts net → (id : LspId) (v : ℕ) → IsNodeOf net id v → (r : Reason) → LspFails facts id r → ⊥
+pub lsp-free : (facts : Facts) (net : Net) → IsInOrder facts → IsNetOf facts net → (id : LspId) (v : ℕ) → IsNodeOfLsp net id v → (r : Reason) → LspFails facts id r → ⊥
 lsp-free facts net up is id v node Lan fails = fails node.real
 lsp-free facts net up is id v node Absent fails = false≢true (sym fails ∙ ap (is_present facts) (sym node.system) ∙ node-from facts net up is v node.within)
 lsp-free facts net up is id v node _ fails = fails

@@ -22,16 +22,16 @@ use Rattle.sr_account.specs.declared.survey.Ends.{Ends}
 use Rattle.sr_account.specs.declared.survey.Survey.{Survey}
 use Rattle.sr_account.specs.Items.{PartPlace}
 use Rattle.sr_account.specs.Items.Item.{OfPart, OfAdj}
-use Rattle.sr_account.specs.Reasons.{AdjFails, Holds, LspFails, ReachFails, RiskFails, rank}
-use Rattle.sr_account.specs.Steps.{AnnouncementFails, IsFirstOf, IsSurvey, IsVerdict, NoReason, ends_cmp, ends_of, has_link, names_in}
+use Rattle.sr_account.specs.Reasons.{AdjFails, HoldsFor, LspFails, ReachFails, RiskFails, reason_rank}
+use Rattle.sr_account.specs.Steps.{AnnouncementFails, IsFirstOf, IsSurvey, IsFoundReason, NoReason, ends_cmp, ends_of, has_link, names_in}
 use Rattle.sr_account.proofs.ItemLemmas.{kept-from, kept-to}
 use Rattle.sr_account.proofs.SearchLemmas.{ends-found, ends-said, is_named, linked-used, named-any, sorted-same, used-linked}
 
 -- none of the reasons of a lower rank holds
 abbrev pub NoneBelow : (Reason → Type 0) → ℕ → Type 0
-NoneBelow Fails n = (reason : Reason) → rank reason < n → Fails reason → ⊥
+NoneBelow Fails n = (reason : Reason) → reason_rank reason < n → Fails reason → ⊥
 
-rank-small : (reason : Reason) → rank reason < 23
+rank-small : (reason : Reason) → reason_rank reason < 23
 rank-small Lan = omega arith
 rank-small _ = omega arith
 
@@ -39,13 +39,13 @@ pub none-at-all : (Fails : Reason → Type 0) → NoneBelow Fails 23 → NoReaso
 none-at-all Fails none reason h = none reason (rank-small reason) h
 
 -- one kind of reasons after another, all of a higher rank
-pub first-of-left : (A B : Reason → Type 0) (n : ℕ) (reason : Reason) → ((r : Reason) → A r → rank r < n) → ((r : Reason) → B r → n ≤ rank r) → IsFirstOf A reason → IsFirstOf (λ r. A r ⊎ B r) reason
+pub first-of-left : (A B : Reason → Type 0) (n : ℕ) (reason : Reason) → ((r : Reason) → A r → reason_rank r < n) → ((r : Reason) → B r → n ≤ reason_rank r) → IsFirstOf A reason → IsFirstOf (λ r. A r ⊎ B r) reason
 first-of-left A B n reason low high first = record {
   holds = inl first.holds;
-  first = λ earlier lt h. ⊎_elim (λ (a : A earlier). first.first earlier lt a) (λ (b : B earlier). let l : rank reason < n = low reason first.holds in let u : n ≤ rank earlier = high earlier b in omega arith) h;
+  first = λ earlier lt h. ⊎_elim (λ (a : A earlier). first.first earlier lt a) (λ (b : B earlier). let l : reason_rank reason < n = low reason first.holds in let u : n ≤ reason_rank earlier = high earlier b in omega arith) h;
 }
 
-pub verdict-right : (A B : Reason → Type 0) (o : Option Reason) → NoReason A → IsVerdict B o → IsVerdict (λ r. A r ⊎ B r) o
+pub verdict-right : (A B : Reason → Type 0) (o : Option Reason) → NoReason A → IsFoundReason B o → IsFoundReason (λ r. A r ⊎ B r) o
 verdict-right A B None none verdict = λ r h. ⊎_elim (λ (a : A r). none r a) (λ (b : B r). verdict r b) h
 verdict-right A B (Some reason) none first = record {
   holds = inr first.holds;
@@ -53,12 +53,12 @@ verdict-right A B (Some reason) none first = record {
 }
 
 -- which ranks each kind has
-pub lsp-low : (facts : Facts) (id : LspId) (reason : Reason) → LspFails facts id reason → rank reason < 2
+pub lsp-low : (facts : Facts) (id : LspId) (reason : Reason) → LspFails facts id reason → reason_rank reason < 2
 lsp-low facts id Lan h = omega arith
 lsp-low facts id Absent h = omega arith
 lsp-low facts id _ h = absurd h
 
-reach-low : (facts : Facts) (node : ℕ) (reach : Reach) (reason : Reason) → ReachFails facts node reach reason → rank reason < 9
+reach-low : (facts : Facts) (node : ℕ) (reach : Reach) (reason : Reason) → ReachFails facts node reach reason → reason_rank reason < 9
 reach-low facts node reach Pseudonode h = omega arith
 reach-low facts node reach Itself h = omega arith
 reach-low facts node reach NeighbourAbsent h = omega arith
@@ -68,7 +68,7 @@ reach-low facts node reach MaximumMetric h = omega arith
 reach-low facts node reach Down h = omega arith
 reach-low facts node reach _ h = absurd h
 
-adj-high : (sids : List AdjSid) (k : ℕ) (sid : AdjSid) (reason : Reason) → AdjFails sids k sid reason → 9 ≤ rank reason
+adj-high : (sids : List AdjSid) (k : ℕ) (sid : AdjSid) (reason : Reason) → AdjFails sids k sid reason → 9 ≤ reason_rank reason
 adj-high sids k sid WrongForm h = omega arith
 adj-high sids k sid Flags h = omega arith
 adj-high sids k sid Backup h = omega arith
@@ -77,9 +77,9 @@ adj-high sids k sid NotFirst h = omega arith
 adj-high sids k sid _ h = absurd h
 
 -- what fails an entry fails its SIDs
-entry-low : (facts : Facts) (place : PartPlace) (reach : Reach) (reason : Reason) → Holds facts (OfPart place (part.Reach reach)) reason → rank reason < 9
+entry-low : (facts : Facts) (place : PartPlace) (reach : Reach) (reason : Reason) → HoldsFor facts (OfPart place (part.Reach reach)) reason → reason_rank reason < 9
 entry-low facts place reach reason h = ⊎_elim
-    (λ (l : LspFails facts place.id reason). let lt : rank reason < 2 = lsp-low facts place.id reason l in omega arith)
+    (λ (l : LspFails facts place.id reason). let lt : reason_rank reason < 2 = lsp-low facts place.id reason l in omega arith)
     (λ (r : ReachFails facts place.id.system reach reason). reach-low facts place.id.system reach reason r) h
 
 again : (A B C : Type 0) → (A ⊎ B) ⊎ C → A ⊎ B ⊎ C
@@ -92,22 +92,22 @@ back A B C (inl a) = inl (inl a)
 back A B C (inr (inl b)) = inl (inr b)
 back A B C (inr (inr c)) = inr c
 
-entry-first : (facts : Facts) (place : PartPlace) (reach : Reach) (k : ℕ) (sid : AdjSid) (reason : Reason) → IsFirstOf (λ r. Holds facts (OfPart place (part.Reach reach)) r ⊎ AdjFails reach.adj k sid r) reason → IsFirstOf (Holds facts (OfAdj place reach k sid)) reason
+entry-first : (facts : Facts) (place : PartPlace) (reach : Reach) (k : ℕ) (sid : AdjSid) (reason : Reason) → IsFirstOf (λ r. HoldsFor facts (OfPart place (part.Reach reach)) r ⊎ AdjFails reach.adj k sid r) reason → IsFirstOf (HoldsFor facts (OfAdj place reach k sid)) reason
 entry-first facts place reach k sid reason first = record {
   holds = again (LspFails facts place.id reason) (ReachFails facts place.id.system reach reason) (AdjFails reach.adj k sid reason) first.holds;
   first = λ earlier lt h. first.first earlier lt (back (LspFails facts place.id earlier) (ReachFails facts place.id.system reach earlier) (AdjFails reach.adj k sid earlier) h);
 }
 
-pub adj-aside : (facts : Facts) (place : PartPlace) (reach : Reach) (k : ℕ) (sid : AdjSid) (reason : Reason) → IsFirstOf (Holds facts (OfPart place (part.Reach reach))) reason → IsFirstOf (Holds facts (OfAdj place reach k sid)) reason
+pub adj-aside : (facts : Facts) (place : PartPlace) (reach : Reach) (k : ℕ) (sid : AdjSid) (reason : Reason) → IsFirstOf (HoldsFor facts (OfPart place (part.Reach reach))) reason → IsFirstOf (HoldsFor facts (OfAdj place reach k sid)) reason
 adj-aside facts place reach k sid reason first = entry-first facts place reach k sid reason
-    (first-of-left (Holds facts (OfPart place (part.Reach reach))) (AdjFails reach.adj k sid) 9 reason (entry-low facts place reach) (adj-high reach.adj k sid) first)
+    (first-of-left (HoldsFor facts (OfPart place (part.Reach reach))) (AdjFails reach.adj k sid) 9 reason (entry-low facts place reach) (adj-high reach.adj k sid) first)
 
-pub adj-own : (facts : Facts) (place : PartPlace) (reach : Reach) (k : ℕ) (sid : AdjSid) (o : Option Reason) → NoReason (Holds facts (OfPart place (part.Reach reach))) → IsVerdict (AdjFails reach.adj k sid) o → IsVerdict (Holds facts (OfAdj place reach k sid)) o
+pub adj-own : (facts : Facts) (place : PartPlace) (reach : Reach) (k : ℕ) (sid : AdjSid) (o : Option Reason) → NoReason (HoldsFor facts (OfPart place (part.Reach reach))) → IsFoundReason (AdjFails reach.adj k sid) o → IsFoundReason (HoldsFor facts (OfAdj place reach k sid)) o
 adj-own facts place reach k sid None none verdict = λ r h. ⊎_elim
-    (λ (a : Holds facts (OfPart place (part.Reach reach)) r). none r a) (λ (b : AdjFails reach.adj k sid r). verdict r b)
+    (λ (a : HoldsFor facts (OfPart place (part.Reach reach)) r). none r a) (λ (b : AdjFails reach.adj k sid r). verdict r b)
     (back (LspFails facts place.id r) (ReachFails facts place.id.system reach r) (AdjFails reach.adj k sid r) h)
 adj-own facts place reach k sid (Some reason) none verdict = entry-first facts place reach k sid reason
-    (verdict-right (Holds facts (OfPart place (part.Reach reach))) (AdjFails reach.adj k sid) (Some reason) none verdict)
+    (verdict-right (HoldsFor facts (OfPart place (part.Reach reach))) (AdjFails reach.adj k sid) (Some reason) none verdict)
 
 -- the reasons of an announcement
 pub announced-below : (facts : Facts) (a : Announcement) (n : ℕ) → (4 < n → AnnouncementFails facts a NeighbourAbsent → ⊥) → (5 < n → AnnouncementFails facts a OneWay → ⊥) → (6 < n → AnnouncementFails facts a Identity → ⊥) → (7 < n → AnnouncementFails facts a MaximumMetric → ⊥) → (8 < n → AnnouncementFails facts a Down → ⊥) → NoneBelow (AnnouncementFails facts a) n
@@ -137,7 +137,7 @@ reach-all facts node reach Down h = h
 reach-all facts node reach _ h = absurd h
 
 -- those of an entry that is an announcement
-pub reach-announced : (facts : Facts) (node : ℕ) (reach : Reach) (o : Option Reason) → reach.pseudonode ≡ 0 → reach.neighbour ≢ node → IsVerdict (AnnouncementFails facts (announcement_of node reach)) o → IsVerdict (ReachFails facts node reach) o
+pub reach-announced : (facts : Facts) (node : ℕ) (reach : Reach) (o : Option Reason) → reach.pseudonode ≡ 0 → reach.neighbour ≢ node → IsFoundReason (AnnouncementFails facts (announcement_of node reach)) o → IsFoundReason (ReachFails facts node reach) o
 reach-announced facts node reach None real other none = λ r h. none r (reach-some facts node reach r real other h)
 reach-announced facts node reach (Some reason) real other first = record {
   holds = reach-all facts node reach reason first.holds;

@@ -27,7 +27,7 @@ use Rattle.sr_domain.proofs.MemberLemmas.{mapped-from, mapped-to}
 use Rattle.sr_account.specs.declared.survey.Ends.{Ends}
 use Rattle.sr_account.specs.contracts.survey.EndsOrd.TheImpl.Laws as ends_laws
 use Rattle.sr_account.specs.Reasons.{AnnouncesLink, IsPairUsed}
-use Rattle.sr_account.specs.Steps.{AreSorted, ends_cmp, ends_of, has_link, link_pair, names_by, names_in}
+use Rattle.sr_account.specs.Steps.{AreSortedFrom, ends_cmp, ends_of, has_link, link_pair, names_by, names_in}
 
 pub sought-there : {T : Type 0} {R : T → T → Ordering} (o : IsTotalOrder R) → (xs : List T) (x : T) (i : ℕ) → i < length xs → ((d : T) → R (get_or xs i d) x ≡ Equal) → true ≡ list_any (eq_by_cmp R x) xs
 sought-there {T} {R} o xs x i within tied = sym (list_any_at (eq_by_cmp R x) xs i x within (ap is_eq (tied_back o (get_or xs i x) x (tied x))))
@@ -49,7 +49,7 @@ sought-nowhere {T} {R} o xs x i up missed = by (list_any (eq_by_cmp R x) xs) ref
         (cases_lt k i))
 
 -- a sorted list passes the tests of what was sorted
-pub sorted-same : {T : Type 0} {R : T → T → Ordering} (said sorted items : List T) (p : T → Bool) → AreSorted R said sorted → items ≡ sorted → list_any p items ≡ list_any p said
+pub sorted-same : {T : Type 0} {R : T → T → Ordering} (said sorted items : List T) (p : T → Bool) → AreSortedFrom R said sorted → items ≡ sorted → list_any p items ≡ list_any p said
 sorted-same said sorted items p s e = ap (list_any p) e ∙ sym (list_any-IsPermutation p said sorted s.same)
 
 -- the order of ends

@@ -14,9 +14,9 @@ use Rattle.sr_account.specs.declared.aside.Reason.{Reason}
 use Rattle.sr_account.specs.declared.aside.Reason.TheVariants.{NotHost, Algorithm, WrongForm, Flags, NotLeast, NotFirst}
 use Rattle.sr_account.specs.declared.choice.Choice.{Choice}
 use Rattle.sr_account.specs.declared.choice.Offer.{Offer}
-use Rattle.sr_account.specs.Items.{PartPlace, PlaceBefore, place_of, sid_place}
+use Rattle.sr_account.specs.Items.{PartPlace, PlaceBefore, item_place, sid_place}
 use Rattle.sr_account.specs.Reasons.{IsCandidate, PrefixSidFails}
-use Rattle.sr_account.specs.Steps.{IsFirstOf, IsOfferAt, IsOfferReason, IsOwnPart, IsVerdict, offer_of, own_items}
+use Rattle.sr_account.specs.Steps.{IsFirstOf, IsOfferAt, IsOfferReason, IsOwnPart, IsFoundReason, offer_of, own_items}
 use Rattle.sr_account.proofs.ItemLemmas.{Before, own-from, own-to}
 use Rattle.sr_account.proofs.ChosenLemmas.{IsFirstLeast, IsLeastOf, IsOffering, UpTo, chosen-offer, offered, offering, own-place, up-not}
 use Rattle.sr_account.proofs.ReasonLemmas.{NoneBelow, none-at-all}
@@ -88,9 +88,9 @@ module _ (facts : Facts) (choice : Choice) (place : PartPlace) (prefix : Prefix)
       let g = chosen q h in
       let here : g.place ≡ place = own-place place.id.system g.place place g.candidate.own refl g.candidate.real own.real (sym g.at.0 ∙ at.0) (sym g.at.1 ∙ at.1) in
       let sid_is : g.k ≡ k = sym g.at.2 ∙ at.2 in
-      let there : place_of h.item ≡ sid_place place k = g.is ∙ ap (λ (p : PartPlace). sid_place p g.k) here ∙ ap (sid_place place) sid_is in
-      let before : PlaceBefore (place_of o.item) (place_of h.item) =
-      subst (λ (p : Place). PlaceBefore (place_of o.item) p) (sym there) (subst (λ (p : Place). PlaceBefore p (sid_place place k)) (sym o.is) bad.5) in
+      let there : item_place h.item ≡ sid_place place k = g.is ∙ ap (λ (p : PartPlace). sid_place p g.k) here ∙ ap (sid_place place) sid_is in
+      let before : PlaceBefore (item_place o.item) (item_place h.item) =
+      subst (λ (p : Place). PlaceBefore (item_place o.item) p) (sym there) (subst (λ (p : Place). PlaceBefore p (sid_place place k)) (sym o.is) bad.5) in
       ⊎_elim
       (λ (less : q.index < bad.0). omega arith)
       (λ (tie : (q.index ≡ bad.0) × UpTo h.item o.item). up-not h.item o.item tie.1 before)
@@ -116,15 +116,15 @@ module _ (facts : Facts) (choice : Choice) (place : PartPlace) (prefix : Prefix)
         g.place,
         g.k,
         subst (λ (n : ℕ). IsCandidate facts place.id.system g.place g.k n) tie.0 g.candidate,
-        subst (λ (p : Place). PlaceBefore p (sid_place place k)) g.is (subst (λ (p : Place). PlaceBefore (place_of h.item) p) o.is before),
+        subst (λ (p : Place). PlaceBefore p (sid_place place k)) g.is (subst (λ (p : Place). PlaceBefore (item_place h.item) p) o.is before),
       ))
       tie.1)
       (bound q h place k index self)
 
-  pub index-verdict : (o : Option Reason) → IsOfferReason choice.offer place k index o → IsVerdict (PrefixSidFails facts place prefix k sid) o
+  pub index-verdict : (o : Option Reason) → IsOfferReason choice.offer place k index o → IsFoundReason (PrefixSidFails facts place prefix k sid) o
   index-verdict o r = by choice.offer (chosen-offer facts choice place (part.Prefix prefix) own) o r
     where
-      by : (c : Option Offer) → IsLeastOf (own_items facts place.id.system) c → (o : Option Reason) → IsOfferReason c place k index o → IsVerdict (PrefixSidFails facts place prefix k sid) o
+      by : (c : Option Offer) → IsLeastOf (own_items facts place.id.system) c → (o : Option Reason) → IsOfferReason c place k index o → IsFoundReason (PrefixSidFails facts place prefix k sid) o
       by None h o r =
           let f = offered facts place.id.system place k index self in
           absurd (h f.item f.offer (own-to facts place.id.system f.item f.own) f.offers)

@@ -30,8 +30,8 @@ use Rattle.sr_account.specs.Items.{IsPartAt, PartPlace, parts_in, parts_under}
 use Rattle.sr_account.specs.Laws.{IsInOrder}
 use Rattle.sr_account.specs.Reasons.{LspFails, ReachFails}
 use Rattle.sr_account.specs.Sources.{AreFlagsOf, AreSources, IsSourceOf}
-use Rattle.sr_account.specs.Used.{GivesLink, IsNodeOf}
-use Rattle.sr_account.specs.Filling.{AreCounted, AreFirstFlags, AreLabelFlags, GivesSource, IsEntryDone, IsFilled, IsFilledTo, IsPut, IsSaidBy, IsSaidOf, IsWalkedTo, NoSidGives, no_source, source_at}
+use Rattle.sr_account.specs.Used.{GivesLink, IsNodeOfLsp}
+use Rattle.sr_account.specs.Filling.{AreCountedParts, AreFirstFlags, AreLabelFlags, GivesSource, IsEntryDone, IsFilled, IsFilledTo, IsPut, IsSaidBy, IsSaidOf, IsWalkedTo, NoSidGives, no_source, source_at}
 use Rattle.sr_account.proofs.SearchLaw.{place-of}
 use Rattle.sr_account.proofs.PlaceLaw.{entry-from, stored-there}
 use Rattle.sr_account.proofs.LinkLaw.{announced-from, announced-to, counted, found-to, link-from, link-to, node-to}
@@ -133,7 +133,7 @@ module _ (facts : Facts) (net : Net) (is : IsNetOf facts net) (up : IsInOrder fa
       let key : found.a.key ≡ gives.announcement.key = ap (λ (x : FoundLink). x.key) found.is ∙ gives.key in
       ap (λ (k : LinkKey). is_announced (announcements_of facts) (mirror k)) (sym key) ∙ found.both
 
-  node : (v : ℕ) × IsNodeOf net place.id v
+  node : (v : ℕ) × IsNodeOfLsp net place.id v
   node = let v = node-to facts net is place.id.system present in (v.0, record { real = real; within = v.1; system = v.2 })
 
   given : (m : ℕ) × GivesLink facts net place.id reach m
@@ -205,7 +205,7 @@ pub filled-less : (facts : Facts) (net : Net) (id : LspId) (m n : ℕ) (old new 
 filled-less facts net id m n old new le filled = record { long = filled.long; kept = filled.kept; each = λ k said l lt at gives. filled.each k said l (omega arith) at gives }
 
 -- one more part
-pub filled-more : (facts : Facts) (net : Net) → IsNetOf facts net → IsInOrder facts → (id : LspId) (parts : List Part) → AreCounted facts id parts → (i : ℕ) (said : Part) (old mid new : List LinkSource) → i < length parts → said ≡ get_or parts i said → IsFilledTo facts net id i old mid → IsPut facts net.graph id.system said mid new → IsFilledTo facts net id (i + 1) old new
+pub filled-more : (facts : Facts) (net : Net) → IsNetOf facts net → IsInOrder facts → (id : LspId) (parts : List Part) → AreCountedParts facts id parts → (i : ℕ) (said : Part) (old mid new : List LinkSource) → i < length parts → said ≡ get_or parts i said → IsFilledTo facts net id i old mid → IsPut facts net.graph id.system said mid new → IsFilledTo facts net id (i + 1) old new
 filled-more facts net is up id parts are i said old mid new within said_is so_far put = record {
   long = put.long ∙ so_far.long;
   kept = λ l filled. stays l (so_far.kept l filled);
@@ -243,7 +243,7 @@ pub walked-none : (facts : Facts) (net : Net) (sources : List LinkSource) → le
 walked-none facts net sources long = record { long = long; among = λ entry there. there; each = λ entry there. inl there }
 
 -- the parts of an entry of the database
-pub parts-counted : (facts : Facts) → IsInOrder facts → (entry : LspId × Stored) (lsp : Lsp) (parts : List Part) → Contains facts.database entry → entry.0.pseudonode ≡ 0 → is_present facts entry.0.system ≡ true → entry.1.live ≡ Some lsp → parts ≡ lsp.parts → AreCounted facts entry.0 parts
+pub parts-counted : (facts : Facts) → IsInOrder facts → (entry : LspId × Stored) (lsp : Lsp) (parts : List Part) → Contains facts.database entry → entry.0.pseudonode ≡ 0 → is_present facts entry.0.system ≡ true → entry.1.live ≡ Some lsp → parts ≡ lsp.parts → AreCountedParts facts entry.0 parts
 parts-counted facts up entry lsp parts there real present live same = record {
   counted = counted facts entry.0 real present;
   stand = ap parts_in (stored-there facts up entry there) ∙ ap parts_of live ∙ sym same;

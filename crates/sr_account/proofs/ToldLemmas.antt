@@ -27,11 +27,11 @@ use Rattle.sr_account.specs.declared.aside.Matter.{Matter}
 use Rattle.sr_account.specs.declared.aside.Matter.TheVariants as matter
 use Rattle.sr_account.specs.declared.choice.Standing.{Standing}
 use Rattle.sr_account.specs.declared.choice.Standing.TheVariants.{SetAside, Own}
-use Rattle.sr_account.specs.Items.{Item, PartPlace, PlaceBefore, matter_of, matter_of_part, part_place, parts_in, parts_under, place_of, sid_place}
+use Rattle.sr_account.specs.Items.{Item, PartPlace, PlaceBefore, matter_of, matter_of_part, part_place, parts_in, parts_under, item_place, sid_place}
 use Rattle.sr_account.specs.Items.Item.{OfPart, OfAdj, OfPrefix}
-use Rattle.sr_account.specs.Reasons.{AdjFails, Holds, IsFirstReason, IsUnhindered}
+use Rattle.sr_account.specs.Reasons.{AdjFails, HoldsFor, IsFirstReason, IsUnhindered}
 use Rattle.sr_account.specs.Asides.{AreAsides, IsTold, aside_of}
-use Rattle.sr_account.specs.Steps.{AddsTold, AreTold, IsAdjReason, IsStanding, IsVerdict, PartStands, adj_item, at_part, each_from, entry_items, items_in, lines_of, part_items, prefix_item, sid_items}
+use Rattle.sr_account.specs.Steps.{AddsTold, AreTold, IsAdjReason, IsStanding, IsFoundReason, PartStands, adj_item, at_part, each_from, entry_items, items_of_entries, asides_for, part_items, prefix_item, sid_items}
 use Rattle.sr_account.proofs.EachLemmas.{each-next, get-any}
 use Rattle.sr_account.proofs.ItemLemmas.{Ascend, item-from, item-to, items-ascend, stored-there}
 use Rattle.sr_account.proofs.ReasonLemmas.{adj-aside, adj-own}
@@ -42,13 +42,13 @@ told-append facts (x ∷ xs) ys m n (inl h) t = inl (h.0, told-append facts xs y
 told-append facts (x ∷ xs) ys m n (inr h) t = inr (h.0, h.1 ++ n, h.2, ap (λ (l : List Aside). l ++ n) h.3, told-append facts xs ys h.1 n h.4 t)
 
 -- what is told of one item
-pub told-line : (facts : Facts) (item : Item) (reason : Option Reason) → IsVerdict (Holds facts item) reason → AreTold facts (item ∷ []) (lines_of (place_of item) (matter_of item) reason)
+pub told-line : (facts : Facts) (item : Item) (reason : Option Reason) → IsFoundReason (HoldsFor facts item) reason → AreTold facts (item ∷ []) (asides_for (item_place item) (matter_of item) reason)
 told-line facts item None none = inl (none, refl)
 told-line facts item (Some reason) first = inr (reason, [], record { holds = first.holds; first = first.first }, refl, refl)
 
 -- the same as what was appended
-pub adds-line : (facts : Facts) (item : Item) (reason : Option Reason) (old new : List Aside) → IsVerdict (Holds facts item) reason → new ≡ old ++ lines_of (place_of item) (matter_of item) reason → AddsTold facts (item ∷ []) old new
-adds-line facts item reason old new first e = record { told = lines_of (place_of item) (matter_of item) reason; are = told-line facts item reason first; appended = e }
+pub adds-line : (facts : Facts) (item : Item) (reason : Option Reason) (old new : List Aside) → IsFoundReason (HoldsFor facts item) reason → new ≡ old ++ asides_for (item_place item) (matter_of item) reason → AddsTold facts (item ∷ []) old new
+adds-line facts item reason old new first e = record { told = asides_for (item_place item) (matter_of item) reason; are = told-line facts item reason first; appended = e }
 
 pub adds-both : (facts : Facts) (xs ys : List Item) (old mid new : List Aside) → AddsTold facts xs old mid → AddsTold facts ys mid new → AddsTold facts (xs ++ ys) old new
 adds-both facts xs ys old mid new a b = record {
@@ -97,7 +97,7 @@ told-ascend facts (item ∷ items) asides m n a b up (inr h) lt e f = by (λ m n
         let r = told-from facts items h.1 n b h.4 f in
         let first : aside_of item h.0 ≡ a = cc in
         subst (λ (p : Place). PlaceBefore p b.place) (ap (λ (x : Aside). x.place) first)
-        (subst (λ (p : Place). PlaceBefore (place_of item) p) (ap (λ (x : Aside). x.place) (sym r.4)) (up.0 r.0 r.2))
+        (subst (λ (p : Place). PlaceBefore (item_place item) p) (ap (λ (x : Aside). x.place) (sym r.4)) (up.0 r.0 r.2))
     by rest (suc m) (suc n) lt e f = rest m n (omega arith) e f
 
 -- of each item no reason holds, or it is told
@@ -116,33 +116,33 @@ told-all facts (first ∷ items) asides item (inr h) c = subst (λ (l : List Asi
     (cases first items item c))
 
 -- what is told of all items of the database is told of the facts
-pub are-asides : (facts : Facts) (asides : List Aside) → IsStrictlySortedBy id_cmp (keys_of facts.database) → AreTold facts (items_in facts.database) asides → AreAsides facts asides
+pub are-asides : (facts : Facts) (asides : List Aside) → IsStrictlySortedBy id_cmp (keys_of facts.database) → AreTold facts (items_of_entries facts.database) asides → AreAsides facts asides
 are-asides facts asides up told = record {
   each = λ n aside e.
-      let r = told-from facts (items_in facts.database) asides n aside told e in
+      let r = told-from facts (items_of_entries facts.database) asides n aside told e in
       record { item = r.0; is_item = item-from facts r.0 up r.2; reason = r.1; first = r.3; is = r.4 };
-  ascending = λ m n a b lt e f. told-ascend facts (items_in facts.database) asides m n a b (items-ascend facts.database up) told lt e f;
-  all = λ item is. told-all facts (items_in facts.database) asides item told (item-to facts item is);
+  ascending = λ m n a b lt e f. told-ascend facts (items_of_entries facts.database) asides m n a b (items-ascend facts.database up) told lt e f;
+  all = λ item is. told-all facts (items_of_entries facts.database) asides item told (item-to facts item is);
 }
 
 -- the line of one more SID of an entry
-pub adj-step : (facts : Facts) (id : LspId) (at : ℕ) (reach : Reach) (entry : Option Reason) (k : ℕ) (xs : List AdjSid) (d : AdjSid) (reason : Option Reason) (old now next : List Aside) → k < length xs → xs ≡ reach.adj → IsVerdict (Holds facts (OfPart (at_part id at) (part.Reach reach))) entry → IsAdjReason entry xs k (get_or xs k d) reason → next ≡ now ++ lines_of (sid_place (at_part id at) k) (matter.AdjSid (get_or xs k d).sid) reason → IsRestOf facts (adj_item (at_part id at) reach) k xs old now → IsRestOf facts (adj_item (at_part id at) reach) (k + 1) xs old next
+pub adj-step : (facts : Facts) (id : LspId) (at : ℕ) (reach : Reach) (entry : Option Reason) (k : ℕ) (xs : List AdjSid) (d : AdjSid) (reason : Option Reason) (old now next : List Aside) → k < length xs → xs ≡ reach.adj → IsFoundReason (HoldsFor facts (OfPart (at_part id at) (part.Reach reach))) entry → IsAdjReason entry xs k (get_or xs k d) reason → next ≡ now ++ asides_for (sid_place (at_part id at) k) (matter.AdjSid (get_or xs k d).sid) reason → IsRestOf facts (adj_item (at_part id at) reach) k xs old now → IsRestOf facts (adj_item (at_part id at) reach) (k + 1) xs old next
 adj-step facts id at reach entry k xs d reason old now next lt same verdict own pushed rest =
     rest-next facts (adj_item (at_part id at) reach) k xs (get_or xs k d) old now next lt (get-any xs k (get_or xs k d) d lt) rest
     (adds-line facts (OfAdj (at_part id at) reach k (get_or xs k d)) reason now next (by entry reason verdict own) pushed)
   where
-    by : (entry reason : Option Reason) → IsVerdict (Holds facts (OfPart (at_part id at) (part.Reach reach))) entry → IsAdjReason entry xs k (get_or xs k d) reason → IsVerdict (Holds facts (OfAdj (at_part id at) reach k (get_or xs k d))) reason
-    by None reason v o = adj-own facts (at_part id at) reach k (get_or xs k d) reason v (subst (λ (sids : List AdjSid). IsVerdict (AdjFails sids k (get_or xs k d)) reason) same o)
-    by (Some r) reason v o = subst (λ (q : Option Reason). IsVerdict (Holds facts (OfAdj (at_part id at) reach k (get_or xs k d))) q) (sym o) (adj-aside facts (at_part id at) reach k (get_or xs k d) r v)
+    by : (entry reason : Option Reason) → IsFoundReason (HoldsFor facts (OfPart (at_part id at) (part.Reach reach))) entry → IsAdjReason entry xs k (get_or xs k d) reason → IsFoundReason (HoldsFor facts (OfAdj (at_part id at) reach k (get_or xs k d))) reason
+    by None reason v o = adj-own facts (at_part id at) reach k (get_or xs k d) reason v (subst (λ (sids : List AdjSid). IsFoundReason (AdjFails sids k (get_or xs k d)) reason) same o)
+    by (Some r) reason v o = subst (λ (q : Option Reason). IsFoundReason (HoldsFor facts (OfAdj (at_part id at) reach k (get_or xs k d))) q) (sym o) (adj-aside facts (at_part id at) reach k (get_or xs k d) r v)
 
 -- the line of one more SID of a prefix
-pub prefix-step : (facts : Facts) (id : LspId) (at : ℕ) (prefix : Prefix) (k : ℕ) (xs : List PrefixSid) (d : PrefixSid) (reason : Option Reason) (old now next : List Aside) → k < length xs → IsVerdict (Holds facts (OfPrefix (at_part id at) prefix k (get_or xs k d))) reason → next ≡ now ++ lines_of (sid_place (at_part id at) k) (matter.PrefixSid (get_or xs k d).sid) reason → IsRestOf facts (prefix_item (at_part id at) prefix) k xs old now → IsRestOf facts (prefix_item (at_part id at) prefix) (k + 1) xs old next
+pub prefix-step : (facts : Facts) (id : LspId) (at : ℕ) (prefix : Prefix) (k : ℕ) (xs : List PrefixSid) (d : PrefixSid) (reason : Option Reason) (old now next : List Aside) → k < length xs → IsFoundReason (HoldsFor facts (OfPrefix (at_part id at) prefix k (get_or xs k d))) reason → next ≡ now ++ asides_for (sid_place (at_part id at) k) (matter.PrefixSid (get_or xs k d).sid) reason → IsRestOf facts (prefix_item (at_part id at) prefix) k xs old now → IsRestOf facts (prefix_item (at_part id at) prefix) (k + 1) xs old next
 prefix-step facts id at prefix k xs d reason old now next lt verdict pushed rest =
     rest-next facts (prefix_item (at_part id at) prefix) k xs (get_or xs k d) old now next lt (get-any xs k (get_or xs k d) d lt) rest
     (adds-line facts (OfPrefix (at_part id at) prefix k (get_or xs k d)) reason now next verdict pushed)
 
 -- a part, and then its SIDs
-pub adds-part : (facts : Facts) (id : LspId) (at : ℕ) (said : Part) (reason : Option Reason) (old mid new : List Aside) → IsVerdict (Holds facts (OfPart (at_part id at) said)) reason → mid ≡ old ++ lines_of (part_place (at_part id at)) (matter_of_part said) reason → AddsTold facts (sid_items (at_part id at) said) mid new → AddsTold facts (part_items id at said) old new
+pub adds-part : (facts : Facts) (id : LspId) (at : ℕ) (said : Part) (reason : Option Reason) (old mid new : List Aside) → IsFoundReason (HoldsFor facts (OfPart (at_part id at) said)) reason → mid ≡ old ++ asides_for (part_place (at_part id at)) (matter_of_part said) reason → AddsTold facts (sid_items (at_part id at) said) mid new → AddsTold facts (part_items id at said) old new
 adds-part facts id at said reason old mid new verdict pushed sids =
     adds-both facts (OfPart (at_part id at) said ∷ []) (sid_items (at_part id at) said) old mid new
     (adds-line facts (OfPart (at_part id at) said) reason old mid verdict pushed) sids
@@ -154,26 +154,26 @@ adds-none facts place (part.Prefix prefix) old p q = absurd (q prefix refl)
 adds-none facts place _ old p q = record { told = []; are = refl; appended = sym (append-nil old) }
 
 -- a part of extended IS reachability with its SIDs
-pub adds-reach : (facts : Facts) (id : LspId) (at : ℕ) (said : Part) (reach : Reach) (reason : Option Reason) (what : Matter) (old mid new : List Aside) → said ≡ part.Reach reach → IsVerdict (Holds facts (OfPart (at_part id at) said)) reason → what ≡ matter_of_part said → mid ≡ old ++ lines_of (part_place (at_part id at)) what reason → (IsVerdict (Holds facts (OfPart (at_part id at) (part.Reach reach))) reason → AddsTold facts (each_from (adj_item (at_part id at) reach) 0 reach.adj) mid new) → AddsTold facts (part_items id at said) old new
+pub adds-reach : (facts : Facts) (id : LspId) (at : ℕ) (said : Part) (reach : Reach) (reason : Option Reason) (what : Matter) (old mid new : List Aside) → said ≡ part.Reach reach → IsFoundReason (HoldsFor facts (OfPart (at_part id at) said)) reason → what ≡ matter_of_part said → mid ≡ old ++ asides_for (part_place (at_part id at)) what reason → (IsFoundReason (HoldsFor facts (OfPart (at_part id at) (part.Reach reach))) reason → AddsTold facts (each_from (adj_item (at_part id at) reach) 0 reach.adj) mid new) → AddsTold facts (part_items id at said) old new
 adds-reach facts id at said reach reason what old mid new e verdict is_what pushed sids =
     adds-part facts id at said reason old mid new verdict
-    (pushed ∙ ap (λ (m : Matter). old ++ lines_of (part_place (at_part id at)) m reason) is_what)
+    (pushed ∙ ap (λ (m : Matter). old ++ asides_for (part_place (at_part id at)) m reason) is_what)
     (subst (λ (s : Part). AddsTold facts (sid_items (at_part id at) s) mid new) (sym e)
-    (sids (subst (λ (s : Part). IsVerdict (Holds facts (OfPart (at_part id at) s)) reason) e verdict)))
+    (sids (subst (λ (s : Part). IsFoundReason (HoldsFor facts (OfPart (at_part id at) s)) reason) e verdict)))
 
 -- a prefix with its SIDs
-pub adds-prefix : (facts : Facts) (id : LspId) (at : ℕ) (said : Part) (prefix : Prefix) (standing : Standing) (reason : Option Reason) (what : Matter) (old mid new : List Aside) → said ≡ part.Prefix prefix → PartStands facts standing (at_part id at) said → IsVerdict (Holds facts (OfPart (at_part id at) said)) reason → what ≡ matter_of_part said → mid ≡ old ++ lines_of (part_place (at_part id at)) what reason → (PartStands facts standing (at_part id at) (part.Prefix prefix) → AddsTold facts (each_from (prefix_item (at_part id at) prefix) 0 prefix.sids) mid new) → AddsTold facts (part_items id at said) old new
+pub adds-prefix : (facts : Facts) (id : LspId) (at : ℕ) (said : Part) (prefix : Prefix) (standing : Standing) (reason : Option Reason) (what : Matter) (old mid new : List Aside) → said ≡ part.Prefix prefix → PartStands facts standing (at_part id at) said → IsFoundReason (HoldsFor facts (OfPart (at_part id at) said)) reason → what ≡ matter_of_part said → mid ≡ old ++ asides_for (part_place (at_part id at)) what reason → (PartStands facts standing (at_part id at) (part.Prefix prefix) → AddsTold facts (each_from (prefix_item (at_part id at) prefix) 0 prefix.sids) mid new) → AddsTold facts (part_items id at said) old new
 adds-prefix facts id at said prefix standing reason what old mid new e stands verdict is_what pushed sids =
     adds-part facts id at said reason old mid new verdict
-    (pushed ∙ ap (λ (m : Matter). old ++ lines_of (part_place (at_part id at)) m reason) is_what)
+    (pushed ∙ ap (λ (m : Matter). old ++ asides_for (part_place (at_part id at)) m reason) is_what)
     (subst (λ (s : Part). AddsTold facts (sid_items (at_part id at) s) mid new) (sym e)
     (sids (subst (λ (s : Part). PartStands facts standing (at_part id at) s) e stands)))
 
 -- any other part
-pub adds-other : (facts : Facts) (id : LspId) (at : ℕ) (said : Part) (reason : Option Reason) (what : Matter) (old mid : List Aside) → ((reach : Reach) → said ≡ part.Reach reach → ⊥) → ((prefix : Prefix) → said ≡ part.Prefix prefix → ⊥) → IsVerdict (Holds facts (OfPart (at_part id at) said)) reason → what ≡ matter_of_part said → mid ≡ old ++ lines_of (part_place (at_part id at)) what reason → AddsTold facts (part_items id at said) old mid
+pub adds-other : (facts : Facts) (id : LspId) (at : ℕ) (said : Part) (reason : Option Reason) (what : Matter) (old mid : List Aside) → ((reach : Reach) → said ≡ part.Reach reach → ⊥) → ((prefix : Prefix) → said ≡ part.Prefix prefix → ⊥) → IsFoundReason (HoldsFor facts (OfPart (at_part id at) said)) reason → what ≡ matter_of_part said → mid ≡ old ++ asides_for (part_place (at_part id at)) what reason → AddsTold facts (part_items id at said) old mid
 adds-other facts id at said reason what old mid p q verdict is_what pushed =
     adds-part facts id at said reason old mid mid verdict
-    (pushed ∙ ap (λ (m : Matter). old ++ lines_of (part_place (at_part id at)) m reason) is_what)
+    (pushed ∙ ap (λ (m : Matter). old ++ asides_for (part_place (at_part id at)) m reason) is_what)
     (adds-none facts (at_part id at) said mid p q)
 
 -- a part of an LSP of this standing
@@ -193,39 +193,47 @@ stands-at facts id (Own choice) at said parts up stands e lt is = (
   },
 )
 
--- the parts of the next LSP
-pub parts-there : (facts : Facts) (id : LspId) (stored : Stored) (shared : Lsp) (slice : List Part) (es rest : List (LspId × Stored)) → IsStrictlySortedBy id_cmp (keys_of facts.database) → ((entry : LspId × Stored) → Contains es entry → Contains facts.database entry) → es ≡ (id, stored) ∷ rest → stored.live ≡ Some shared → slice ≡ shared.parts → slice ≡ parts_under facts id
-parts-there facts id stored shared slice es rest up within step live e =
-    let there : Contains es (id, stored) = subst (λ (l : List (LspId × Stored)). Contains l (id, stored)) (sym step) (here (id, stored) rest) in
-    e ∙ ap parts_of (sym live) ∙ ap parts_in (sym (stored-there facts.database (id, stored) up (within (id, stored) there)))
+-- the parts of an LSP of the database
+pub parts-there : (facts : Facts) (id : LspId) (stored : Stored) (shared : Lsp) (slice : List Part) → IsStrictlySortedBy id_cmp (keys_of facts.database) → Contains facts.database (id, stored) → stored.live ≡ Some shared → slice ≡ shared.parts → slice ≡ parts_under facts id
+parts-there facts id stored shared slice up there live e =
+    e ∙ ap parts_of (sym live) ∙ ap parts_in (sym (stored-there facts.database (id, stored) up there))
+
+-- what is told of a live LSP is told of its parts
+pub adds-live : (facts : Facts) (id : LspId) (stored : Stored) (shared : Lsp) (slice : List Part) (old new : List Aside) → stored.live ≡ Some shared → slice ≡ shared.parts → AddsTold facts (each_from (part_items id) 0 slice) old new → AddsTold facts (entry_items (id, stored)) old new
+adds-live facts id stored shared slice old new live e adds =
+    subst (λ (items : List Item). AddsTold facts items old new) (ap (each_from (part_items id) 0) (e ∙ ap parts_of (sym live))) adds
+
+-- nothing is told of one that isn't live
+pub adds-purged : (facts : Facts) (id : LspId) (stored : Stored) (old : List Aside) → stored.live ≡ None → AddsTold facts (entry_items (id, stored)) old old
+adds-purged facts id stored old live =
+    let none : [] ≡ entry_items (id, stored) = ap (λ (o : Option Lsp). each_from (part_items id) 0 (parts_of o)) (sym live) in
+    subst (λ (items : List Item). AddsTold facts items old old) none (record { told = []; are = refl; appended = sym (append-nil old) })
+
+pub within-first : (facts : Facts) (first : LspId × Stored) (es rest : List (LspId × Stored)) → ((entry : LspId × Stored) → Contains es entry → Contains facts.database entry) → es ≡ first ∷ rest → Contains facts.database first
+within-first facts first es rest within step = within first (subst (λ (l : List (LspId × Stored)). Contains l first) (sym step) (here first rest))
 
 pub within-next : (facts : Facts) (first : LspId × Stored) (es rest : List (LspId × Stored)) → ((entry : LspId × Stored) → Contains es entry → Contains facts.database entry) → es ≡ first ∷ rest → (entry : LspId × Stored) → Contains rest entry → Contains facts.database entry
 within-next facts first es rest within step entry c = within entry (subst (λ (l : List (LspId × Stored)). Contains l entry) (sym step) (later first rest entry c))
 
 -- what is told of the rest of the LSPs makes up what is told of all
 abbrev pub IsRestOfAll : Facts → List (LspId × Stored) → List Aside → Type 0
-IsRestOfAll facts es now = (more : List Aside) → AreTold facts (items_in es) more → AreTold facts (items_in facts.database) (now ++ more)
+IsRestOfAll facts es now = (more : List Aside) → AreTold facts (items_of_entries es) more → AreTold facts (items_of_entries facts.database) (now ++ more)
 
-pub account-next : (facts : Facts) (id : LspId) (stored : Stored) (shared : Lsp) (slice : List Part) (es rest : List (LspId × Stored)) (now next : List Aside) → es ≡ (id, stored) ∷ rest → stored.live ≡ Some shared → slice ≡ shared.parts → AddsTold facts (each_from (part_items id) 0 slice) now next → IsRestOfAll facts es now → IsRestOfAll facts rest next
-account-next facts id stored shared slice es rest now next step live e adds all more told =
-    let items : each_from (part_items id) 0 slice ≡ entry_items (id, stored) = ap (each_from (part_items id) 0) (e ∙ ap parts_of (sym live)) in
-    let one : AreTold facts (entry_items (id, stored)) adds.told = subst (λ (xs : List Item). AreTold facts xs adds.told) items adds.are in
-    let both : AreTold facts (items_in es) (adds.told ++ more) =
-    subst (λ (l : List (LspId × Stored)). AreTold facts (items_in l) (adds.told ++ more)) (sym step)
-    (told-append facts (entry_items (id, stored)) (items_in rest) adds.told more one told) in
-    subst (λ (l : List Aside). AreTold facts (items_in facts.database) l)
-    (sym (ap (λ (l : List Aside). l ++ more) adds.appended ∙ append_assoc now adds.told more))
-    (all (adds.told ++ more) both)
+pub entry-next : (facts : Facts) (entry : LspId × Stored) (es rest : List (LspId × Stored)) (now told : List Aside) → es ≡ entry ∷ rest → AreTold facts (entry_items entry) told → IsRestOfAll facts es now → IsRestOfAll facts rest (now ++ told)
+entry-next facts entry es rest now told step is all more of_rest =
+    let both : AreTold facts (items_of_entries es) (told ++ more) =
+    subst (λ (l : List (LspId × Stored)). AreTold facts (items_of_entries l) (told ++ more)) (sym step)
+    (told-append facts (entry_items entry) (items_of_entries rest) told more is of_rest) in
+    subst (λ (l : List Aside). AreTold facts (items_of_entries facts.database) l) (sym (append_assoc now told more)) (all (told ++ more) both)
 
-pub account-purged : (facts : Facts) (id : LspId) (stored : Stored) (es rest : List (LspId × Stored)) (now : List Aside) → es ≡ (id, stored) ∷ rest → stored.live ≡ None → IsRestOfAll facts es now → IsRestOfAll facts rest now
-account-purged facts id stored es rest now step live all more told =
-    let none : items_in rest ≡ items_in ((id, stored) ∷ rest) = ap (λ (o : Option Lsp). each_from (part_items id) 0 (parts_of o) ++ items_in rest) (sym live) in
-    all more (subst (λ (l : List (LspId × Stored)). AreTold facts (items_in l) more) (sym step) (subst (λ (xs : List Item). AreTold facts xs more) none told))
+pub account-next : (facts : Facts) (entry : LspId × Stored) (es rest : List (LspId × Stored)) (now next : List Aside) → es ≡ entry ∷ rest → AddsTold facts (entry_items entry) now next → IsRestOfAll facts es now → IsRestOfAll facts rest next
+account-next facts entry es rest now next step adds all =
+    subst (λ (l : List Aside). IsRestOfAll facts rest l) (sym adds.appended) (entry-next facts entry es rest now adds.told step adds.are all)
 
-pub account-end : (facts : Facts) (es : List (LspId × Stored)) (now : List Aside) → es ≡ [] → IsRestOfAll facts es now → AreTold facts (items_in facts.database) now
+pub account-end : (facts : Facts) (es : List (LspId × Stored)) (now : List Aside) → es ≡ [] → IsRestOfAll facts es now → AreTold facts (items_of_entries facts.database) now
 account-end facts es now e all =
-    subst (λ (l : List Aside). AreTold facts (items_in facts.database) l) (append-nil now)
-    (all [] (subst (λ (l : List (LspId × Stored)). AreTold facts (items_in l) []) (sym e) refl))
+    subst (λ (l : List Aside). AreTold facts (items_of_entries facts.database) l) (append-nil now)
+    (all [] (subst (λ (l : List (LspId × Stored)). AreTold facts (items_of_entries l) []) (sym e) refl))
 
 -- what a step adds, where it doesn't fail
 pub on-ok : {X E : Type 0} (r : Result X E) (P Q : Type 0) → (P → Q) → OnOk r P → OnOk r Q

@@ -26,11 +26,13 @@ pub record IsFirstSid (backup : Bool) (label : ℕ) (sids : List AdjSid) (k : �
 
 -- the flags are those of the first such SID
 abbrev pub AreFirstFlags : Bool → ℕ → List AdjSid → ℕ → Type 0
-AreFirstFlags backup label sids flags = (k : ℕ) × (sid : AdjSid) × IsFirstSid backup label sids k sid × (flags ≡ sid.flags)
+AreFirstFlags backup label sids flags = (k : ℕ) × (sid : AdjSid) × IsFirstSid backup label sids k sid
+    × (flags ≡ sid.flags)
 
 -- no SID gives the label
 abbrev pub NoSidGives : Bool → ℕ → List AdjSid → Type 0
-NoSidGives backup label sids = (k : ℕ) (sid : AdjSid) → slice_get sids k ≡ Some sid → adj_sid_label backup sid ≢ Some label
+NoSidGives backup label sids = (k : ℕ) (sid : AdjSid) → slice_get sids k ≡ Some sid
+    → adj_sid_label backup sid ≢ Some label
 
 -- the flags of the SID of which no reason of its own holds, or none where the SIDs give no label
 abbrev pub AreLabelFlags : List AdjSid → Option ℕ → Type 0
@@ -79,7 +81,7 @@ abbrev pub IsFilled : Facts → Net → List LinkSource → ℕ → Type 0
 IsFilled facts net sources l = IsSourceOf facts net l (source_at sources l)
 
 -- these are the parts of a live LSP that counts
-pub record AreCounted (facts : Facts) (id : LspId) (parts : List Part) : Type 0 where
+pub record AreCountedParts (facts : Facts) (id : LspId) (parts : List Part) : Type 0 where
   pub counted : counts facts id ≡ true
   pub stand : parts_under facts id ≡ parts
 
@@ -97,7 +99,8 @@ IsEntryDone facts net sources entry =
     → GivesSource facts net.graph entry.0.system said l → IsFilled facts net sources l
 
 -- as far as the walk has come: each entry is still to come or done
-pub record IsWalkedTo (facts : Facts) (net : Net) (rest : List (LspId × Stored)) (sources : List LinkSource) : Type 0 where
+pub record IsWalkedTo (facts : Facts) (net : Net) (rest : List (LspId × Stored))
+    (sources : List LinkSource) : Type 0 where
   pub long : length sources ≡ link_count net.graph
   pub among : (entry : LspId × Stored) → Contains rest entry → Contains facts.database entry
   pub each : (entry : LspId × Stored) → Contains facts.database entry

@@ -42,10 +42,11 @@ pub data Item : Type 0 where
   OfPrefix : PartPlace → Prefix → ℕ → PrefixSid → Item
 
 -- the facts have the item
-abbrev pub IsItem : Facts → Item → Type 0
-IsItem facts (OfPart place part) = IsPartAt facts place part
-IsItem facts (OfAdj place reach k sid) = IsPartAt facts place (part.Reach reach) × (slice_get reach.adj k ≡ Some sid)
-IsItem facts (OfPrefix place prefix k sid) =
+abbrev pub IsFactItem : Facts → Item → Type 0
+IsFactItem facts (OfPart place part) = IsPartAt facts place part
+IsFactItem facts (OfAdj place reach k sid) = IsPartAt facts place (part.Reach reach)
+    × (slice_get reach.adj k ≡ Some sid)
+IsFactItem facts (OfPrefix place prefix k sid) =
     IsPartAt facts place (part.Prefix prefix) × (slice_get prefix.sids k ≡ Some sid)
 
 -- the place of a part
@@ -57,10 +58,10 @@ abbrev pub sid_place : PartPlace → ℕ → Place
 sid_place place k = record { id = place.id; part = place.part; sid = Some k }
 
 -- where an item stands
-abbrev pub place_of : Item → Place
-place_of (OfPart place part) = part_place place
-place_of (OfAdj place reach k sid) = sid_place place k
-place_of (OfPrefix place prefix k sid) = sid_place place k
+abbrev pub item_place : Item → Place
+item_place (OfPart place part) = part_place place
+item_place (OfAdj place reach k sid) = sid_place place k
+item_place (OfPrefix place prefix k sid) = sid_place place k
 
 -- what a part is, by name
 abbrev pub matter_of_part : Part → Matter

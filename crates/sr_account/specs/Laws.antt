@@ -9,7 +9,7 @@ use Rattle.sr_lsdb.specs.Order.{id_cmp}
 use Rattle.sr_domain.specs.Net.{IsNetOf}
 use Rattle.sr_account.specs.declared.aside.Aside.{Aside}
 use Rattle.sr_account.specs.declared.sources.LinkSource.{LinkSource}
-use Rattle.sr_account.specs.Items.{Item, IsItem, place_of}
+use Rattle.sr_account.specs.Items.{Item, IsFactItem, item_place}
 use Rattle.sr_account.specs.Asides.{AreAsides, IsTold}
 use Rattle.sr_account.specs.Used.{IsUsed}
 use Rattle.sr_account.specs.Sources.{AreSources}
@@ -20,23 +20,25 @@ IsInOrder facts = IsStrictlySortedBy id_cmp (keys_of facts.database)
 
 -- no line tells of the item
 abbrev pub IsToldNowhere : List Aside → Item → Type 0
-IsToldNowhere asides item = (n : ℕ) (aside : Aside) → slice_get asides n ≡ Some aside → aside.place ≡ place_of item → ⊥
+IsToldNowhere asides item = (n : ℕ) (aside : Aside) → slice_get asides n ≡ Some aside
+    → aside.place ≡ item_place item → ⊥
 
 -- exactly one line tells of the item, with the first reason that holds
 pub record IsToldOnce (facts : Facts) (asides : List Aside) (item : Item) : Type 0 where
   pub told : IsTold facts asides item
-  pub once : (n : ℕ) (aside : Aside) → slice_get asides n ≡ Some aside → aside.place ≡ place_of item → n ≡ told.line
+  pub once : (n : ℕ) (aside : Aside) → slice_get asides n ≡ Some aside → aside.place ≡ item_place item → n ≡ told.line
 
 -- whatever the facts have is used in the net, by name, and told nowhere; or it isn't used there, and exactly one line
 -- tells it
 abbrev pub IsAccountOf : Facts → Net → List Aside → Type 0
-IsAccountOf facts net asides = (item : Item) → IsItem facts item
+IsAccountOf facts net asides = (item : Item) → IsFactItem facts item
     → (IsUsed facts net item × IsToldNowhere asides item)
     ⊎ ((IsUsed facts net item → ⊥) × IsToldOnce facts asides item)
 
 -- what is told of facts is an account of their net
 abbrev pub NothingIsLost : Type 0
-NothingIsLost = (facts : Facts) (net : Net) (asides : List Aside) → IsInOrder facts → AreInRange facts → IsNetOf facts net
+NothingIsLost = (facts : Facts) (net : Net) (asides : List Aside) → IsInOrder facts → AreInRange facts
+    → IsNetOf facts net
     → AreAsides facts asides → IsAccountOf facts net asides
 
 -- facts have one account of what isn't used

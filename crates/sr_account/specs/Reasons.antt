@@ -1,5 +1,5 @@
--- Why something that is announced isn't used (this project's rules). Each reason is a condition of its own; what is told
--- of an item is the first that holds.
+-- Why something that is announced isn't used (this project's rules). Each reason is a condition of its own; what is
+-- told of an item is the first that holds.
 use Rattle.std.specs.Prelude.{◌≡◌, ◌≢◌, ℕ, ◌<◌, ◌⊎◌, Bool, true, false, ◌||◌, List, [], Some, is_some, slice_get, Contains}
 use Rattle.std.specs.List.{filter_map}
 use Rattle.sr_model.specs.declared.name.LinkKey.{LinkKey}
@@ -30,30 +30,30 @@ use Rattle.sr_account.specs.Items.{Item, PartPlace, IsPartAt, PlaceBefore, part_
 use Rattle.sr_account.specs.Items.Item.{OfPart, OfAdj, OfPrefix}
 
 -- how many reasons come before
-abbrev pub rank : Reason → ℕ
-rank Lan = 0
-rank Absent = 1
-rank Pseudonode = 2
-rank Itself = 3
-rank NeighbourAbsent = 4
-rank OneWay = 5
-rank Identity = 6
-rank MaximumMetric = 7
-rank Down = 8
-rank NotHost = 9
-rank NoSid = 10
-rank Silent = 11
-rank Algorithm = 12
-rank WrongForm = 13
-rank Flags = 14
-rank Backup = 15
-rank NotLeast = 16
-rank NotFirst = 17
-rank NoneUsed = 18
-rank NoGroups = 19
-rank NoLink = 20
-rank LinkUnused = 21
-rank HostName = 22
+abbrev pub reason_rank : Reason → ℕ
+reason_rank Lan = 0
+reason_rank Absent = 1
+reason_rank Pseudonode = 2
+reason_rank Itself = 3
+reason_rank NeighbourAbsent = 4
+reason_rank OneWay = 5
+reason_rank Identity = 6
+reason_rank MaximumMetric = 7
+reason_rank Down = 8
+reason_rank NotHost = 9
+reason_rank NoSid = 10
+reason_rank Silent = 11
+reason_rank Algorithm = 12
+reason_rank WrongForm = 13
+reason_rank Flags = 14
+reason_rank Backup = 15
+reason_rank NotLeast = 16
+reason_rank NotFirst = 17
+reason_rank NoneUsed = 18
+reason_rank NoGroups = 19
+reason_rank NoLink = 20
+reason_rank LinkUnused = 21
+reason_rank HostName = 22
 
 -- nothing of the LSP is used: it is a pseudonode's, or its system isn't present
 abbrev pub LspFails : Facts → LspId → Reason → Type 0
@@ -190,18 +190,18 @@ PartFails facts place (part.Risk risk) reason = RiskFails facts place.id.system 
 PartFails facts place (part.Capability capability) reason = CapabilityFails facts place capability reason
 
 -- the reason holds of the item: of its LSP, of its entry where it is a SID, or of itself
-abbrev pub Holds : Facts → Item → Reason → Type 0
-Holds facts (OfPart place said) reason = LspFails facts place.id reason ⊎ PartFails facts place said reason
-Holds facts (OfAdj place reach k sid) reason =
+abbrev pub HoldsFor : Facts → Item → Reason → Type 0
+HoldsFor facts (OfPart place said) reason = LspFails facts place.id reason ⊎ PartFails facts place said reason
+HoldsFor facts (OfAdj place reach k sid) reason =
     LspFails facts place.id reason ⊎ ReachFails facts place.id.system reach reason ⊎ AdjFails reach.adj k sid reason
-Holds facts (OfPrefix place prefix k sid) reason =
+HoldsFor facts (OfPrefix place prefix k sid) reason =
     LspFails facts place.id reason ⊎ PrefixSidFails facts place prefix k sid reason
 
 -- no reason holds of the item
 abbrev pub IsUnhindered : Facts → Item → Type 0
-IsUnhindered facts item = (reason : Reason) → Holds facts item reason → ⊥
+IsUnhindered facts item = (reason : Reason) → HoldsFor facts item reason → ⊥
 
 -- the reason holds of the item, and none before it does
 pub record IsFirstReason (facts : Facts) (item : Item) (reason : Reason) : Type 0 where
-  pub holds : Holds facts item reason
-  pub first : (earlier : Reason) → rank earlier < rank reason → Holds facts item earlier → ⊥
+  pub holds : HoldsFor facts item reason
+  pub first : (earlier : Reason) → reason_rank earlier < reason_rank reason → HoldsFor facts item earlier → ⊥

@@ -1,6 +1,6 @@
--- What is at hand while the account is taken: the items in order, what is told of them, what is looked up beforehand, and
--- what a node chose.
-use Rattle.std.specs.Prelude.{◌≡◌, ℕ, ◌+◌, ◌<◌, ◌≤◌, ◌⊎◌, Bool, true, false, ◌==◌, if◌then◌else◌, List, [], ◌∷◌, ◌++◌, map, filter, Option, Some, None, is_some, slice_get, nat_lt, MatchOption}
+-- What is at hand while the account is taken: the items in order, what is told of them, what is looked up beforehand,
+-- and what a node chose.
+use Rattle.std.specs.Prelude.{◌≡◌, ℕ, ◌+◌, ◌<◌, ◌≤◌, ◌⊎◌, Bool, true, false, ◌==◌, if◌then◌else◌, List, [], ◌∷◌, ◌++◌, map, filter, Option, Some, None, is_some, slice_get, nat_lt, IfSome, MatchOption}
 use Rattle.std.specs.Option.{option_map, option_or, option_to_list}
 use Rattle.std.specs.List.{filter_map, list_any}
 use Rattle.std.specs.List.Sorted.{IsPermutation, IsSorted, IsStrictlySortedBy}
@@ -33,7 +33,9 @@ use Rattle.sr_account.specs.declared.aside.Matter.{Matter}
 use Rattle.sr_account.specs.declared.aside.Aside.{Aside}
 use Rattle.sr_account.specs.declared.aside.Reason.{Reason}
 use Rattle.sr_account.specs.declared.aside.Reason.TheVariants.{NeighbourAbsent, OneWay, Identity, MaximumMetric, Down, NotLeast, NotFirst}
+use Rattle.sr_account.specs.declared.asides.Account.{Account}
 use Rattle.sr_account.specs.declared.choice.Choice.{Choice}
+use Rattle.sr_account.specs.declared.choice.Memo.{Memo}
 use Rattle.sr_account.specs.declared.choice.Offer.{Offer}
 use Rattle.sr_account.specs.declared.choice.OwnPart.{OwnPart}
 use Rattle.sr_account.specs.declared.choice.Saying.{Saying}
@@ -45,7 +47,7 @@ use Rattle.sr_account.specs.declared.survey.Survey.{Survey}
 use Rattle.sr_account.specs.contracts.survey.EndsOrd.TheImpl as ends_order
 use Rattle.sr_account.specs.Items.{Item, PartPlace, IsPartAt}
 use Rattle.sr_account.specs.Items.Item.{OfPart, OfAdj, OfPrefix}
-use Rattle.sr_account.specs.Reasons.{AdjFails, AnnouncesLink, GivesLabel, IsFirstReason, IsUnhindered, LspFails, PrefixSidFails, rank}
+use Rattle.sr_account.specs.Reasons.{AdjFails, AnnouncesLink, GivesLabel, IsFirstReason, IsUnhindered, LspFails, PrefixSidFails, reason_rank}
 use Rattle.sr_account.specs.Asides.{aside_of}
 
 -- none of these reasons holds
@@ -55,11 +57,11 @@ NoReason Fails = (reason : Reason) → Fails reason → ⊥
 -- the reason holds, and none before it does
 pub record IsFirstOf (Fails : Reason → Type 0) (reason : Reason) : Type 0 where
   pub holds : Fails reason
-  pub first : (earlier : Reason) → rank earlier < rank reason → Fails earlier → ⊥
+  pub first : (earlier : Reason) → reason_rank earlier < reason_rank reason → Fails earlier → ⊥
 
 -- the first reason that holds, or none where none does
-abbrev pub IsVerdict : (Reason → Type 0) → Option Reason → Type 0
-IsVerdict Fails reason = MatchOption reason (NoReason Fails) (IsFirstOf Fails)
+abbrev pub IsFoundReason : (Reason → Type 0) → Option Reason → Type 0
+IsFoundReason Fails reason = MatchOption reason (NoReason Fails) (IsFirstOf Fails)
 
 -- what the elements give, counted from a place on, in their order
 abbrev pub each_from : {X Y : Type 0} → (ℕ → X → List Y) → ℕ → List X → List Y
@@ -93,16 +95,17 @@ abbrev pub entry_items : (LspId × Stored) → List Item
 entry_items entry = each_from (part_items entry.0) 0 (parts_of entry.1.live)
 
 -- the items of these LSPs, in their order
-abbrev pub items_in : List (LspId × Stored) → List Item
-items_in [] = []
-items_in (entry ∷ entries) = entry_items entry ++ items_in entries
+abbrev pub items_of_entries : List (LspId × Stored) → List Item
+items_of_entries [] = []
+items_of_entries (entry ∷ entries) = entry_items entry ++ items_of_entries entries
 
 -- in the order of the items the first reason that holds is told of each, and nothing of those of which none does
 abbrev pub AreTold : Facts → List Item → List Aside → Type 0
 AreTold facts [] asides = asides ≡ []
 AreTold facts (item ∷ items) asides =
     (IsUnhindered facts item × AreTold facts items asides)
-    ⊎ ((reason : Reason) × (rest : List Aside) × IsFirstReason facts item reason × (asides ≡ aside_of item reason ∷ rest)
+    ⊎ ((reason : Reason) × (rest : List Aside) × IsFirstReason facts item reason
+    × (asides ≡ aside_of item reason ∷ rest)
     × AreTold facts items rest)
 
 -- what is told of the items was appended
@@ -112,9 +115,9 @@ pub record AddsTold (facts : Facts) (items : List Item) (old new : List Aside) :
   pub appended : new ≡ old ++ told
 
 -- what is told with the reason that there may be
-abbrev pub lines_of : Place → Matter → Option Reason → List Aside
-lines_of place matter None = []
-lines_of place matter (Some reason) = record { place = place; matter = matter; reason = reason } ∷ []
+abbrev pub asides_for : Place → Matter → Option Reason → List Aside
+asides_for place matter None = []
+asides_for place matter (Some reason) = record { place = place; matter = matter; reason = reason } ∷ []
 
 -- from which node to which the announcement is
 abbrev pub ends_of : Announcement → Ends
@@ -142,18 +145,18 @@ names_in [] = []
 names_in (a ∷ announcements) = names_by a ++ names_in announcements
 
 -- the same elements, in order
-pub record AreSorted {T : Type 0} (cmp : T → T → Ordering) (said sorted : List T) : Type 0 where
+pub record AreSortedFrom {T : Type 0} (cmp : T → T → Ordering) (said sorted : List T) : Type 0 where
   pub same : IsPermutation said sorted
   pub order : IsSorted cmp sorted
 
--- what is looked up: the keys of the announcements, the ends between which they are, the names by which risks may speak of
--- them, and the names of those whose bidirectional link is in use
+-- what is looked up: the keys of the announcements, the ends between which they are, the names by which risks may speak
+-- of them, and the names of those whose bidirectional link is in use
 pub record IsSurvey (facts : Facts) (survey : Survey) : Type 0 where
   pub order : IsStrictlySortedBy id_cmp (keys_of facts.database)
   pub keys : AreKeysOf (announcements_of facts) survey.keys.items
-  pub ends : AreSorted ends_cmp (map ends_of (announcements_of facts)) survey.ends.items
-  pub names : AreSorted name_cmp (names_in (announcements_of facts)) survey.names.items
-  pub used : AreSorted name_cmp (names_in (filter (has_link facts) (announcements_of facts))) survey.used.items
+  pub ends : AreSortedFrom ends_cmp (map ends_of (announcements_of facts)) survey.ends.items
+  pub names : AreSortedFrom name_cmp (names_in (announcements_of facts)) survey.names.items
+  pub used : AreSortedFrom name_cmp (names_in (filter (has_link facts) (announcements_of facts))) survey.used.items
 
 -- an announcement gives no link
 abbrev pub AnnouncementFails : Facts → Announcement → Reason → Type 0
@@ -166,26 +169,27 @@ AnnouncementFails facts a _ = ⊥
 
 -- one of these SIDs gives the label, with the flag B as asked
 abbrev pub GivesOne : List AdjSid → Bool → ℕ → Type 0
-GivesOne sids backup label = (j : ℕ) × (other : AdjSid) × (slice_get sids j ≡ Some other) × GivesLabel backup other label
+GivesOne sids backup label = (j : ℕ) × (other : AdjSid) × (slice_get sids j ≡ Some other)
+    × GivesLabel backup other label
 
 -- a SID before place k gives the same label as this one, with the flag B as asked
-abbrev pub IsRepeated : List AdjSid → ℕ → AdjSid → Bool → Type 0
-IsRepeated sids k sid backup =
+abbrev pub IsRepeatedSid : List AdjSid → ℕ → AdjSid → Bool → Type 0
+IsRepeatedSid sids k sid backup =
     (label : ℕ) × GivesLabel backup sid label
     × (j : ℕ) × (other : AdjSid) × (j < k) × (slice_get sids j ≡ Some other) × GivesLabel backup other label
 
 -- the reason of an entry is that of its SIDs; where it has none, the SID's own is
 abbrev pub IsAdjReason : Option Reason → List AdjSid → ℕ → AdjSid → Option Reason → Type 0
-IsAdjReason None sids k sid reason = IsVerdict (AdjFails sids k sid) reason
+IsAdjReason None sids k sid reason = IsFoundReason (AdjFails sids k sid) reason
 IsAdjReason (Some entry) sids k sid reason = reason ≡ Some entry
 
 -- the items of the node's own LSPs
 abbrev pub own_items : Facts → ℕ → List Item
-own_items facts node = items_in (filter (λ (entry : LspId × Stored). is_own node entry.0) facts.database)
+own_items facts node = items_of_entries (filter (λ (entry : LspId × Stored). is_own node entry.0) facts.database)
 
 -- the index that the Prefix-SID at this place of its node's own LSPs can give the node
-abbrev pub offer_at : ℕ → ℕ → ℕ → PrefixSid → Option Offer
-offer_at fragment place k sid =
+abbrev pub index_offer : ℕ → ℕ → ℕ → PrefixSid → Option Offer
+index_offer fragment place k sid =
     option_map (λ (given : NodeSid). record { index = given.index; fragment = fragment; part = place; sid = k }) (node_sid_by sid)
 
 -- the index that an item can give its node
@@ -193,7 +197,7 @@ abbrev pub offer_of : Item → Option Offer
 offer_of (OfPart place said) = None
 offer_of (OfAdj place reach k sid) = None
 offer_of (OfPrefix place prefix k sid) =
-    if prefix.length == ADDRESS_BITS then offer_at place.id.fragment place.part k sid else None
+    if prefix.length == ADDRESS_BITS then index_offer place.id.fragment place.part k sid else None
 
 -- the one of the lesser index, and of equal ones the first
 abbrev pub lesser_offer : Option Offer → Option Offer → Option Offer
@@ -228,12 +232,17 @@ abbrev pub first_saying : Saying → List Item → Option OwnPart
 first_saying saying [] = None
 first_saying saying (item ∷ items) = option_or (saying_place saying item) (first_saying saying items)
 
--- what the own LSPs of the node choose: the first least index that a Prefix-SID can give it, the first part that says label
--- ranges, and the first that says how many labels can be imposed
+-- what the own LSPs of the node choose: the first least index that a Prefix-SID can give it, the first part that says
+-- label ranges, and the first that says how many labels can be imposed
 pub record IsChoice (facts : Facts) (node : ℕ) (choice : Choice) : Type 0 where
   pub offer : choice.offer ≡ least_offer None (own_items facts node)
   pub ranges : choice.ranges ≡ first_saying Ranges (own_items facts node)
   pub imposition : choice.imposition ≡ first_saying Imposition (own_items facts node)
+
+-- what the account of these facts goes by: what is looked up in them, and what the node of the last LSP chose
+pub record IsReady (facts : Facts) (account : Account) : Type 0 where
+  pub survey : IsSurvey facts account.survey
+  pub last : IfSome account.last (λ (memo : Memo). IsChoice facts memo.node memo.choice)
 
 -- nothing of the LSP is used, for the first reason that holds of it; or it is its node's own, with what that chose
 abbrev pub IsStanding : Facts → LspId → Standing → Type 0

@@ -26,7 +26,7 @@ use Rattle.sr_account.specs.Items.Item.{OfPart, OfAdj, OfPrefix}
 use Rattle.sr_account.specs.Reasons.{IsCandidate, IsSaidBefore, NamesLink, SaysImposition, SaysRanges, entry_key}
 
 -- node v of the net is the system of the LSP, and the LSP is its own, no pseudonode's
-pub record IsNodeOf (net : Net) (id : LspId) (v : ℕ) : Type 0 where
+pub record IsNodeOfLsp (net : Net) (id : LspId) (v : ℕ) : Type 0 where
   pub real : id.pseudonode ≡ 0
   pub within : v < node_count net.graph
   pub system : system_at net.graph v ≡ id.system
@@ -34,7 +34,7 @@ pub record IsNodeOf (net : Net) (id : LspId) (v : ℕ) : Type 0 where
 -- the entry gives link l of the net its key and its metric
 pub record GivesLink (facts : Facts) (net : Net) (id : LspId) (reach : Reach) (l : ℕ) : Type 0 where
   pub node : ℕ
-  pub of_node : IsNodeOf net id node
+  pub of_node : IsNodeOfLsp net id node
   pub real : reach.pseudonode ≡ 0
   pub within : l < link_count net.graph
   pub key : (link_at net.graph l).key ≡ entry_key id.system reach
@@ -58,7 +58,7 @@ pub record GivesAdjLabel (facts : Facts) (net : Net) (id : LspId) (reach : Reach
 pub record GivesIndex (facts : Facts) (net : Net) (place : PartPlace) (prefix : Prefix) (k : ℕ) (sid : PrefixSid)
     : Type 0 where
   pub node : ℕ
-  pub of_node : IsNodeOf net place.id node
+  pub of_node : IsNodeOfLsp net place.id node
   pub host : prefix.length ≡ ADDRESS_BITS
   pub given : NodeSid
   pub given_is : node_sid_by sid ≡ Some given
@@ -74,7 +74,7 @@ GivesIndexBySid facts net place prefix =
 -- the shared-risk part gives a group to a link of the net: it names an announcement of the link or of its opposite
 pub record GivesGroup (facts : Facts) (net : Net) (id : LspId) (risk : Risk) : Type 0 where
   pub node : ℕ
-  pub of_node : IsNodeOf net id node
+  pub of_node : IsNodeOfLsp net id node
   pub real : risk.pseudonode ≡ 0
   pub announcement : Announcement
   pub announced : Contains (announcements_of facts) announcement
@@ -90,7 +90,7 @@ pub record GivesGroup (facts : Facts) (net : Net) (id : LspId) (risk : Risk) : T
 -- it does so
 pub record GivesCapability (facts : Facts) (net : Net) (place : PartPlace) (capability : Capability) : Type 0 where
   pub node : ℕ
-  pub of_node : IsNodeOf net place.id node
+  pub of_node : IsNodeOfLsp net place.id node
   pub gives : ((cap : SrCap) × (capability.srgb ≡ Some cap) × ((labels_at net node).srgb ≡ cap.ranges)
       × (IsSaidBefore SaysRanges facts place → ⊥))
       ⊎ ((imposes : ℕ) × (slice_get (filter_map imposition_by capability.msd) 0 ≡ Some imposes)

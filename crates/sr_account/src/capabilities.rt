@@ -3,7 +3,7 @@ ghost use Rattle.std.specs.Prelude.{◌≡◌, Some, ◌↔◌, IsTrue};
 ghost use Rattle.sr_lsp.specs.declared.table.Part.TheVariants as part;
 ghost use Rattle.sr_lsdb.specs.declared.facts.Facts.{Facts};
 ghost use Rattle.sr_account.specs.Reasons.{CapabilityFails};
-ghost use Rattle.sr_account.specs.Steps.{IsOwnPart, IsVerdict, at_part, own_part};
+ghost use Rattle.sr_account.specs.Steps.{IsOwnPart, IsFoundReason, at_part, own_part};
 
 use crate::aside::Reason;
 use crate::choice::{Choice, OwnPart, Saying, tells};
@@ -27,7 +27,7 @@ pub(crate) fn capability_reason(
     capability: &Capability,
 ) -> Option<Reason>
     ensures { (facts : Facts) → IsOwnPart facts choice.now (at_part id.now at) (part.Capability capability.now)
-        → IsVerdict (CapabilityFails facts (at_part id.now at) capability.now) result }
+        → IsFoundReason (CapabilityFails facts (at_part id.now at) capability.now) result }
 {
     let ranges = tells(Saying::Ranges, capability);
     let imposition = tells(Saying::Imposition, capability);

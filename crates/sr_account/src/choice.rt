@@ -2,15 +2,16 @@
 ghost use Rattle.std.specs.Prelude.{◌≡◌, None, IfSome};
 ghost use Rattle.sr_wire.specs.declared.registry.TheConstants.{ADDRESS_BITS};
 ghost use Rattle.sr_lsp.specs.declared.table.Part.TheVariants as part;
+ghost use Rattle.sr_lsp.specs.Parts.{part_of};
 ghost use Rattle.sr_domain.specs.Announced.{first_id};
 ghost use Rattle.sr_domain.specs.Nodes.{past_own};
 ghost use Rattle.sr_account.specs.declared.choice.Memo.{Memo as Kept};
-ghost use Rattle.sr_account.specs.Steps.{IsChoice, at_part, each_from, first_saying, least_offer, lesser_offer, offer_at, own_items, part_items, prefix_item, says};
+ghost use Rattle.sr_account.specs.Steps.{IsChoice, at_part, each_from, first_saying, least_offer, lesser_offer, index_offer, own_items, part_items, prefix_item, says};
 
 use crate::aside::Reason;
 use sr_domain::{first_imposition, node_sid_by};
 use sr_lsdb::Facts;
-use sr_lsp::{Capability, LspId, Part, Prefix};
+use sr_lsp::{Capability, LspId, PartRef, Parts, Prefix};
 use sr_model::SystemId;
 use sr_subtlv::PrefixSid;
 use sr_wire::registry::ADDRESS_BITS;
@@ -81,8 +82,8 @@ fn own_ids(node: SystemId) -> (LspId, LspId)
 }
 
 /// The index that the Prefix-SID at this place can give its node.
-fn offer_at(fragment: u8, part: usize, k: usize, sid: PrefixSid) -> Option<Offer>
-    ensures { result ≡ offer_at fragment part k sid }
+fn index_offer(fragment: u8, part: usize, k: usize, sid: PrefixSid) -> Option<Offer>
+    ensures { result ≡ index_offer fragment part k sid }
 {
     match node_sid_by(sid) {
         Some(given) => Some(Offer {
@@ -115,17 +116,17 @@ fn least_of_prefix(id: &LspId, at: usize, prefix: &Prefix, first: Option<Offer>)
 {
     let mut found = first;
     for (k, sid) in prefix.sids.as_slice().iter().enumerate() {
-        found = lesser_offer(found, offer_at(id.fragment, at, k, *sid));
+        found = lesser_offer(found, index_offer(id.fragment, at, k, *sid));
     }
     found
 }
 
 /// The least of what was found and of what the part offers.
-fn least_of_part(id: &LspId, at: usize, part: &Part, first: Option<Offer>) -> Option<Offer>
-    ensures { result ≡ least_offer first (part_items id.now at part.now) }
+fn least_of_part(id: &LspId, at: usize, part: PartRef<'_>, first: Option<Offer>) -> Option<Offer>
+    ensures { result ≡ least_offer first (part_items id.now at (part_of part.entry)) }
 {
     match part {
-        Part::Prefix(prefix) => {
+        PartRef::Prefix(prefix) => {
             if prefix.length == ADDRESS_BITS {
                 least_of_prefix(id, at, prefix, first)
             } else {
@@ -137,12 +138,12 @@ fn least_of_part(id: &LspId, at: usize, part: &Part, first: Option<Offer>) -> Op
 }
 
 /// The least of what was found and of what the parts of an LSP offer.
-fn least_of_parts(id: &LspId, parts: &[Part], first: Option<Offer>) -> Option<Offer>
+fn least_of_parts(id: &LspId, parts: &Parts, first: Option<Offer>) -> Option<Offer>
     ensures { result ≡ least_offer first (each_from (part_items id.now) 0 parts.now) }
 {
     let mut found = first;
-    for (at, part) in parts.iter().enumerate() {
-        found = least_of_part(id, at, part, found);
+    for at in 0..parts.count() {
+        found = least_of_part(id, at, parts.at(at), found);
     }
     found
 }
@@ -156,7 +157,7 @@ fn least_own(facts: &Facts, node: SystemId) -> Option<Offer>
     let database = facts.database.as_map();
     for (id, stored) in database.range(first..past) {
         match &stored.live {
-            Some(shared) => found = least_of_parts(id, shared.lsp().parts.as_slice(), found),
+            Some(shared) => found = least_of_parts(id, &shared.lsp().parts, found),
             None => {}
         }
     }
@@ -174,21 +175,21 @@ pub(crate) fn tells(saying: Saying, capability: &Capability) -> bool
 }
 
 /// The same of any part.
-fn says(saying: Saying, part: &Part) -> bool
-    ensures { result ≡ says saying part.now }
+fn says(saying: Saying, part: PartRef<'_>) -> bool
+    ensures { result ≡ says saying (part_of part.entry) }
 {
     match part {
-        Part::Capability(capability) => tells(saying, capability),
+        PartRef::Capability(capability) => tells(saying, capability),
         _ => false,
     }
 }
 
 /// The place of the first part of an LSP that says so.
-fn first_of_parts(saying: Saying, id: &LspId, parts: &[Part]) -> Option<OwnPart>
+fn first_of_parts(saying: Saying, id: &LspId, parts: &Parts) -> Option<OwnPart>
     ensures { result ≡ first_saying saying (each_from (part_items id.now) 0 parts.now) }
 {
-    for (at, part) in parts.iter().enumerate() {
-        if says(saying, part) {
+    for at in 0..parts.count() {
+        if says(saying, parts.at(at)) {
             return Some(OwnPart {
                 fragment: id.fragment,
                 part: at,
@@ -206,7 +207,7 @@ fn first_own(facts: &Facts, saying: Saying, node: SystemId) -> Option<OwnPart>
     let database = facts.database.as_map();
     for (id, stored) in database.range(first..past) {
         match &stored.live {
-            Some(shared) => match first_of_parts(saying, id, shared.lsp().parts.as_slice()) {
+            Some(shared) => match first_of_parts(saying, id, &shared.lsp().parts) {
                 Some(place) => return Some(place),
                 None => {}
             },

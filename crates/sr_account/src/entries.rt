@@ -4,7 +4,7 @@ ghost use Rattle.sr_subtlv.specs.declared.sid.Sid.TheVariants.{Label};
 ghost use Rattle.sr_lsdb.specs.declared.facts.Facts.{Facts as Domain};
 ghost use Rattle.sr_domain.specs.Announced.{adj_label, adj_sid_labels, is_for_one, least};
 ghost use Rattle.sr_account.specs.Reasons.{AdjFails, ReachFails};
-ghost use Rattle.sr_account.specs.Steps.{AnnouncementFails, GivesOne, IsAdjReason, IsFirstOf, IsRepeated, IsSurvey, IsVerdict};
+ghost use Rattle.sr_account.specs.Steps.{AnnouncementFails, GivesOne, IsAdjReason, IsFirstOf, IsRepeatedSid, IsSurvey, IsFoundReason};
 
 use crate::aside::Reason;
 use crate::survey::{Ends, Survey, is_among};
@@ -22,7 +22,7 @@ pub(crate) fn announcement_reason(
     announcement: &Announcement,
 ) -> Option<Reason>
     requires { IsSurvey facts.now survey.now }
-    ensures { IsVerdict (AnnouncementFails facts.now announcement.now) result }
+    ensures { IsFoundReason (AnnouncementFails facts.now announcement.now) result }
 {
     let key = &announcement.key;
     let back = Ends {
@@ -74,9 +74,9 @@ fn gives(sids: &[AdjSid], backup: bool, label: u32) -> bool
 }
 
 /// Whether a SID before place k gives the same label as this one, with the flag B as asked.
-fn is_repeated(sids: &[AdjSid], k: usize, sid: AdjSid, backup: bool) -> bool
+fn is_repeated_sid(sids: &[AdjSid], k: usize, sid: AdjSid, backup: bool) -> bool
     requires { k ≤ length sids.now }
-    ensures { IsTrue result ↔ IsRepeated sids.now k sid backup }
+    ensures { IsTrue result ↔ IsRepeatedSid sids.now k sid backup }
 {
     match adj_sid_label(backup, sid) {
         Some(label) => gives(&sids[..k], backup, label),
@@ -100,7 +100,7 @@ fn label_reason(sids: &[AdjSid], k: usize, sid: AdjSid, label: u32) -> Option<Re
     requires place { k ≤ length sids.now }
     requires label { sid.sid ≡ Label label }
     requires one { is_for_one sid.flags ≡ true }
-    ensures { IsVerdict (AdjFails sids.now k sid) result }
+    ensures { IsFoundReason (AdjFails sids.now k sid) result }
 {
     let backup = sid.flags & ADJ_SID_BACKUP == ADJ_SID_BACKUP;
     let clear = least_label(false, sids);
@@ -111,7 +111,7 @@ fn label_reason(sids: &[AdjSid], k: usize, sid: AdjSid, label: u32) -> Option<Re
         Some(least) => {
             if least != label {
                 Some(Reason::NotLeast)
-            } else if is_repeated(sids, k, sid, false) || is_repeated(sids, k, sid, true) {
+            } else if is_repeated_sid(sids, k, sid, false) || is_repeated_sid(sids, k, sid, true) {
                 Some(Reason::NotFirst)
             } else {
                 None
@@ -125,7 +125,7 @@ fn label_reason(sids: &[AdjSid], k: usize, sid: AdjSid, label: u32) -> Option<Re
 /// fit 255 octets, so that each may look at all of them.
 fn adj_reason(sids: &[AdjSid], k: usize, sid: AdjSid) -> Option<Reason>
     requires { k ≤ length sids.now }
-    ensures { IsVerdict (AdjFails sids.now k sid) result }
+    ensures { IsFoundReason (AdjFails sids.now k sid) result }
 {
     match sid.sid {
         Sid::Index(_) => Some(Reason::WrongForm),

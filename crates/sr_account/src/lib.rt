@@ -14,6 +14,6 @@ mod sources;
 mod survey;
 
 pub use aside::{Aside, Matter, Place, Reason};
-pub use asides::asides_of;
+pub use asides::{Account, aside_count, asides_of};
 pub use laws::{accounts_are_determined, are_in_order, nothing_is_lost};
 pub use sources::{LinkSource, sources_of};

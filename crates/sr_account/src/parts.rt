@@ -1,9 +1,10 @@
 //! Why a part isn't used, and what it is by name.
 ghost use Rattle.std.specs.Prelude.{◌≡◌};
+ghost use Rattle.sr_lsp.specs.Parts.{part_of};
 ghost use Rattle.sr_account.specs.Items.{matter_of_part};
 ghost use Rattle.sr_account.specs.Items.Item.{OfPart};
-ghost use Rattle.sr_account.specs.Reasons.{Holds, PartFails};
-ghost use Rattle.sr_account.specs.Steps.{IsOwnPart, IsSurvey, IsVerdict, PartStands, at_part};
+ghost use Rattle.sr_account.specs.Reasons.{HoldsFor, PartFails};
+ghost use Rattle.sr_account.specs.Steps.{IsOwnPart, IsSurvey, IsFoundReason, PartStands, at_part};
 
 use crate::aside::{Matter, Reason};
 use crate::capabilities::capability_reason;
@@ -14,27 +15,27 @@ use crate::risks::risk_reason;
 use crate::survey::Survey;
 use sr_domain::announced_by;
 use sr_lsdb::Facts;
-use sr_lsp::{LspId, Part};
+use sr_lsp::{LspId, PartRef};
 
 /// What the part is, by name.
-pub(crate) fn matter_of(part: &Part) -> Matter
-    ensures { result ≡ matter_of_part part.now }
+pub(crate) fn matter_of(part: PartRef<'_>) -> Matter
+    ensures { result ≡ matter_of_part (part_of part.entry) }
 {
     match part {
-        Part::Reach(reach) => Matter::Reach {
+        PartRef::Reach(reach) => Matter::Reach {
             neighbour: reach.neighbour,
             pseudonode: reach.pseudonode,
         },
-        Part::Prefix(prefix) => Matter::Prefix {
+        PartRef::Prefix(prefix) => Matter::Prefix {
             prefix: prefix.prefix,
             length: prefix.length,
         },
-        Part::Name(_) => Matter::Name,
-        Part::Risk(risk) => Matter::Risk {
+        PartRef::Name(_) => Matter::Name,
+        PartRef::Risk(risk) => Matter::Risk {
             neighbour: risk.neighbour,
             pseudonode: risk.pseudonode,
         },
-        Part::Capability(capability) => Matter::Capability {
+        PartRef::Capability(capability) => Matter::Capability {
             router: capability.router,
         },
     }
@@ -47,21 +48,21 @@ fn own_reason(
     choice: &Choice,
     id: &LspId,
     at: usize,
-    part: &Part,
+    part: PartRef<'_>,
 ) -> Option<Reason>
     requires survey { IsSurvey facts.now survey.now }
-    requires own { IsOwnPart facts.now choice.now (at_part id.now at) part.now }
-    ensures { IsVerdict (PartFails facts.now (at_part id.now at) part.now) result }
+    requires own { IsOwnPart facts.now choice.now (at_part id.now at) (part_of part) }
+    ensures { IsFoundReason (PartFails facts.now (at_part id.now at) (part_of part.entry)) result }
 {
     match part {
-        Part::Reach(reach) => match announced_by(id.system, part) {
+        PartRef::Reach(reach) => match announced_by(id.system, part) {
             Some(announcement) => announcement_reason(survey, facts, &announcement),
             None => Some(unannounced_reason(id.system, reach)),
         },
-        Part::Prefix(prefix) => prefix_reason(choice, id, at, prefix),
-        Part::Name(_) => Some(Reason::HostName),
-        Part::Risk(risk) => risk_reason(survey, id.system, risk),
-        Part::Capability(capability) => capability_reason(choice, id, at, capability),
+        PartRef::Prefix(prefix) => prefix_reason(choice, id, at, prefix),
+        PartRef::Name(_) => Some(Reason::HostName),
+        PartRef::Risk(risk) => risk_reason(survey, id.system, risk),
+        PartRef::Capability(capability) => capability_reason(choice, id, at, capability),
     }
 }
 
@@ -72,11 +73,11 @@ pub(crate) fn part_reason(
     standing: &Standing,
     id: &LspId,
     at: usize,
-    part: &Part,
+    part: PartRef<'_>,
 ) -> Option<Reason>
     requires survey { IsSurvey facts.now survey.now }
-    requires stands { PartStands facts.now standing.now (at_part id.now at) part.now }
-    ensures { IsVerdict (Holds facts.now (OfPart (at_part id.now at) part.now)) result }
+    requires stands { PartStands facts.now standing.now (at_part id.now at) (part_of part) }
+    ensures { IsFoundReason (HoldsFor facts.now (OfPart (at_part id.now at) (part_of part.entry))) result }
 {
     match standing {
         Standing::SetAside(reason) => Some(*reason),

@@ -3,8 +3,8 @@ ghost use Rattle.std.specs.Prelude.{◌≡◌, Some, slice_get};
 ghost use Rattle.sr_lsp.specs.declared.table.Part.TheVariants as part;
 ghost use Rattle.sr_lsdb.specs.declared.facts.Facts.{Facts};
 ghost use Rattle.sr_account.specs.Items.Item.{OfPrefix};
-ghost use Rattle.sr_account.specs.Reasons.{Holds, PrefixFails, PrefixSidFails};
-ghost use Rattle.sr_account.specs.Steps.{IsAnyUsed, IsOfferReason, IsOwnPart, IsVerdict, PartStands, at_part};
+ghost use Rattle.sr_account.specs.Reasons.{HoldsFor, PrefixFails, PrefixSidFails};
+ghost use Rattle.sr_account.specs.Steps.{IsAnyUsed, IsOfferReason, IsOwnPart, IsFoundReason, PartStands, at_part};
 
 use crate::aside::Reason;
 use crate::choice::{Choice, Offer, Standing};
@@ -48,7 +48,7 @@ fn own_sid_reason(
 ) -> Option<Reason>
     ensures { (facts : Facts) → IsOwnPart facts choice.now (at_part id.now at) (part.Prefix prefix.now)
         → slice_get prefix.now.sids k ≡ Some sid
-        → IsVerdict (PrefixSidFails facts (at_part id.now at) prefix.now k sid) result }
+        → IsFoundReason (PrefixSidFails facts (at_part id.now at) prefix.now k sid) result }
 {
     if prefix.length != ADDRESS_BITS {
         return Some(Reason::NotHost);
@@ -80,7 +80,7 @@ pub(crate) fn prefix_sid_reason(
 ) -> Option<Reason>
     ensures { (facts : Facts) → PartStands facts standing.now (at_part id.now at) (part.Prefix prefix.now)
         → slice_get prefix.now.sids k ≡ Some sid
-        → IsVerdict (Holds facts (OfPrefix (at_part id.now at) prefix.now k sid)) result }
+        → IsFoundReason (HoldsFor facts (OfPrefix (at_part id.now at) prefix.now k sid)) result }
 {
     match standing {
         Standing::SetAside(reason) => Some(*reason),
@@ -110,7 +110,7 @@ pub(crate) fn prefix_reason(
     prefix: &Prefix,
 ) -> Option<Reason>
     ensures { (facts : Facts) → IsOwnPart facts choice.now (at_part id.now at) (part.Prefix prefix.now)
-        → IsVerdict (PrefixFails facts (at_part id.now at) prefix.now) result }
+        → IsFoundReason (PrefixFails facts (at_part id.now at) prefix.now) result }
 {
     if prefix.length != ADDRESS_BITS {
         Some(Reason::NotHost)

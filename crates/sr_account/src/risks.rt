@@ -3,7 +3,7 @@ ghost use Rattle.std.specs.List.Sorted.{IsSorted};
 ghost use Rattle.sr_lsdb.specs.declared.facts.Facts.{Facts};
 ghost use Rattle.sr_domain.specs.Groups.{name_cmp};
 ghost use Rattle.sr_account.specs.Reasons.{RiskFails};
-ghost use Rattle.sr_account.specs.Steps.{IsSurvey, IsVerdict};
+ghost use Rattle.sr_account.specs.Steps.{IsSurvey, IsFoundReason};
 
 use crate::aside::Reason;
 use crate::survey::{Survey, is_among};
@@ -15,7 +15,7 @@ use sr_model::SystemId;
 pub(crate) fn risk_reason(survey: &Survey, node: SystemId, risk: &Risk) -> Option<Reason>
     requires names { IsSorted name_cmp survey.now.names.items }
     requires used { IsSorted name_cmp survey.now.used.items }
-    ensures { (facts : Facts) → IsSurvey facts survey.now → IsVerdict (RiskFails facts node risk.now) result }
+    ensures { (facts : Facts) → IsSurvey facts survey.now → IsFoundReason (RiskFails facts node risk.now) result }
 {
     let name = RiskName {
         from: node,

@@ -2,8 +2,9 @@
 ghost use Rattle.std.specs.Prelude.{◌≡◌, length, IfOk, MatchOption};
 ghost use Rattle.sr_model.specs.declared.link.LinkNo.{LinkNo as Number};
 ghost use Rattle.sr_model.specs.Graph.{IsNamed, link_count};
+ghost use Rattle.sr_lsp.specs.Parts.{part_of};
 ghost use Rattle.sr_domain.specs.Net.{IsNetOf};
-ghost use Rattle.sr_account.specs.Filling.{AreCounted, AreFirstFlags, AreLabelFlags, GivesNoSource, GivesSource, IsFilledTo, IsPut, IsSaidOf, NoSidGives};
+ghost use Rattle.sr_account.specs.Filling.{AreCountedParts, AreFirstFlags, AreLabelFlags, GivesNoSource, GivesSource, IsFilledTo, IsPut, IsSaidOf, NoSidGives};
 ghost use Rattle.sr_account.specs.Laws.{IsInOrder};
 ghost use Rattle.sr_account.specs.Sources.{AreSources};
 
@@ -12,7 +13,7 @@ use sr_domain::{adj_sid_label, announced_by, is_present, least_label, link_by};
 use sr_graph::Graph;
 use sr_labels::Net;
 use sr_lsdb::Facts;
-use sr_lsp::{LspId, Part, Reach};
+use sr_lsp::{LspId, PartRef, Parts, Reach};
 use sr_model::{LinkNo, SystemId};
 use sr_subtlv::AdjSid;
 use std::alloc::{AllocError, Global};
@@ -59,9 +60,9 @@ fn source_of(reach: &Reach) -> LinkSource
 }
 
 /// The link of the graph that the part gives.
-fn link_given(facts: &Facts, graph: &Graph, node: SystemId, part: &Part) -> Option<LinkNo>
-    ensures { MatchOption result (GivesNoSource facts.now graph.now node part.now)
-        (λ (link : Number). GivesSource facts.now graph.now node part.now link.0) }
+fn link_given(facts: &Facts, graph: &Graph, node: SystemId, part: PartRef<'_>) -> Option<LinkNo>
+    ensures { MatchOption result (GivesNoSource facts.now graph.now node (part_of part.entry))
+        (λ (link : Number). GivesSource facts.now graph.now node (part_of part.entry) link.0) }
 {
     match announced_by(node, part) {
         Some(announcement) => match link_by(facts, &announcement) {
@@ -73,16 +74,16 @@ fn link_given(facts: &Facts, graph: &Graph, node: SystemId, part: &Part) -> Opti
 }
 
 /// Puts what the part announces into the slot of the link that it gives.
-fn put(facts: &Facts, graph: &Graph, node: SystemId, part: &Part, sources: &mut [LinkSource])
+fn put(facts: &Facts, graph: &Graph, node: SystemId, part: PartRef<'_>, sources: &mut [LinkSource])
     requires named { IsNamed graph.now }
     requires long { length sources.old ≡ link_count graph.now }
-    ensures { IsPut facts.now graph.now node part.now sources.old sources.new }
+    ensures { IsPut facts.now graph.now node (part_of part.entry) sources.old sources.new }
 {
     match link_given(facts, graph, node, part) {
         Some(link) => {
             let slot = link.0 as usize;
             match part {
-                Part::Reach(reach) => sources[slot] = source_of(reach),
+                PartRef::Reach(reach) => sources[slot] = source_of(reach),
                 _ => {}
             }
         }
@@ -91,16 +92,16 @@ fn put(facts: &Facts, graph: &Graph, node: SystemId, part: &Part, sources: &mut 
 }
 
 /// Fills the slots of the links that the parts of an LSP give.
-fn fill_from(facts: &Facts, net: &Net, id: &LspId, parts: &[Part], sources: &mut [LinkSource])
+fn fill_from(facts: &Facts, net: &Net, id: &LspId, parts: &Parts, sources: &mut [LinkSource])
     requires net { IsNetOf facts.now net.now }
     requires order { IsInOrder facts.now }
-    requires parts { AreCounted facts.now id.now parts.now }
+    requires parts { AreCountedParts facts.now id.now parts.now }
     requires long { length sources.old ≡ link_count net.now.graph }
     ensures { IsFilledTo facts.now net.now id.now (length parts.now) sources.old sources.new }
 {
     let graph = net.graph();
-    for part in parts {
-        put(facts, graph, id.system, part, sources);
+    for at in 0..parts.count() {
+        put(facts, graph, id.system, parts.at(at), sources);
     }
 }
 
@@ -115,7 +116,7 @@ fn fill(facts: &Facts, net: &Net, sources: &mut [LinkSource])
     for (id, stored) in database {
         if id.pseudonode == 0 && is_present(facts, id.system) {
             match &stored.live {
-                Some(shared) => fill_from(facts, net, id, shared.lsp().parts.as_slice(), sources),
+                Some(shared) => fill_from(facts, net, id, &shared.lsp().parts, sources),
                 None => {}
             }
         }

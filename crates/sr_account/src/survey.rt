@@ -6,7 +6,7 @@ ghost use Rattle.std.specs.List.Sorted.{IsSorted};
 ghost use Rattle.sr_domain.specs.Announced.{AreKeysOf, announcements_of};
 ghost use Rattle.sr_domain.specs.Groups.{name_cmp};
 ghost use Rattle.sr_domain.specs.Links.{links_of};
-ghost use Rattle.sr_account.specs.Steps.{AreSorted, IsSurvey, ends_cmp, ends_of, has_link, link_pair, names_by, names_in};
+ghost use Rattle.sr_account.specs.Steps.{AreSortedFrom, IsSurvey, ends_cmp, ends_of, has_link, link_pair, names_by, names_in};
 
 use sr_domain::{
     Announcement, RiskName, announcements, holds, keys_of, link_by, numbered_name, unnumbered_name,
@@ -45,7 +45,7 @@ pub(crate) fn is_among<T: Ord>(sorted: &[T], value: &T) -> bool
 
 /// The ends of these announcements, in order.
 fn sorted_ends(alloc: Global, announcements: &[Announcement]) -> Result<Vec<Ends>, AllocError>
-    ensures { IfOk result (λ v. AreSorted ends_cmp (map ends_of announcements.now) v.items) }
+    ensures { IfOk result (λ v. AreSortedFrom ends_cmp (map ends_of announcements.now) v.items) }
 {
     let mut ends = list_ends(alloc, announcements)?;
     ends.sort_unstable();
@@ -94,7 +94,7 @@ fn list_names(alloc: Global, announcements: &[Announcement]) -> Result<Vec<RiskN
 
 /// The names of these announcements, in order.
 fn sorted_names(alloc: Global, announcements: &[Announcement]) -> Result<Vec<RiskName>, AllocError>
-    ensures { IfOk result (λ v. AreSorted name_cmp (names_in announcements.now) v.items) }
+    ensures { IfOk result (λ v. AreSortedFrom name_cmp (names_in announcements.now) v.items) }
 {
     let mut names = list_names(alloc, announcements)?;
     names.sort_unstable();

@@ -9,7 +9,7 @@ use Rattle.sr_model.specs.declared.name.LinkKey.{LinkKey}
 use Rattle.sr_model.specs.Key.{IsSamePair}
 use Rattle.sr_graph.specs.declared.draft.DraftLink.{DraftLink}
 use Rattle.sr_graph.specs.Draft.{IsDraft}
-use Rattle.sr_graph_checks.specs.Spans.{groups_at, IsSpanned}
+use Rattle.sr_graph_checks.specs.Spans.{span_groups, IsSpanned}
 
 -- the list has the numbers from 1 to n
 pub record AreNumbered (n : ℕ) (nodes : List ℕ) : Type 0 where
@@ -21,7 +21,7 @@ has-number n nodes r v (some, within) =
     let below : v - 1 < length nodes = omega (arith, r.long) in
     (v - 1, below, get_or_default nodes (v - 1) v 0 below ∙ omega (arith, r.each (v - 1) (omega arith)))
 
-groups-increasing : (risky ends : ℕ) → IsStrictlyIncreasing (groups_at risky ends)
+groups-increasing : (risky ends : ℕ) → IsStrictlyIncreasing (span_groups risky ends)
 groups-increasing risky ends =
     elim (nat_eq ends risky) as (λ is. IsStrictlyIncreasing (if is then 7 ∷ [] else [])) [
       | true ↦ λ k lt. absurd (omega arith)
@@ -38,7 +38,7 @@ same-ends a b pair =
 
 -- the link has the groups of its ends
 abbrev HasGroups : ℕ → DraftLink → Type 0
-HasGroups risky link = link.groups ≡ groups_at risky (link.key.from + link.key.to)
+HasGroups risky link = link.groups ≡ span_groups risky (link.key.from + link.key.to)
 
 all-have_groups : (n risky : ℕ) (links : List DraftLink) → All (IsSpanned n risky) links → All (HasGroups risky) links
 all-have_groups n risky links spanned k d within = (spanned k d within).groups
@@ -58,6 +58,6 @@ spanned_draft n risky nodes links r spanned =
       groups = λ k d within. rw (grouped k d within) (groups-increasing risky _);
       pairs = λ a b in_a in_b pair.
           All-contains (HasGroups risky) links a grouped in_a
-          ∙ ap (groups_at risky) (same-ends a.key b.key pair)
+          ∙ ap (span_groups risky) (same-ends a.key b.key pair)
           ∙ sym (All-contains (HasGroups risky) links b grouped in_b);
     }

@@ -19,7 +19,7 @@ use Rattle.sr_model.specs.Rule.{IsFirstBroken, AreAnnounced, IsAccepted, adj_lab
 use Rattle.sr_graph.specs.declared.draft.DraftLink.{DraftLink}
 use Rattle.sr_graph.specs.Draft.{IsDraft, HasEnds}
 use Rattle.sr_labels.specs.Rules.{HaveSrgbs}
-use Rattle.sr_line_checks.specs.Drafts.{drafted}
+use Rattle.sr_line_checks.specs.Drafts.{drafted_in}
 
 -- each is below the next
 abbrev pub rises : List ℕ → Bool
@@ -43,7 +43,7 @@ stands nodes x = list_any (nat_eq x) nodes
 abbrev pub joins : List ℕ → LinkKey → Bool
 joins nodes key = stands nodes key.from && (stands nodes key.to && not (nat_eq key.from key.to))
 
-joins-ends : (nodes groups : List ℕ) (key : LinkKey) → joins nodes key ≡ true → HasEnds nodes (drafted groups key)
+joins-ends : (nodes groups : List ℕ) (key : LinkKey) → joins nodes key ≡ true → HasEnds nodes (drafted_in groups key)
 joins-ends nodes groups key e =
     let a = and_parts (stands nodes key.from) (stands nodes key.to && not (nat_eq key.from key.to)) e in
     let b = and_parts (stands nodes key.to) (not (nat_eq key.from key.to)) a.1 in (
@@ -54,7 +54,7 @@ joins-ends nodes groups key e =
 
 -- a link of this name has its ends among the nodes
 abbrev HasNamedEnds : List ℕ → List ℕ → LinkKey → Type 0
-HasNamedEnds nodes groups key = HasEnds nodes (drafted groups key)
+HasNamedEnds nodes groups key = HasEnds nodes (drafted_in groups key)
 
 all-ends : (nodes groups : List ℕ) (keys : List LinkKey) → list_all (joins nodes) keys ≡ true
     → All (HasNamedEnds nodes groups) keys
@@ -65,17 +65,17 @@ all-ends nodes groups (key ∷ keys) e =
 
 -- links of one metric, all in the same groups, make a draft
 pub drafted-draft : (nodes groups : List ℕ) (keys : List LinkKey) → rises nodes ≡ true → rises groups ≡ true
-    → list_all (joins nodes) keys ≡ true → IsDraft (record { nodes = nodes; links = map (drafted groups) keys })
+    → list_all (joins nodes) keys ≡ true → IsDraft (record { nodes = nodes; links = map (drafted_in groups) keys })
 drafted-draft nodes groups keys up sorted ends =
-    let links : List DraftLink = map (drafted groups) keys in
+    let links : List DraftLink = map (drafted_in groups) keys in
     let InThese : DraftLink → Type 0 = λ link. link.groups ≡ groups in
-    let same : All InThese links = All-map InThese (drafted groups) keys (λ k d within. refl) in
+    let same : All InThese links = All-map InThese (drafted_in groups) keys (λ k d within. refl) in
     record {
       nodes = rises-increasing nodes up;
-      ends = All-map (HasEnds nodes) (drafted groups) keys (all-ends nodes groups keys ends);
-      metrics = All-map (λ (link : DraftLink). link.metric < 16777215) (drafted groups) keys
+      ends = All-map (HasEnds nodes) (drafted_in groups) keys (all-ends nodes groups keys ends);
+      metrics = All-map (λ (link : DraftLink). link.metric < 16777215) (drafted_in groups) keys
           (λ k d within. omega arith);
-      groups = All-map (λ (link : DraftLink). IsStrictlyIncreasing link.groups) (drafted groups) keys
+      groups = All-map (λ (link : DraftLink). IsStrictlyIncreasing link.groups) (drafted_in groups) keys
           (λ k d within. rises-increasing groups sorted);
       pairs = λ a b in_a in_b pair.
           All-contains InThese links a same in_a ∙ sym (All-contains InThese links b same in_b);

@@ -9,11 +9,11 @@ use Rattle.sr_encode.specs.Answered.{AreAnswers}
 use Rattle.sr_repair.specs.Answers.{place_of}
 use Rattle.sr_audit.proofs.CaseLemmas.{items-audit, items-few}
 use Rattle.sr_audit.proofs.JoinLemmas.{between-case}
-use Rattle.sr_print.specs.Answers.{PutsItems}
+use Rattle.sr_print.specs.Answers.{PutsItemsFor}
 use Rattle.sr_listing.specs.Listed.{PutsCase}
 
 -- the lines of the answers of a case are those of its audit
-pub case-put : (n : Net) (place : ℕ) (case : Case) (answers : List NodeAnswer) (before after : List ℕ) → IsNet n → IsCase n.graph case → place_of n.graph case ≡ place → AreAnswers n case answers → PutsItems n case answers before after → PutsCase n place before after
+pub case-put : (n : Net) (place : ℕ) (case : Case) (answers : List NodeAnswer) (before after : List ℕ) → IsNet n → IsCase n.graph case → place_of n.graph case ≡ place → AreAnswers n case answers → PutsItemsFor n case answers before after → PutsCase n place before after
 case-put n place case answers before after net within at are puts = record {
   items = puts.items;
   between = between-case n place puts.items (record {

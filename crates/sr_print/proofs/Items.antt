@@ -11,7 +11,7 @@ use Rattle.sr_model.specs.Label.{Net}
 use Rattle.sr_encode.specs.declared.answers.NodeAnswer.{NodeAnswer}
 use Rattle.sr_encode.specs.Answered.{node_answer_at}
 use Rattle.sr_repair.specs.Items.{IsItemFor}
-use Rattle.sr_print.specs.Answers.{PutsAnswer, PutsItem, PutsItems}
+use Rattle.sr_print.specs.Answers.{PutsAnswer, PutsItem, PutsItemsFor}
 use Rattle.sr_print.specs.Names.{node_text}
 use Rattle.sr_print.specs.Repairs.{answer_text, case_head, case_text, item_line, uncovered_text}
 use Rattle.sr_print.proofs.Appended.{two_pieces}
@@ -39,7 +39,7 @@ line-put n case entry old one two three new a b puts c =
     }
 
 -- one more line
-pub items-more : (n : Net) (case : Case) (answers : List NodeAnswer) (i : ℕ) (entry : NodeAnswer) (old so_far new : List ℕ) → i < length answers → entry ≡ node_answer_at answers i → PutsItems n case (take i answers) old so_far → PutsItem n case entry so_far new → PutsItems n case (take (i + 1) answers) old new
+pub items-more : (n : Net) (case : Case) (answers : List NodeAnswer) (i : ℕ) (entry : NodeAnswer) (old so_far new : List ℕ) → i < length answers → entry ≡ node_answer_at answers i → PutsItemsFor n case (take i answers) old so_far → PutsItem n case entry so_far new → PutsItemsFor n case (take (i + 1) answers) old new
 items-more n case answers i entry old so_far new lt here puts last =
     let more : take (i + 1) answers ≡ take i answers ++ entry ∷ [] = take_more answers i _ lt ∙ ap (λ (x : NodeAnswer). take i answers ++ x ∷ []) (sym here) in
     record {
@@ -49,5 +49,5 @@ items-more n case answers i entry old so_far new lt here puts last =
     }
 
 -- no line
-pub items-none : (n : Net) (case : Case) (old : List ℕ) → PutsItems n case [] old old
+pub items-none : (n : Net) (case : Case) (old : List ℕ) → PutsItemsFor n case [] old old
 items-none n case old = record { items = []; each = tt; text = sym (append-nil old) }

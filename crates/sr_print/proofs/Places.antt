@@ -1,8 +1,8 @@
 -- The number of a link among the announced keys between its nodes.
-use Rattle.std.proofs.Common.{◌≡◌, ℕ, zero, suc, ◌+◌, ◌-◌, ◌<◌, Bool, true, false, cond, if◌then◌else◌, List, [], ◌∷◌, refl, arith, ap, sym, ◌∙◌, Option, Some, None}
+use Rattle.std.proofs.Common.{◌≡◌, ℕ, zero, suc, ◌-◌, ◌<◌, cond, List, [], ◌∷◌, arith, ap, sym, ◌∙◌, Some}
 use Rattle.std.specs.Prelude.{slice_get, nat_lt}
 use Rattle.std.specs.List.{find, position_or_len}
-use Rattle.std.proofs.lemmas.Bool.{lt-ltb, cond_both}
+use Rattle.std.proofs.lemmas.Bool.{cond_both}
 use Rattle.std.proofs.lemmas.List.Folds.{find_at}
 use Rattle.std.proofs.lemmas.Option.{same_Some}
 use Rattle.sr_model.specs.declared.name.LinkKey.{LinkKey}
@@ -11,7 +11,7 @@ use Rattle.sr_model.specs.Graph.{link_count}
 use Rattle.sr_model.specs.KeyOrder.{same_key}
 use Rattle.sr_model.specs.Label.{Net, keys_between, IsPlace}
 use Rattle.sr_model.specs.Rule.{IsAccepted}
-use Rattle.sr_laws.proofs.Places.{key-told, place-one}
+use Rattle.sr_laws.proofs.Places.{key-told, place-one, get_from, place-at}
 use Rattle.sr_print.specs.Links.{place_between}
 
 -- a key that stands there is found
@@ -20,18 +20,8 @@ find-key [] key i e = absurd {0} (cc)
 find-key (k ∷ ks) key zero e = ap (λ b. cond b (Some k) (find (λ (x : LinkKey). same_key x key) ks)) ((key-told k key).1 (same_Some k key e)) ∙ e
 find-key (k ∷ ks) key (suc i) e = cond_both (same_key k key) (Some k) (find (λ (x : LinkKey). same_key x key) ks) (λ o. o ≡ Some key) (λ same. ap Some ((key-told k key).0 same)) (λ other. find-key ks key i e)
 
-get_from : (b : Bool) (o : Option LinkKey) (k : LinkKey) → (if b then o else None) ≡ Some k → (b ≡ true) × (o ≡ Some k)
-get_from true o k e = (refl, e)
-get_from false o k e = absurd {0} (cc)
-
 at-place : (keys : List LinkKey) (key : LinkKey) (n : ℕ) → IsPlace keys key n → slice_get (keys_between keys key.from key.to) (n - 1) ≡ Some key
 at-place keys key n is = (get_from (nat_lt 0 n) (slice_get (keys_between keys key.from key.to) (n - 1)) key is).1
-
-place-at : (keys : List LinkKey) (key : LinkKey) (j : ℕ) → slice_get (keys_between keys key.from key.to) j ≡ Some key → IsPlace keys key (j + 1)
-place-at keys key j is =
-    let above : nat_lt 0 (j + 1) ≡ true = lt-ltb 0 (j + 1) (omega arith) in
-    let before : j + 1 - 1 ≡ j = omega arith in
-    ap (λ b. if b then slice_get (keys_between keys key.from key.to) (j + 1 - 1) else None) above ∙ ap (slice_get (keys_between keys key.from key.to)) before ∙ is
 
 -- the place that is told is the place
 pub place_is : (n : Net) (l k : ℕ) → IsAccepted n → l < link_count n.graph → IsPlace n.announced (key_at n.graph l) k → k ≡ place_between n.announced (key_at n.graph l)

@@ -24,6 +24,7 @@ use Rattle.sr_account.specs.declared.aside.Place.{Place}
 use Rattle.sr_account.specs.declared.aside.Reason.{Reason}
 use Rattle.sr_account.specs.declared.aside.Reason.TheVariants as reason
 use Rattle.sr_account.specs.declared.sources.LinkSource.{LinkSource}
+use Rattle.sr_account.specs.Filling.{no_source}
 use Rattle.sr_print.specs.Links.{link_word}
 use Rattle.sr_print.specs.Printed.{ended, node_word, numbered, word}
 
@@ -55,17 +56,17 @@ abbrev pub node_flags : Labels → Bool → List (Bool × ℕ)
 node_flags labels overloaded = (labels.keep, 80) ∷ (labels.explicit, 69) ∷ (overloaded, 79) ∷ []
 
 -- the first and the last label of a range
-unfoldable pub range_text : Range → List ℕ
-range_text range = decimal range.first ++ numbered (codes "-") (range.first + range.size - 1)
+unfoldable pub label_range_text : Range → List ℕ
+label_range_text range = decimal range.first ++ numbered (codes "-") (range.first + range.size - 1)
 
 -- a range behind others
 abbrev pub next_range : Range → List ℕ
-next_range range = codes "," ++ range_text range
+next_range range = codes "," ++ label_range_text range
 
 -- ranges, with commas between them
 abbrev pub ranges_text : List Range → List ℕ
 ranges_text [] = []
-ranges_text (range ∷ more) = range_text range ++ flat_map next_range more
+ranges_text (range ∷ more) = label_range_text range ++ flat_map next_range more
 
 -- the label ranges of a node
 abbrev pub srgb_text : List Range → List ℕ
@@ -156,10 +157,6 @@ link_line n l source =
     ended (codes "link" ++ link_word n l ++ back_text n (back_of n.graph l) ++ source_text n l source
     ++ ident_text (key_at n.graph l).ident ++ groups_text (groups_at n.graph l))
 
--- what stands for the source of a link past the end of the list
-abbrev pub no_source : LinkSource
-no_source = record { metric = 0; flags = None }
-
 -- the first m links in order
 abbrev pub link_lines : Net → List LinkSource → ℕ → List ℕ
 link_lines n sources m = flat_map (λ l. link_line n l (slice_index_or sources l no_source)) (range_with_len 0 m)
@@ -178,8 +175,8 @@ unfoldable pub neighbour_text : ℕ → ℕ → List ℕ
 neighbour_text system pseudonode = system_text system ++ codes "." ++ octet_text pseudonode
 
 -- the name of an LSP
-unfoldable pub lsp_text : LspId → List ℕ
-lsp_text id = neighbour_text id.system id.pseudonode ++ codes "-" ++ octet_text id.fragment
+unfoldable pub lsp_name_text : LspId → List ℕ
+lsp_name_text id = neighbour_text id.system id.pseudonode ++ codes "-" ++ octet_text id.fragment
 
 -- the number of a SID among those of its part, counted from 1; nothing where the part itself is told
 abbrev pub sid_number : Option ℕ → List ℕ
@@ -189,26 +186,26 @@ sid_number (Some k) = numbered (codes " sid ") (k + 1)
 -- where something is announced: the name of the LSP, the number of the part, counted from 1, and that of the SID
 unfoldable pub place_text : Place → List ℕ
 place_text place =
-    codes "aside " ++ lsp_text place.id ++ numbered (codes " part ") (place.part + 1) ++ sid_number place.sid
+    codes "aside " ++ lsp_name_text place.id ++ numbered (codes " part ") (place.part + 1) ++ sid_number place.sid
 
 -- an index or a label
-abbrev pub sid_text : Sid → List ℕ
-sid_text (Index index) = numbered (codes " index ") index
-sid_text (Label label) = numbered (codes " label ") label
+abbrev pub sid_value_text : Sid → List ℕ
+sid_value_text (Index index) = numbered (codes " index ") index
+sid_value_text (Label label) = numbered (codes " label ") label
 
 -- an IPv4 prefix
-abbrev pub prefix_text : ℕ → ℕ → List ℕ
-prefix_text prefix bits = codes " prefix " ++ address_text prefix ++ numbered (codes "/") bits
+abbrev pub ipv4_prefix_text : ℕ → ℕ → List ℕ
+ipv4_prefix_text prefix bits = codes " prefix " ++ address_text prefix ++ numbered (codes "/") bits
 
 -- what is announced there
 unfoldable pub matter_text : Matter → List ℕ
 matter_text (matter.Reach neighbour pseudonode) = codes " reach " ++ neighbour_text neighbour pseudonode
-matter_text (matter.Prefix prefix bits) = prefix_text prefix bits
+matter_text (matter.Prefix prefix bits) = ipv4_prefix_text prefix bits
 matter_text matter.Name = codes " name"
 matter_text (matter.Risk neighbour pseudonode) = codes " risk " ++ neighbour_text neighbour pseudonode
 matter_text (matter.Capability router) = codes " capability " ++ address_text router
-matter_text (matter.AdjSid sid) = codes " adjsid" ++ sid_text sid
-matter_text (matter.PrefixSid sid) = codes " prefixsid" ++ sid_text sid
+matter_text (matter.AdjSid sid) = codes " adjsid" ++ sid_value_text sid
+matter_text (matter.PrefixSid sid) = codes " prefixsid" ++ sid_value_text sid
 
 -- why it isn't used
 abbrev pub reason_name : Reason → List ℕ
@@ -240,6 +237,10 @@ reason_name reason.HostName = codes "hostname"
 unfoldable pub aside_line : Aside → List ℕ
 aside_line aside = ended (place_text aside.place ++ matter_text aside.matter ++ word (reason_name aside.reason))
 
+-- how much isn't used
+abbrev pub aside_count_line : ℕ → List ℕ
+aside_count_line count = ended (numbered (codes "asides ") count)
+
 -- all that isn't used, and how much that is
 abbrev pub asides_text : List Aside → List ℕ
-asides_text asides = flat_map aside_line asides ++ ended (numbered (codes "asides ") (length asides))
+asides_text asides = flat_map aside_line asides ++ aside_count_line (length asides)

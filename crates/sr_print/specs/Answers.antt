@@ -57,7 +57,7 @@ pub record PutsItem (n : Net) (case : Case) (entry : NodeAnswer) (before after :
   pub text : after ≡ before ++ item_line n item
 
 -- the lines of items that stand for these answers, in their order, were appended
-pub record PutsItems (n : Net) (case : Case) (answers : List NodeAnswer) (before after : List ℕ) : Type 0 where
+pub record PutsItemsFor (n : Net) (case : Case) (answers : List NodeAnswer) (before after : List ℕ) : Type 0 where
   pub items : List Item
   pub each : AllZip (IsItemFor n case) answers items
   pub text : after ≡ before ++ item_lines n items

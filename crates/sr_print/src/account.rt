@@ -4,7 +4,7 @@ ghost use Rattle.std.specs.List.{flat_map};
 ghost use Rattle.sr_model.specs.declared.link.LinkNo.{LinkNo as Number};
 ghost use Rattle.sr_model.specs.Graph.{link_count, node_count};
 ghost use Rattle.sr_print.specs.Account.{announced_text, links_at, next_range, node_line, node_lines, nodes_text};
-ghost use Rattle.sr_print.specs.Account.{optional, range_text, ranges_text, srgb_text};
+ghost use Rattle.sr_print.specs.Account.{optional, label_range_text, ranges_text, srgb_text};
 ghost use Rattle.sr_print.specs.Account.{back_of, back_text, group_word, groups_text, ident_text};
 ghost use Rattle.sr_print.specs.Account.{link_line, link_lines, links_text, source_text};
 ghost use Rattle.sr_print.specs.Printed.{BeginsWith};
@@ -35,9 +35,9 @@ fn put_optional(text: &[u8], number: Option<u32>, out: &mut Vec<u8>) -> Result<(
 
 /// Appends the first and the last label of a range. After an error a part of it may stand there;
 /// what stood before stays.
-#[tactic(auto, unfolding(crate::specs::Account::range_text))]
+#[tactic(auto, unfolding(crate::specs::Account::label_range_text))]
 fn put_range(range: &Range, out: &mut Vec<u8>) -> Result<(), AllocError>
-    ensures line { OnOk result (out.new.items ≡ out.old.items ++ range_text range.now) }
+    ensures line { OnOk result (out.new.items ≡ out.old.items ++ label_range_text range.now) }
     ensures err { OnErr result (BeginsWith out.old.items out.new.items) }
 {
     let Range { first, size } = *range;

@@ -7,7 +7,7 @@ ghost use Rattle.sr_model.specs.Graph.{node_count, link_count};
 ghost use Rattle.sr_model.specs.Label.{labels_at};
 ghost use Rattle.sr_encode.specs.Answered.{AreAnswers};
 ghost use Rattle.sr_repair.specs.Stack.{HaveLabels};
-ghost use Rattle.sr_print.specs.Answers.{PutsLabels, PutsStack, PutsAnswer, PutsItem, PutsItems, IsEntryOf, IsWayOf, AreTextsOf};
+ghost use Rattle.sr_print.specs.Answers.{PutsLabels, PutsStack, PutsAnswer, PutsItem, PutsItemsFor, IsEntryOf, IsWayOf, AreTextsOf};
 ghost use Rattle.sr_print.specs.Names.{AreNames};
 ghost use Rattle.sr_print.specs.Printed.{BeginsWith};
 ghost use Rattle.sr_print.specs.Repairs.{case_head};
@@ -163,7 +163,7 @@ fn put_lines(
     requires names { AreNames net.now names.now }
     requires head { head.now ≡ case_head net.now case }
     requires answers { AreAnswers net.now case answers.now }
-    ensures line { OnOk result (PutsItems net.now case answers.now out.old.items out.new.items) }
+    ensures line { OnOk result (PutsItemsFor net.now case answers.now out.old.items out.new.items) }
     ensures err { OnErr result (BeginsWith out.old.items out.new.items) }
 {
     let codes = answers.codes();
@@ -189,7 +189,7 @@ pub fn put_answers(
     requires case { IsCase net.now.graph case }
     requires names { AreNames net.now names.now }
     requires answers { AreAnswers net.now case answers.now }
-    ensures line { OnOk result (PutsItems net.now case answers.now out.old.items out.new.items) }
+    ensures line { OnOk result (PutsItemsFor net.now case answers.now out.old.items out.new.items) }
     ensures err { OnErr result (BeginsWith out.old.items out.new.items) }
 {
     // Room for a head whose number has one digit; a longer one grows it.

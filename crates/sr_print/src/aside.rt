@@ -1,8 +1,8 @@
 //! The lines of what isn't used.
 ghost use Rattle.std.specs.Prelude.{◌≡◌, ◌+◌, ◌++◌, OnOk, OnErr};
 ghost use Rattle.std.specs.List.{flat_map};
-ghost use Rattle.sr_print.specs.Account.{aside_line, asides_text, lsp_text, matter_text, place_text, prefix_text};
-ghost use Rattle.sr_print.specs.Account.{reason_name, sid_number, sid_text};
+ghost use Rattle.sr_print.specs.Account.{aside_count_line, aside_line, lsp_name_text, matter_text, place_text, ipv4_prefix_text};
+ghost use Rattle.sr_print.specs.Account.{reason_name, sid_number, sid_value_text};
 ghost use Rattle.sr_print.specs.Printed.{BeginsWith, numbered};
 
 use crate::address::{put_address, put_neighbour, put_octet};
@@ -15,9 +15,9 @@ use std::alloc::AllocError;
 
 /// Appends the name of an LSP, as `0000.0000.0001.00-00`. After an error a part of it may stand there;
 /// what stood before stays.
-#[tactic(auto, unfolding(crate::specs::Account::lsp_text))]
+#[tactic(auto, unfolding(crate::specs::Account::lsp_name_text))]
 fn put_lsp(id: &LspId, out: &mut Vec<u8>) -> Result<(), AllocError>
-    ensures line { OnOk result (out.new.items ≡ out.old.items ++ lsp_text id.now) }
+    ensures line { OnOk result (out.new.items ≡ out.old.items ++ lsp_name_text id.now) }
     ensures err { OnErr result (BeginsWith out.old.items out.new.items) }
 {
     put_neighbour(id.system, id.pseudonode, out)?;
@@ -61,7 +61,7 @@ fn put_place(place: &Place, out: &mut Vec<u8>) -> Result<(), AllocError>
 
 /// Appends ` label X` or ` index X`. After an error a part of it may stand there; what stood before stays.
 fn put_sid(sid: Sid, out: &mut Vec<u8>) -> Result<(), AllocError>
-    ensures line { OnOk result (out.new.items ≡ out.old.items ++ sid_text sid) }
+    ensures line { OnOk result (out.new.items ≡ out.old.items ++ sid_value_text sid) }
     ensures err { OnErr result (BeginsWith out.old.items out.new.items) }
 {
     match sid {
@@ -72,7 +72,7 @@ fn put_sid(sid: Sid, out: &mut Vec<u8>) -> Result<(), AllocError>
 
 /// Appends ` prefix ADDRESS/BITS`. After an error a part of it may stand there; what stood before stays.
 fn put_prefix(prefix: u32, bits: u8, out: &mut Vec<u8>) -> Result<(), AllocError>
-    ensures line { OnOk result (out.new.items ≡ out.old.items ++ prefix_text prefix bits) }
+    ensures line { OnOk result (out.new.items ≡ out.old.items ++ ipv4_prefix_text prefix bits) }
     ensures err { OnErr result (BeginsWith out.old.items out.new.items) }
 {
     out.extend_from_slice(b" prefix ")?;
@@ -164,8 +164,12 @@ fn put_aside(aside: &Aside, out: &mut Vec<u8>) -> Result<(), AllocError>
     end(out)
 }
 
-/// Appends a line for each of these. After an error a part of the lines may stand there; what stood before stays.
-fn put_each_aside(asides: &[Aside], out: &mut Vec<u8>) -> Result<(), AllocError>
+/// Appends a line for each of these, in order: `aside LSP part P reach SYSTEM REASON`, `.. prefix ADDRESS/BITS REASON`,
+/// `.. name REASON`, `.. risk SYSTEM REASON` or `.. capability ADDRESS REASON` for a part of an LSP, and
+/// `aside LSP part P sid S adjsid label X REASON`, `.. index X REASON`, `.. prefixsid ..` for a SID of a part. Parts and
+/// SIDs are counted from 1, and pseudonodes and fragments are told in hexadecimal digits.
+/// After an error a part of the lines may stand there; what stood before stays.
+pub fn put_asides(asides: &[Aside], out: &mut Vec<u8>) -> Result<(), AllocError>
     ensures line { OnOk result (out.new.items ≡ out.old.items ++ flat_map aside_line asides.now) }
     ensures err { OnErr result (BeginsWith out.old.items out.new.items) }
 {
@@ -175,16 +179,12 @@ fn put_each_aside(asides: &[Aside], out: &mut Vec<u8>) -> Result<(), AllocError>
     Ok(())
 }
 
-/// Appends `aside LSP part P reach SYSTEM REASON`, `.. prefix ADDRESS/BITS REASON`, `.. name REASON`,
-/// `.. risk SYSTEM REASON` or `.. capability ADDRESS REASON` for a part of an LSP, and
-/// `aside LSP part P sid S adjsid label X REASON`, `.. index X REASON`, `.. prefixsid ..` for a SID of a part, in order;
-/// and `asides K`. Parts and SIDs are counted from 1, and pseudonodes and fragments are told in hexadecimal digits.
-/// After an error a part of the lines may stand there; what stood before stays.
-pub fn put_asides(asides: &[Aside], out: &mut Vec<u8>) -> Result<(), AllocError>
-    ensures line { OnOk result (out.new.items ≡ out.old.items ++ asides_text asides.now) }
+/// Appends `asides K`, behind that many lines. After an error a part of the line may stand there; what stood before
+/// stays.
+pub fn put_aside_count(count: u64, out: &mut Vec<u8>) -> Result<(), AllocError>
+    ensures line { OnOk result (out.new.items ≡ out.old.items ++ aside_count_line count) }
     ensures err { OnErr result (BeginsWith out.old.items out.new.items) }
 {
-    put_each_aside(asides, out)?;
-    put_numbered(b"asides ", asides.len() as u64, out)?;
+    put_numbered(b"asides ", count, out)?;
     end(out)
 }

@@ -10,7 +10,7 @@ ghost use Rattle.sr_print.specs.Printed.{BeginsWith, word};
 use crate::line::{end, put_numbered};
 use crate::link::{put_link, put_links};
 use crate::number::put_node;
-use sr_fib::Entry;
+use sr_fib::FibEntry;
 use sr_labels::Net;
 use sr_model::{LinkNo, NodeNo, Out};
 use std::alloc::AllocError;
@@ -89,20 +89,24 @@ fn put_towards(
 /// Appends what a label does at a node: `label own`, `label null`, `label adj LINK` or
 /// `label node NODE via LINK ACTION ..`; `label none` where it does nothing there.
 /// After an error a part of the line may stand there; what stood before stays.
-pub fn put_label(net: &Net, found: Option<Entry<'_>>, out: &mut Vec<u8>) -> Result<(), AllocError>
+pub fn put_label(
+    net: &Net,
+    found: Option<FibEntry<'_>>,
+    out: &mut Vec<u8>,
+) -> Result<(), AllocError>
     requires { IfSome (found_of found) (IsEntryWithin net.now.graph) }
     ensures line { OnOk result (out.new.items ≡ out.old.items ++ label_line net.now (found_of found.entry)) }
     ensures err { OnErr result (BeginsWith out.old.items out.new.items) }
 {
     match found {
         None => return out.extend_from_slice(b"label none\n"),
-        Some(Entry::Own) => return out.extend_from_slice(b"label own\n"),
-        Some(Entry::Null) => return out.extend_from_slice(b"label null\n"),
-        Some(Entry::Adj(link)) => {
+        Some(FibEntry::Own) => return out.extend_from_slice(b"label own\n"),
+        Some(FibEntry::Null) => return out.extend_from_slice(b"label null\n"),
+        Some(FibEntry::Adj(link)) => {
             out.extend_from_slice(b"label adj")?;
             put_link(net, link, out)?;
         }
-        Some(Entry::Node(node, hops)) => put_towards(net, node, hops, out)?,
+        Some(FibEntry::Node(node, hops)) => put_towards(net, node, hops, out)?,
     }
     end(out)
 }

@@ -30,7 +30,7 @@ mod work;
 pub use account::{put_links, put_nodes};
 pub use adjacency::{put_adjbackup, put_adjrepair};
 pub use answers::put_answers;
-pub use aside::put_asides;
+pub use aside::{put_aside_count, put_asides};
 pub use audit::put_summary;
 pub use certificate::{put_certificate, put_proof, put_unproved, put_verdict};
 pub use difference::put_diff;

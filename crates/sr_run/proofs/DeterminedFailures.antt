@@ -1,14 +1,13 @@
 -- Questions about a failure are told alike: spaces, repairs, the walks of repaired packets, and audits.
-use Rattle.std.proofs.Common.{◌≡◌, ℕ, zero, suc, ◌+◌, ◌<◌, ◌≤◌, Bool, false, cond, List, [], ◌∷◌, ◌++◌, reverse, refl, sym, ap, subst, ◌∙◌, arith, ◌⊎◌, inl, inr, Some}
+use Rattle.std.proofs.Common.{◌≡◌, ℕ, zero, suc, ◌+◌, ◌<◌, ◌≤◌, Bool, false, cond, List, [], ◌∷◌, ◌++◌, refl, sym, ap, subst, ◌∙◌, arith, ◌⊎◌, inl, inr, Some}
 use Rattle.std.specs.Prelude.{codes, IsTrue, ◌↔◌}
 use Rattle.std.specs.List.{filter, range_with_len}
 use Rattle.std.proofs.lemmas.Bool.{false≢true}
-use Rattle.std.proofs.lemmas.List.{reverse-reverse}
 use Rattle.sr_model.specs.declared.case.Case.{Case}
 use Rattle.sr_model.specs.declared.link.LinkNo.{LinkNo}
 use Rattle.sr_model.specs.declared.entry.Move.{Move}
 use Rattle.sr_model.specs.declared.repair.Answer.{Answer}
-use Rattle.sr_model.specs.declared.repair.Answer.TheVariants.{Least, NoPath, NoList, TooDeep}
+use Rattle.sr_model.specs.declared.repair.Answer.TheVariants.{Least}
 use Rattle.sr_model.specs.declared.repair.RepairList.{RepairList}
 use Rattle.sr_model.specs.declared.audit.Item.{Item}
 use Rattle.sr_model.specs.Audit.{AreLabelsOf, is_least, counts_of}
@@ -19,7 +18,7 @@ use Rattle.sr_model.specs.Label.{Net}
 use Rattle.sr_model.specs.Repair.{IsCaseAnswer}
 use Rattle.sr_model.specs.Rule.{IsNet}
 use Rattle.sr_laws.proofs.Answers.{case-answer-one}
-use Rattle.sr_laws.proofs.Audits.{audit-one}
+use Rattle.sr_laws.proofs.Audits.{audit-one, labels_one}
 use Rattle.sr_laws.proofs.Failures.{failed-one, test-same}
 use Rattle.sr_laws.proofs.Stacks.{stack-one}
 use Rattle.sr_spaces.specs.Sets.{IsP, IsExtendedP, IsQ}
@@ -76,13 +75,6 @@ spaces-one g case d p extended q p' extended' q' x y =
     three i j k i' j' k' e f h = cc
 
 -- ---- repairs
-
-labels-one : (n : Net) (d : ℕ) (answer : Answer) (labels more : List ℕ) → AreLabelsOf n d answer labels → AreLabelsOf n d answer more → labels ≡ more
-labels-one n d (Least list) labels more p q =
-    sym (reverse-reverse labels) ∙ ap reverse (stack-one n d list.first.0 list.segments (reverse labels) (reverse more) p q) ∙ reverse-reverse more
-labels-one n d NoPath labels more p q = p ∙ sym q
-labels-one n d NoList labels more p q = p ∙ sym q
-labels-one n d (TooDeep k) labels more p q = p ∙ sym q
 
 -- a list that is the answer isn't another sort of answer
 pub least-not_other : (answer : Answer) (list : RepairList) → answer ≡ Least list → is_least answer ≡ false → ⊥
@@ -150,7 +142,7 @@ module _ (version : NumberedNet) (net : IsNet version.net) (a b : Told) where
   repair-told : (case : Case) (d : ℕ) → RepairIs version.net a case d → RepairIs version.net b case d → AreAlike a b
   repair-told case d x y =
       let answer : y.0 ≡ x.0 = case-answer-one version.net case d y.0 x.0 y.2.answer_is x.2.answer_is in
-      let labels : x.1 ≡ y.1 = labels-one version.net d x.0 x.1 y.1 x.2.labels_are (subst (λ (r : Answer). AreLabelsOf version.net d r y.1) answer y.2.labels_are) in
+      let labels : x.1 ≡ y.1 = labels_one version.net d x.0 x.1 y.1 x.2.labels_are (subst (λ (r : Answer). AreLabelsOf version.net d r y.1) answer y.2.labels_are) in
       alike a b (Repair version.net case d x.0 x.1) (Repair version.net case d y.0 y.1) x.3 y.3
       (ap (λ (r : Answer). Repair version.net case d r x.1) (sym answer) ∙ ap (λ (ts : List ℕ). Repair version.net case d y.0 ts) labels)
 

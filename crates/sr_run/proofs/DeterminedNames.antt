@@ -15,7 +15,7 @@ use Rattle.sr_script.specs.declared.name.LinkName.{LinkName}
 use Rattle.sr_script.specs.declared.name.RepairName.{RepairName}
 use Rattle.sr_print.specs.declared.refusal.Refusal.{Refusal}
 use Rattle.sr_print.specs.declared.refusal.Refusal.TheVariants.{NoNode, NoDestination, NotAffected}
-use Rattle.sr_run.specs.Names.{IsLinkOf, OfNode, OfEnds, OfAnnounced, OfLink, OfNamedLink, OfFailure, OfAffected, ends_of, key_meant, missing_link}
+use Rattle.sr_run.specs.Names.{IsLinkOf, OfNode, OfEnds, OfAnnounced, OfLink, OfNamedLink, OfFailure, OfAffected, ends_named, key_meant, missing_link}
 
 -- a name means one link
 pub link-one : (net : Net) → IsNamed net.graph → (name : LinkName) (a b : LinkNo) → IsLinkOf net name a → IsLinkOf net name b → a ≡ b
@@ -58,12 +58,12 @@ module _ (R : Type 0) (P Q : Refusal → Type 0) (refused : (reason : Refusal) �
 
   -- and of one whose ends are named
   pub of-named_link : (net : Net) → IsNamed net.graph → (name : LinkName) (A B : LinkNo → Type 0) → ((l : LinkNo) → A l → B l → R) → OfNamedLink P net name A → OfNamedLink Q net name B → R
-  of-named_link net named name A B held = of-ends net.graph named (ends_of name) _ _ (λ u v. of-link net named name A B held)
+  of-named_link net named name A B held = of-ends net.graph named (ends_named name) _ _ (λ u v. of-link net named name A B held)
 
   -- of a case and a destination
   pub of-failure : (net : Net) → IsNamed net.graph → (repair : RepairName) (A B : Case → ℕ → Type 0) → ((c : Case) (d : ℕ) → A c d → B c d → R) → OfFailure P net repair A → OfFailure Q net repair B → R
   of-failure net named repair A B held =
-      of-ends net.graph named (ends_of repair.link) _ _ (λ u v. of-node net.graph named repair.dest _ _ (λ d. of-link net named repair.link _ _ (λ l. held (record { kind = repair.kind; link = l }) d)))
+      of-ends net.graph named (ends_named repair.link) _ _ (λ u v. of-node net.graph named repair.dest _ _ (λ d. of-link net named repair.link _ _ (λ l. held (record { kind = repair.kind; link = l }) d)))
 
   affected : (net : Net) (dest : ℕ) (case : Case) (d : ℕ) (A B : Type 0) → (A → B → R)
       → (((labels_at net d).index ≡ None) × P (NoDestination dest)) ⊎ (((is_some (labels_at net d).index ≡ true) × ¬ IsAffected net case d × P (NotAffected dest)) ⊎ (IsAffected net case d × A))
@@ -96,4 +96,4 @@ module _ (R : Type 0) (P Q : Refusal → Type 0) (refused : (reason : Refusal) �
 
   -- of an announced link
   pub of-announced : (net : Net) → IsNamed net.graph → (name : LinkName) (A B : LinkKey → Type 0) → ((key : LinkKey) → A key → B key → R) → OfAnnounced P net name A → OfAnnounced Q net name B → R
-  of-announced net named name A B held = of-ends net.graph named (ends_of name) _ _ (λ u v. announced net name A B held)
+  of-announced net named name A B held = of-ends net.graph named (ends_named name) _ _ (λ u v. announced net name A B held)

@@ -17,7 +17,7 @@ use Rattle.sr_lsdb.specs.Staging.{Stages, StagesLsp}
 use Rattle.sr_domain.specs.Net.{IsNetOf}
 use Rattle.sr_domain.specs.Rules.{IsFirstBrokenRule}
 use Rattle.sr_script.specs.declared.command.Command.{Command}
-use Rattle.sr_script.specs.declared.command.Command.TheVariants.{AuditFull, Commit, Prove, Hold, Watch, Join, Why}
+use Rattle.sr_script.specs.declared.command.Command.TheVariants.{AuditFull, Aside, Commit, Prove, Hold, Watch, Join, Why}
 use Rattle.sr_script.specs.declared.name.LinkName.{LinkName}
 use Rattle.sr_repair.specs.Version.{NumberedNet, version_of}
 use Rattle.sr_cert.specs.Draft.{CertDraft}
@@ -260,13 +260,14 @@ text-replies command old new before after (Ok done) result c r = subst (λ (x : 
 text-replies command old new before after (Err (Refusing reason)) result c r = subst (λ (x : Result Reply Stop). RepliesTo command old new before after x) (sym r) c
 text-replies command old new before after (Err (Memory error)) result c r = subst (λ (x : Result Reply Stop). RepliesTo command old new before after x) (sym r) c
 
--- a command of the domain is answered at once, but for the whole audit
-pub of-text : (command : Command) → IsOfDomain command → (command ≡ AuditFull → ⊥) → IsOfText command
-of-text AuditFull quiet other = other refl
-of-text Commit quiet other = quiet
-of-text (Prove repair) quiet other = quiet
-of-text (Why repair) quiet other = quiet
-of-text Hold quiet other = quiet
-of-text (Watch watchers rounds) quiet other = quiet
-of-text Join quiet other = quiet
-of-text command quiet other = tt
+-- a command of the domain is answered at once, but for the whole audit and what isn't used
+pub of-text : (command : Command) → IsOfDomain command → (command ≡ AuditFull → ⊥) → (command ≡ Aside → ⊥) → IsOfText command
+of-text AuditFull quiet other unlike = other refl
+of-text Aside quiet other unlike = unlike refl
+of-text Commit quiet other unlike = quiet
+of-text (Prove repair) quiet other unlike = quiet
+of-text (Why repair) quiet other unlike = quiet
+of-text Hold quiet other unlike = quiet
+of-text (Watch watchers rounds) quiet other unlike = quiet
+of-text Join quiet other unlike = quiet
+of-text command quiet other unlike = tt

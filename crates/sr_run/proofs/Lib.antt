@@ -9,6 +9,7 @@ pub mod LineLemmas
 pub mod ForwardLemmas
 pub mod FailureLemmas
 pub mod AuditLemmas
+pub mod AsideLemmas
 pub mod RepairedLemmas
 pub mod InsightLemmas
 pub mod Likeness

@@ -12,7 +12,7 @@ use Rattle.sr_script.specs.declared.name.LinkName.{LinkName}
 use Rattle.sr_script.specs.declared.name.RepairName.{RepairName}
 use Rattle.sr_print.specs.declared.refusal.Refusal.{Refusal}
 use Rattle.sr_print.specs.declared.refusal.Refusal.TheVariants.{NoNode, NoDestination, NotAffected}
-use Rattle.sr_run.specs.Names.{NamesNode, IsNamedNode, NoLinkOf, OfNode, OfEnds, OfAnnounced, OfLink, OfNamedLink, OfFailure, OfAffected, ends_of, key_meant, missing_link}
+use Rattle.sr_run.specs.Names.{NamesNode, IsNamedNode, NoLinkOf, OfNode, OfEnds, OfAnnounced, OfLink, OfNamedLink, OfFailure, OfAffected, ends_named, key_meant, missing_link}
 use Rattle.sr_run.specs.Handlers.{AreEnds, IsAnnounced, IsNamedLink, IsFailureOf, IsAffectedOf, LacksEnd, LacksAnnounced, LacksLink, LacksFailure, LacksAffected}
 
 -- what is said of a refusal and of what is there may be said more weakly
@@ -32,17 +32,17 @@ key-weaker P Q net name A B refuses holds (inl none) = inl (none.0, refuses _ no
 key-weaker P Q net name A B refuses holds (inr there) = inr (there.0, there.1, holds there.0 there.2)
 
 pub announced-weaker : (P Q : Refusal → Type 0) (net : Net) (name : LinkName) (A B : LinkKey → Type 0) → ((r : Refusal) → P r → Q r) → ((k : LinkKey) → A k → B k) → OfAnnounced P net name A → OfAnnounced Q net name B
-announced-weaker P Q net name A B refuses holds = ends-weaker P Q net.graph (ends_of name) _ _ refuses (λ u v. key-weaker P Q net name A B refuses holds)
+announced-weaker P Q net name A B refuses holds = ends-weaker P Q net.graph (ends_named name) _ _ refuses (λ u v. key-weaker P Q net name A B refuses holds)
 
 link-weaker : (P Q : Refusal → Type 0) (net : Net) (name : LinkName) (A B : LinkNo → Type 0) → ((r : Refusal) → P r → Q r) → ((l : LinkNo) → A l → B l) → OfLink P net name A → OfLink Q net name B
 link-weaker P Q net name A B refuses holds (inl none) = inl (none.0, refuses _ none.1)
 link-weaker P Q net name A B refuses holds (inr there) = inr (there.0, there.1, holds there.0 there.2)
 
 named_link-weaker : (P Q : Refusal → Type 0) (net : Net) (name : LinkName) (A B : LinkNo → Type 0) → ((r : Refusal) → P r → Q r) → ((l : LinkNo) → A l → B l) → OfNamedLink P net name A → OfNamedLink Q net name B
-named_link-weaker P Q net name A B refuses holds = ends-weaker P Q net.graph (ends_of name) _ _ refuses (λ u v. link-weaker P Q net name A B refuses holds)
+named_link-weaker P Q net name A B refuses holds = ends-weaker P Q net.graph (ends_named name) _ _ refuses (λ u v. link-weaker P Q net name A B refuses holds)
 
 failure-weaker : (P Q : Refusal → Type 0) (net : Net) (repair : RepairName) (A B : Case → ℕ → Type 0) → ((r : Refusal) → P r → Q r) → ((c : Case) (d : ℕ) → A c d → B c d) → OfFailure P net repair A → OfFailure Q net repair B
-failure-weaker P Q net repair A B refuses holds = ends-weaker P Q net.graph (ends_of repair.link) _ _ refuses (λ u v.
+failure-weaker P Q net repair A B refuses holds = ends-weaker P Q net.graph (ends_named repair.link) _ _ refuses (λ u v.
     node-weaker P Q net.graph repair.dest _ _ refuses (λ d.
     link-weaker P Q net repair.link (λ link. A (record { kind = repair.kind; link = link }) d) (λ link. B (record { kind = repair.kind; link = link }) d) refuses (λ link. holds (record { kind = repair.kind; link = link }) d)))
 
@@ -121,13 +121,13 @@ announced-then R P net name A refused held =
     node-then R P net.graph name.from _ refused (λ u. node-then R P net.graph name.to _ refused (λ v. key-then R P net name A refused held))
 
 -- a link that the net lacks, and a destination that is no node, are missing
-pub lacks-named : (net : Net) (name : LinkName) (from to : ℕ) (reason : Refusal) → AreEnds net (ends_of name) from to → NoLinkOf net name → reason ≡ missing_link name → LacksLink net name reason
+pub lacks-named : (net : Net) (name : LinkName) (from to : ℕ) (reason : Refusal) → AreEnds net (ends_named name) from to → NoLinkOf net name → reason ≡ missing_link name → LacksLink net name reason
 lacks-named net name from to reason are none is = inr (from, are.0, inr (to, are.1, inl (none, is)))
 
-pub lacks-dest : (net : Net) (repair : RepairName) (from to : ℕ) (reason : Refusal) → AreEnds net (ends_of repair.link) from to → (NamesNode net.graph repair.dest → ⊥) → reason ≡ NoNode repair.dest → LacksFailure net repair reason
+pub lacks-dest : (net : Net) (repair : RepairName) (from to : ℕ) (reason : Refusal) → AreEnds net (ends_named repair.link) from to → (NamesNode net.graph repair.dest → ⊥) → reason ≡ NoNode repair.dest → LacksFailure net repair reason
 lacks-dest net repair from to reason are none is = inr (from, are.0, inr (to, are.1, inl (none, is)))
 
-pub lacks-link : (net : Net) (repair : RepairName) (from to d : ℕ) (reason : Refusal) → AreEnds net (ends_of repair.link) from to → IsNamedNode net.graph repair.dest d → NoLinkOf net repair.link → reason ≡ missing_link repair.link → LacksFailure net repair reason
+pub lacks-link : (net : Net) (repair : RepairName) (from to d : ℕ) (reason : Refusal) → AreEnds net (ends_named repair.link) from to → IsNamedNode net.graph repair.dest d → NoLinkOf net repair.link → reason ≡ missing_link repair.link → LacksFailure net repair reason
 lacks-link net repair from to d reason are dest none is = inr (from, are.0, inr (to, are.1, inr (d, dest, inl (none, is))))
 
 -- what is missing of a failure is missing of one that affects the destination; and so is an index, and that it affects it

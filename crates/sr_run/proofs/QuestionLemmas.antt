@@ -2,7 +2,7 @@
 use Rattle.std.proofs.Common.{◌≡◌, ℕ, true, List, refl}
 use Rattle.std.proofs.lemmas.Bool.{false≢true}
 use Rattle.sr_script.specs.declared.command.Command.{Command}
-use Rattle.sr_script.specs.declared.command.Command.TheVariants.{Lsp, Cost, Down, Up, Depth, Commit, DropStaged, Prove, ProofOpen, ProofVia, ProofNode, ProofAdj, ProofRow, ProofDone, AuditFull, Hold, Watch, Join, Show, Why, Check}
+use Rattle.sr_script.specs.declared.command.Command.TheVariants.{Lsp, Cost, Down, Up, Depth, Commit, DropStaged, Prove, ProofOpen, ProofVia, ProofNode, ProofAdj, ProofRow, ProofDone, AuditFull, Aside, Hold, Watch, Join, Show, Why, Check}
 use Rattle.sr_script.specs.declared.name.LinkName.{LinkName}
 use Rattle.sr_script.specs.Says.{is_question}
 use Rattle.sr_print.specs.Told.{Told}
@@ -39,6 +39,7 @@ tells-asked question domain told next q a = a
 
 text-is_question : (command : Command) → IsTextQuestion command → is_question command ≡ true
 text-is_question AuditFull q = absurd q
+text-is_question Aside q = absurd q
 text-is_question command q = q
 
 -- and whatever domain the session shows
@@ -71,4 +72,5 @@ is-question Hold u a b c d e f g h = absurd u
 is-question (Watch watchers rounds) u a b c d e f g h = absurd u
 is-question Join u a b c d e f g h = absurd u
 is-question AuditFull u a b c d e f g h = u
+is-question Aside u a b c d e f g h = u
 is-question command u a b c d e f g h = refl

@@ -14,7 +14,6 @@ use Rattle.sr_print.specs.declared.refusal.Refusal.{Refusal}
 use Rattle.sr_print.specs.Told.{Told, spelled, is_refusal}
 use Rattle.sr_print.specs.Told.Told.{Version, Hold, Watch, Joined, Refused}
 use Rattle.sr_print.specs.Work.{report_lines, joined_line}
-use Rattle.sr_audit.proofs.AppendLemmas.{get-left}
 use Rattle.sr_store.proofs.Numbers.{get-last}
 use Rattle.sr_store.specs.Counts.{counted, opened}
 use Rattle.sr_store.specs.declared.usage.Usage.{Usage}
@@ -28,7 +27,7 @@ use Rattle.sr_script.specs.declared.command.TheConstants.{MOST_VERSION}
 use Rattle.sr_run.specs.declared.stop.Stop.{Stop}
 use Rattle.sr_run.specs.declared.stop.Stop.TheVariants.{Refused as Refusing, Memory}
 use Rattle.sr_run.specs.declared.session.Reply.{Reply}
-use Rattle.sr_run.specs.declared.session.Reply.TheVariants.{Text, Audit}
+use Rattle.sr_run.specs.declared.session.Reply.TheVariants.{Text, Audit, Asides}
 use Rattle.sr_run.specs.Domain.{Domain, Background, WatchTotals, last_version, number_of, versions_since, with_net, with_hold, with_watch, with_joined, with_asked, with_commit_during, with_watch_begun}
 use Rattle.sr_run.specs.Domain.Background.{AtRest, OfHold, OfWatch}
 use Rattle.sr_run.specs.Background.{BeginsHold, BeginsWatch, BeginsWork, AreDue, JoinsReporting, JoinsWork, EndsWork, watch_from}
@@ -42,6 +41,7 @@ use Rattle.sr_run.proofs.StepLemmas.{Stays, quiet-stays, stays-itself}
 use Rattle.sr_run.proofs.SearchLemmas.{counts-still, counts-stays, counts-accepted, counts-asked}
 use Rattle.sr_run.proofs.VersionLemmas.{since-more, since-last, last-number}
 use Rattle.sr_run.proofs.HandlerLemmas.{accepted-next}
+use Rattle.sr_spf.proofs.HopsLemmas.{get_left}
 
 -- a session of these parts
 abbrev pub session : State → Work → Usage → ℕ → Session
@@ -78,6 +78,7 @@ pub replies-lifted : (command : Command) (old new : State) (work : Work) (usage 
 replies-lifted command old new work usage searches before after (Ok Text) quiet can r =
     record { told = r.told; is = lifted command old new work usage searches r.told quiet can r.is; accepted = r.accepted; appended = r.appended }
 replies-lifted command old new work usage searches before after (Ok Audit) quiet can r = (r.0, r.1, ap (λ (s : State). session s work usage searches) r.2, r.3, can)
+replies-lifted command old new work usage searches before after (Ok (Asides count)) quiet can r = (r.0, r.1, ap (λ (s : State). session s work usage searches) r.2, r.3, can)
 replies-lifted command old new work usage searches before after (Err (Refusing reason)) quiet can r = lifted command old new work usage searches (Refused reason) quiet can r
 replies-lifted command old new work usage searches before after (Err (Memory error)) quiet can r = tt
 
@@ -146,7 +147,7 @@ commit-rejected old new work usage searches reason can m = record {
 can-published : (work : Work) (version : NumberedNet) → CanReport work → CanReport (after_publishing work version)
 can-published Idle version can = tt
 can-published (Holds held) version can = can
-can-published (Watches watched) version can = (can.0, get-left watched.versions (version ∷ []) 0 can.0 can.1, can.2)
+can-published (Watches watched) version can = (can.0, get_left watched.versions (version ∷ []) 0 can.0 can.1, can.2)
 
 -- what runs once a net is accepted
 work-published : (nets : List Net) (background : Background) (work : Work) (net : Net) (version : NumberedNet) → version ≡ version_of (length nets + 1) net

@@ -1,4 +1,4 @@
--- What is kept of a domain by the answers to lines.
+-- The parts of a domain that answers to lines keep.
 use Rattle.std.proofs.Common.{◌≡◌, ℕ, ◌+◌, Bool, true, false, List, [], ◌∷◌, refl, sym, subst, inl, inr, Option, Some, None}
 use Rattle.sr_model.specs.declared.name.LinkKey.{LinkKey}
 use Rattle.sr_model.specs.Key.{pair_of}

@@ -4,7 +4,7 @@ use Rattle.sr_lsdb.specs.Editing.{Editing}
 use Rattle.sr_domain.specs.Net.{IsNetOf}
 use Rattle.sr_domain.specs.Rules.{IsFirstBrokenRule}
 use Rattle.sr_script.specs.declared.command.Command.{Command}
-use Rattle.sr_script.specs.declared.command.Command.TheVariants.{AuditFull}
+use Rattle.sr_script.specs.declared.command.Command.TheVariants.{Aside, AuditFull}
 use Rattle.sr_print.specs.declared.refusal.Refusal.{Refusal}
 use Rattle.sr_print.specs.Told.{Told}
 use Rattle.sr_print.specs.Told.Told.{Refused}
@@ -18,6 +18,7 @@ use Rattle.sr_run.specs.Asked.{TellsQuestion}
 use Rattle.sr_run.specs.Tries.{Tries}
 use Rattle.sr_run.specs.State.{State, Session, IsShown, CanReport, IsNextVersion, state_of}
 use Rattle.sr_run.specs.Session.{TellsOf}
+use Rattle.sr_run.specs.Account.{TellsAsides}
 use Rattle.sr_run.specs.Failures.{TellsAudit}
 use Rattle.sr_run.specs.Handlers.{PutsTold, SessionTells, MakesTried, RefusesTry, TriesFrom}
 use Rattle.sr_run.proofs.HandlerLemmas.{number-length}
@@ -116,3 +117,10 @@ pub audit-tried : (question : Command) (old : Session) (state : State) (work : W
 audit-tried question old state work usage searches now is can tried audit makes told t =
     subst (λ (k : Command). SessionTells (Tries k) old (session state work usage now) told) (sym audit)
     (tried-told AuditFull old state work usage searches now is can told (inr (tried, makes, t)))
+
+-- what isn't used of the tentative facts
+pub asides-tried : (question : Command) (old : Session) (state : State) (work : Work) (usage : Usage) (searches now : ℕ) → session state work usage searches ≡ old → CanReport work
+    → (tried : Option NumberedNet) → question ≡ Aside → MakesTried state searches now tried → (told : Told) → TellsOf (TellsAsides state.editing.tentative) tried told → SessionTells (Tries question) old (session state work usage now) told
+asides-tried question old state work usage searches now is can tried aside makes told t =
+    subst (λ (k : Command). SessionTells (Tries k) old (session state work usage now) told) (sym aside)
+    (tried-told Aside old state work usage searches now is can told (inr (tried, makes, t)))

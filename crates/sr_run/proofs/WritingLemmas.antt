@@ -9,20 +9,26 @@ use Rattle.sr_base.specs.declared.SinkFault.{SinkFault}
 use Rattle.sr_base.specs.declared.SinkFault.TheVariants.{Memory as Wanting}
 use Rattle.sr_repair.specs.Version.{NumberedNet}
 use Rattle.sr_script.specs.declared.command.Command.{Command}
-use Rattle.sr_script.specs.declared.command.Command.TheVariants.{AuditFull}
+use Rattle.sr_script.specs.declared.command.Command.TheVariants.{Aside, AuditFull}
 use Rattle.sr_engine.proofs.Answering.{breaks-nothing}
 use Rattle.sr_engine.specs.Replies.{Gives}
 use Rattle.sr_engine.specs.Written.{Written, Puts}
 use Rattle.sr_print.specs.Refused.{refused_line}
 use Rattle.sr_print.specs.declared.refusal.Refusal.{Refusal}
 use Rattle.sr_print.specs.Told.{Told}
-use Rattle.sr_print.specs.Told.Told.{Refused, Audit as AuditTold}
+use Rattle.sr_print.specs.Account.{asides_text}
+use Rattle.sr_print.specs.Told.Told.{Refused, Asides as AsidesTold, Audit as AuditTold}
 use Rattle.sr_run.specs.Domain.{Domain}
 use Rattle.sr_run.specs.Tries.{Tries}
+use Rattle.sr_lsdb.specs.declared.facts.Facts.{Facts}
+use Rattle.sr_account.specs.declared.aside.Aside.{Aside as NotUsed}
+use Rattle.sr_account.specs.Laws.{IsAccountOf}
+use Rattle.sr_account.proofs.DeterminedLaw.{asides-one}
+use Rattle.sr_run.specs.Account.{TellsAsides}
 use Rattle.sr_run.specs.Failures.{TellsAudit}
 use Rattle.sr_run.specs.State.{State, Session, CanReport}
 use Rattle.sr_run.specs.Session.{Tells, TellsOf}
-use Rattle.sr_run.specs.Handlers.{PutsTold, Moves, SessionTells, IsNoRefusal, GivesCommand, GivesTold, WritesAudit, WritesRefusal, audit_text}
+use Rattle.sr_run.specs.Handlers.{AwaitsAsides, PutsTold, Moves, SessionTells, IsNoRefusal, GivesCommand, GivesTold, WritesAsides, WritesAudit, WritesRefusal, audit_text}
 use Rattle.sr_run.proofs.SessionLemmas.{lifted}
 
 -- a text that tells is written, or a beginning of it
@@ -68,6 +74,34 @@ pub gives-tried : (question : Command) (number : ℕ) (old new : Session) (tried
 gives-tried question number old new tried before after put result told w r =
     gives-whole (Tries question) number old new tried before after put result
     (λ version items some audit. told (AuditTold version items) (subst (λ (o : Option NumberedNet). TellsOf TellsAudit o (AuditTold version items)) (sym some) (items, audit, refl))) w r
+
+-- what isn't used of these facts, which was taken before, is written, or a beginning of it
+pub gives-asides : (tells : Domain → Told → Domain → Type 0) (number : ℕ) (old new : Session) (facts : Facts) (current : Option NumberedNet) (count : ℕ) (before after : Written) (put : Result (Unit {0}) SinkFault) (result : Result Bool SinkFault)
+    → ((told : Told) → TellsOf (TellsAsides facts) current told → SessionTells tells old new told)
+    → AwaitsAsides facts current count → WritesAsides facts before after put → IsNoRefusal put result → Gives (GivesTold tells number old) before after result new
+gives-asides tells number old new facts None count before after put result told a w r = absurd a
+gives-asides tells number old new facts (Some version) count before after put result told a w r =
+    let same : a.0 ≡ w.0 = asides-one facts a.0 w.0 a.1 w.1 in
+    let account : IsAccountOf facts version.net w.0 = subst (λ (asides : List NotUsed). IsAccountOf facts version.net asides) same a.2 in
+    gives-told tells number old new before after (asides_text w.0) put result
+    (record { told = AsidesTold w.0; is = told (AsidesTold w.0) (w.0, w.1, account, refl); accepted = refl; appended = λ n. refl }) w.2 r
+
+-- what isn't used of the accepted facts is told to whatever domain shows them
+asides-moved : (state : State) (told : Told) → TellsOf (TellsAsides state.editing.accepted) state.current told → Moves (λ domain t next. Tells domain Aside t next) state state told
+asides-moved state told is domain same = (domain, same, (subst (λ (s : State). TellsOf (TellsAsides s.editing.accepted) s.current told) (sym same) is, refl))
+
+asides-told : (s : Session) (told : Told) → CanReport s.work → TellsOf (TellsAsides s.state.editing.accepted) s.state.current told → SessionTells (λ domain t next. Tells domain Aside t next) s s told
+asides-told s told can is = lifted Aside s.state s.state s.work s.usage s.searches told tt can (asides-moved s.state told is)
+
+-- what isn't used of the accepted facts
+pub gives-last-asides : (command : Command) (number : ℕ) (old new : Session) (facts : Facts) (count : ℕ) (before after : Written) (put : Result (Unit {0}) SinkFault) (result : Result Bool SinkFault)
+    → command ≡ Aside → AwaitsAsides old.state.editing.accepted old.state.current count → new ≡ old → CanReport new.work → facts ≡ new.state.editing.accepted → WritesAsides facts before after put → IsNoRefusal put result → Gives (GivesCommand command number old) before after result new
+gives-last-asides command number old new facts count before after put result is a same can of_facts w r =
+    let awaits : AwaitsAsides new.state.editing.accepted new.state.current count = subst (λ (s : Session). AwaitsAsides s.state.editing.accepted s.state.current count) (sym same) a in
+    let writes : WritesAsides new.state.editing.accepted before after put = subst (λ (f : Facts). WritesAsides f before after put) of_facts w in
+    subst (λ (k : Command). Gives (GivesCommand k number old) before after result new) (sym is)
+    (subst (λ (s : Session). Gives (GivesCommand Aside number s) before after result new) same
+    (gives-asides (λ domain told next. Tells domain Aside told next) number new new new.state.editing.accepted new.state.current count before after put result (λ told t. asides-told new told can t) awaits writes r))
 
 -- a refusal is written, or a beginning of it
 pub gives-refusal : (tells : Domain → Told → Domain → Type 0) (number : ℕ) (old new : Session) (before after : Written) (reason : Refusal) (result : Result Bool SinkFault)

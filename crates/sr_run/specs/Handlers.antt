@@ -1,5 +1,5 @@
 -- What the session's functions say: what was appended is told, or why they stopped is.
-use Rattle.std.specs.Prelude.{◌≡◌, ℕ, ◌+◌, ◌<◌, ◌≤◌, ◌⊎◌, Bool, true, false, List, ◌++◌, Option, Some, None, is_some, IfSome, MatchResult}
+use Rattle.std.specs.Prelude.{◌≡◌, ℕ, ◌+◌, ◌<◌, ◌≤◌, ◌⊎◌, Bool, true, false, List, ◌++◌, length, Option, Some, None, is_some, IfSome, MatchResult}
 use Rattle.std.specs.declared.alloc.AllocError.{AllocError}
 use Rattle.std.specs.declared.result.Result.{Result}
 use Rattle.std.specs.declared.result.Result.TheVariants.{Ok, Err}
@@ -20,7 +20,7 @@ use Rattle.sr_script.specs.declared.name.RepairName.{RepairName}
 use Rattle.sr_script.specs.declared.command.Command.{Command}
 use Rattle.sr_model.specs.declared.link.TheConstants.{MOST_METRIC}
 use Rattle.sr_script.specs.declared.command.TheConstants.{MOST_DEPTH, MOST_WATCHERS, MOST_ROUNDS, MOST_WORKERS, MOST_EACH, MOST_VERSION}
-use Rattle.sr_script.specs.declared.command.Command.TheVariants.{Cost, Depth, Load, Prove, ProofOpen, ProofVia, ProofNode, ProofAdj, ProofRow, ProofDone, Commit, AuditFull, Hold, Watch, Join, Why}
+use Rattle.sr_script.specs.declared.command.Command.TheVariants.{Cost, Depth, Load, Prove, ProofOpen, ProofVia, ProofNode, ProofAdj, ProofRow, ProofDone, Commit, AuditFull, Aside as AsideWord, Hold, Watch, Join, Why}
 use Rattle.sr_script.specs.Says.{is_question}
 use Rattle.sr_print.specs.declared.refusal.Refusal.{Refusal}
 use Rattle.sr_print.specs.declared.refusal.Refusal.TheVariants as refusal
@@ -34,6 +34,11 @@ use Rattle.sr_base.specs.declared.SinkFault.{SinkFault}
 use Rattle.sr_model.specs.declared.audit.Item.{Item}
 use Rattle.sr_model.specs.declared.audit.RoundReport.{RoundReport}
 use Rattle.sr_model.specs.Audit.{IsAudit, counts_of}
+use Rattle.sr_lsdb.specs.declared.facts.Facts.{Facts}
+use Rattle.sr_account.specs.declared.aside.Aside.{Aside}
+use Rattle.sr_account.specs.Asides.{AreAsides}
+use Rattle.sr_account.specs.Laws.{IsAccountOf}
+use Rattle.sr_print.specs.Account.{asides_text}
 use Rattle.sr_print.specs.Repairs.{item_lines, summary_line}
 use Rattle.sr_print.specs.Refused.{refused_line}
 use Rattle.sr_repair.specs.Version.{NumberedNet}
@@ -46,8 +51,8 @@ use Rattle.sr_run.specs.declared.edits.LinkEdit.{LinkEdit}
 use Rattle.sr_run.specs.declared.edits.LinkEdit.TheVariants.{Cost as CostEdit, Down as DownEdit, Up as UpEdit}
 use Rattle.sr_run.specs.declared.session.Reply.{Reply}
 use Rattle.sr_run.specs.declared.tries.Tried.{Tried}
-use Rattle.sr_run.specs.declared.tries.Tried.TheVariants.{Text as TriedText, Audit as TriedAudit}
-use Rattle.sr_run.specs.declared.session.Reply.TheVariants.{Text, Audit}
+use Rattle.sr_run.specs.declared.tries.Tried.TheVariants.{Text as TriedText, Audit as TriedAudit, Asides as TriedAsides}
+use Rattle.sr_run.specs.declared.session.Reply.TheVariants.{Text, Audit, Asides}
 use Rattle.sr_store.specs.declared.usage.Usage.{Usage}
 use Rattle.sr_work.specs.declared.work.Work.{Work}
 use Rattle.sr_work.specs.declared.work.Work.TheVariants.{Idle, Holds, Watches}
@@ -136,6 +141,7 @@ IsOfDomain _ = Unit {0}
 -- such a command whose answer is appended at once
 abbrev pub IsOfText : Command → Type 0
 IsOfText AuditFull = ⊥
+IsOfText AsideWord = ⊥
 IsOfText Commit = ⊥
 IsOfText (Prove repair) = ⊥
 IsOfText (Why repair) = ⊥
@@ -157,6 +163,7 @@ IsUncertified command = IsOfText command
 -- the command is a question whose answer is appended at once
 abbrev pub IsTextQuestion : Command → Type 0
 IsTextQuestion AuditFull = ⊥
+IsTextQuestion AsideWord = ⊥
 IsTextQuestion command = is_question command ≡ true
 
 -- the two systems are these nodes
@@ -227,12 +234,22 @@ IsLinkEdit (CostEdit metric) = (0 < metric) × (metric ≤ MOST_METRIC)
 IsLinkEdit DownEdit = Unit {0}
 IsLinkEdit UpEdit = Unit {0}
 
--- a command is carried out: what is told was appended, or nothing was, and it is the audit of the last version, which
--- is yet to be written; or the line is refused, and that is told; memory may run out at any time
+-- what isn't used of the facts is yet to be written, so many lines of it: there is a version of their net, and whatever
+-- they have is used in that or told once
+abbrev pub AwaitsAsides : Facts → Option NumberedNet → ℕ → Type 0
+AwaitsAsides facts None count = ⊥
+AwaitsAsides facts (Some version) count =
+    (asides : List Aside) × AreAsides facts asides × IsAccountOf facts version.net asides × (length asides ≡ count)
+
+-- a command is carried out: what is told was appended, or nothing was, and it is the audit of the last version or what
+-- isn't used of the accepted facts, which is yet to be written; or the line is refused, and that is told; memory may
+-- run out at any time
 abbrev pub RepliesTo : Command → State → State → List ℕ → List ℕ → Result Reply Stop → Type 0
 RepliesTo command old new before after (Ok Text) = CarriesOut command old new before after (Ok tt)
 RepliesTo command old new before after (Ok Audit) =
     (command ≡ AuditFull) × (is_some old.current ≡ true) × (new ≡ old) × (after ≡ before)
+RepliesTo command old new before after (Ok (Asides count)) =
+    (command ≡ AsideWord) × AwaitsAsides old.editing.accepted old.current count × (new ≡ old) × (after ≡ before)
 RepliesTo command old new before after (Err stop) = CarriesOut command old new before after (Err stop)
 
 -- a session carries a command out: the same
@@ -241,6 +258,9 @@ SessionReplies command old new before after (Ok Text) =
     PutsTold (SessionTells (λ domain told next. Tells domain command told next) old new) before after
 SessionReplies command old new before after (Ok Audit) =
     (command ≡ AuditFull) × (is_some old.state.current ≡ true) × (new ≡ old) × (after ≡ before) × CanReport new.work
+SessionReplies command old new before after (Ok (Asides count)) =
+    (command ≡ AsideWord) × AwaitsAsides old.state.editing.accepted old.state.current count × (new ≡ old)
+    × (after ≡ before) × CanReport new.work
 SessionReplies command old new before after (Err stop) =
     Carries (SessionTells (λ domain told next. Tells domain command told next) old new) before after (Err stop)
 
@@ -284,6 +304,18 @@ WritesCounts version before after result =
 abbrev pub BeginsAudit : Option NumberedNet → Result Reply Stop → Type 0
 BeginsAudit None result = result ≡ Err (Refused refusal.NoVersion)
 BeginsAudit (Some version) result = result ≡ Ok Audit
+
+-- there is a version, and what isn't used of these facts is yet to be written, or that there is none is refused; memory
+-- may run out
+abbrev pub BeginsAsides : Facts → Option NumberedNet → Result ℕ Stop → Type 0
+BeginsAsides facts current (Ok count) = AwaitsAsides facts current count
+BeginsAsides facts current (Err (Refused reason)) = (current ≡ None) × (reason ≡ refusal.NoVersion)
+BeginsAsides facts current (Err (Memory error)) = Unit {0}
+
+-- what isn't used of the facts is written, or a beginning of it
+abbrev pub WritesAsides : Facts → Written → Written → Result (Unit {0}) SinkFault → Type 0
+WritesAsides facts before after result =
+    (asides : List Aside) × AreAsides facts asides × Puts before after (asides_text asides) result
 
 -- the refusal of the line of this number is written, or a beginning of it
 abbrev pub WritesRefusal : ℕ → Refusal → Written → Written → Result Bool SinkFault → Type 0
@@ -398,12 +430,17 @@ TriesFrom question state counted count told =
     ⊎ ((tried : Option NumberedNet) × MakesTried state counted count tried
     × TellsOf (TellsQuestion question state.editing.tentative state.current) tried told)
 
--- how a question that is tried is answered: by what was appended, or by an audit that is yet to be written, or not
+-- how a question that is tried is answered: by what was appended, by an audit or by what isn't used of the tentative
+-- facts, which is yet to be written, or not
 abbrev pub TriedAs : Command → State → ℕ → ℕ → List ℕ → List ℕ → Result Tried Stop → Type 0
 TriedAs question state counted count before after (Ok TriedText) =
     PutsTold (TriesFrom question state counted count) before after
 TriedAs question state counted count before after (Ok (TriedAudit tried)) =
     (question ≡ AuditFull) × MakesTried state counted count tried
+TriedAs question state counted count before after (Ok (TriedAsides lines)) =
+    (question ≡ AsideWord)
+    × (tried : Option NumberedNet) × MakesTried state counted count tried
+    × AwaitsAsides state.editing.tentative tried lines
 TriedAs question state counted count before after (Err (Refused reason)) =
     TriesFrom question state counted count (RefusedTold reason)
 TriedAs question state counted count before after (Err (Memory error)) = Unit {0}

@@ -33,8 +33,8 @@ OfEnds refuses graph ends holds = OfNode refuses graph ends.from (λ from.
     OfNode refuses graph ends.to (λ to. holds from to))
 
 -- the ends of a link's name
-abbrev pub ends_of : LinkName → EndNames
-ends_of name = record { from = name.from; to = name.to }
+abbrev pub ends_named : LinkName → EndNames
+ends_named name = record { from = name.from; to = name.to }
 
 -- the refusal of a link that isn't there
 abbrev pub missing_link : LinkName → Refusal
@@ -47,7 +47,7 @@ key_meant net name = key_named net.announced name.from name.to name.n
 -- an end isn't a node, or the link isn't announced, and the first of these is refused; or it is announced, and this
 -- holds of its key
 abbrev pub OfAnnounced : (Refusal → Type 0) → Net → LinkName → (LinkKey → Type 0) → Type 0
-OfAnnounced refuses net name holds = OfEnds refuses net.graph (ends_of name) (λ from to.
+OfAnnounced refuses net name holds = OfEnds refuses net.graph (ends_named name) (λ from to.
     ((key_meant net name ≡ None) × refuses (missing_link name))
     ⊎ ((key : LinkKey) × (key_meant net name ≡ Some key) × holds key))
 
@@ -70,12 +70,12 @@ OfLink refuses net name holds =
 -- holds of the link
 abbrev pub OfNamedLink : (Refusal → Type 0) → Net → LinkName → (LinkNo → Type 0) → Type 0
 OfNamedLink refuses net name holds =
-    OfEnds refuses net.graph (ends_of name) (λ from to. OfLink refuses net name holds)
+    OfEnds refuses net.graph (ends_named name) (λ from to. OfLink refuses net name holds)
 
 -- the first of the three systems that isn't a node is refused, or else the link that the net lacks; or all are there,
 -- and this holds of the case and the destination's node
 abbrev pub OfFailure : (Refusal → Type 0) → Net → RepairName → (Case → ℕ → Type 0) → Type 0
-OfFailure refuses net repair holds = OfEnds refuses net.graph (ends_of repair.link) (λ from to.
+OfFailure refuses net repair holds = OfEnds refuses net.graph (ends_named repair.link) (λ from to.
     OfNode refuses net.graph repair.dest (λ d.
     OfLink refuses net repair.link (λ link. holds (record { kind = repair.kind; link = link }) d)))
 

@@ -19,6 +19,7 @@ ghost use Rattle.sr_script.specs.Says.{is_question};
 ghost use Rattle.sr_run.specs.Tries.{Tries};
 ghost use Rattle.sr_run.specs.Handlers.{Carries, GivesCommand, GivesTold, IsAsked, IsPublished, MayBegin, MayNotBegin, PutsJoined, RefusesLine, SessionAnswers, SessionEnds, SessionReplies, SessionTells};
 
+use crate::account::put_account;
 use crate::audits::put_audit;
 use crate::certificates::prove;
 use crate::kept::{KeptVersion, has_audit};
@@ -256,7 +257,7 @@ impl<G: Gate, L: Ledger> ScriptSession<G, L> {
         )
     }
 
-    /// Carries a command out, and appends the answer; of `audit full` nothing is appended.
+    /// Carries a command out, and appends the answer; of `audit full` and `aside` nothing is appended.
     fn tell<R: Runtime + 'static>(
         &mut self,
         rt: &R,
@@ -309,6 +310,14 @@ impl<G: Gate, L: Ledger> ScriptSession<G, L> {
                 out,
                 sink,
             )),
+            Ok(Reply::Asides(count)) => accepted(put_account(
+                self.domain.alloc(),
+                self.domain.accepted_facts(),
+                count,
+                text,
+                out,
+                sink,
+            )),
             Err(Stop::Refused(reason)) => write_refusal(number, &reason, text, out, sink),
             Err(Stop::Memory(error)) => Err(SinkFault::Memory(error)),
         }
@@ -339,6 +348,14 @@ impl<G: Gate, L: Ledger> ScriptSession<G, L> {
             Ok(Tried::Audit(version)) => accepted(put_audit(
                 self.domain.alloc(),
                 &version,
+                text,
+                out,
+                sink,
+            )),
+            Ok(Tried::Asides(count)) => accepted(put_account(
+                self.domain.alloc(),
+                self.domain.tentative_facts(),
+                count,
                 text,
                 out,
                 sink,

@@ -12,7 +12,7 @@ use std::alloc::Global;
 
 /// `diff V`: appends what differs between the repairs of the version of this number, which is the last one or the one before
 /// it, and those of the last one.
-pub(crate) fn diff(
+pub(crate) fn tell_diff(
     rt: &impl Runtime,
     alloc: Global,
     previous: &KeptVersion,

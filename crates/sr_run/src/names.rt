@@ -2,7 +2,7 @@
 ghost use Rattle.std.specs.Prelude.{◌≡◌, None, Some, MatchOption, MatchResult};
 ghost use Rattle.sr_model.specs.Case.{IsAffected, IsCase};
 ghost use Rattle.sr_model.specs.Repair.{IsCaseAnswer};
-ghost use Rattle.sr_run.specs.Names.{NamesNode, IsLinkOf, IsNamedNode, NoLinkOf, ends_of, missing_link};
+ghost use Rattle.sr_run.specs.Names.{NamesNode, IsLinkOf, IsNamedNode, NoLinkOf, ends_named, missing_link};
 ghost use Rattle.sr_run.specs.Handlers.{AreEnds, IsAffectedOf, IsAnnounced, IsFailureOf, IsNamedLink, LacksAffected, LacksAnnounced, LacksEnd, LacksFailure, LacksLink};
 
 use sr_model::{Answer, Case, LinkKey, LinkNo, NodeNo, SystemId};
@@ -46,8 +46,8 @@ pub(crate) fn find_ends(version: &Version, ends: &EndNames) -> Result<EndNodes, 
 }
 
 /// The ends of a link's name.
-fn ends_of(link: &LinkName) -> EndNames
-    ensures { result ≡ ends_of link.now }
+fn ends_named(link: &LinkName) -> EndNames
+    ensures { result ≡ ends_named link.now }
 {
     EndNames {
         from: link.from,
@@ -72,7 +72,7 @@ pub(crate) fn find_announced(version: &Version, link: &LinkName) -> Result<LinkK
         (IsAnnounced version.now.net link.now)
         (LacksAnnounced version.now.net link.now) }
 {
-    match find_ends(version, &ends_of(link)) {
+    match find_ends(version, &ends_named(link)) {
         Ok(_nodes) => {}
         Err(reason) => return Err(reason),
     }
@@ -100,7 +100,7 @@ pub(crate) fn find_link(version: &Version, link: &LinkName) -> Result<LinkNo, Re
         (IsNamedLink version.now.net link.now)
         (LacksLink version.now.net link.now) }
 {
-    match find_ends(version, &ends_of(link)) {
+    match find_ends(version, &ends_named(link)) {
         Ok(_nodes) => {}
         Err(reason) => return Err(reason),
     }
@@ -124,7 +124,7 @@ pub(crate) fn find_failure(version: &Version, repair: &RepairName) -> Result<Fai
         (λ failure. IsFailureOf version.now.net repair.now failure.case failure.destination.0)
         (LacksFailure version.now.net repair.now) }
 {
-    match find_ends(version, &ends_of(&repair.link)) {
+    match find_ends(version, &ends_named(&repair.link)) {
         Ok(_nodes) => {}
         Err(reason) => return Err(reason),
     }

@@ -6,10 +6,10 @@ ghost use Rattle.sr_run.specs.Asked.{TellsQuestion};
 ghost use Rattle.sr_run.specs.Session.{TellsOf};
 ghost use Rattle.sr_run.specs.Handlers.{Carries, CarriesOut, IsAsked, IsTextQuestion};
 
-use crate::account::{aside, links, nodes};
+use crate::account::{links, nodes};
 use crate::adjacencies::{adjbackup, adjrepair};
 use crate::audits::audit_counts;
-use crate::differences::diff;
+use crate::differences::tell_diff;
 use crate::distances::{dist, next};
 use crate::failures::{repair, spaces};
 use crate::forwarding::{label, walk_packet};
@@ -25,7 +25,7 @@ use sr_script::Command;
 use std::alloc::Global;
 
 /// Puts a question to the version, where there is one, and appends the answer. The version has the net of the facts, and
-/// `previous` is the one before it. The answer to `audit full` is written elsewhere.
+/// `previous` is the one before it. The answers to `audit full` and `aside` are written elsewhere.
 pub(crate) fn ask(
     rt: &impl Runtime,
     alloc: Global,
@@ -63,14 +63,14 @@ pub(crate) fn ask(
         Command::AuditLabels => audit_labels(rt, alloc, current, out),
         Command::Nodes => nodes(current, out),
         Command::Links => links(alloc, facts, current, out),
-        Command::Aside => aside(alloc, facts, current, out),
-        Command::Diff { version } => diff(rt, alloc, previous, current, version, out),
+        Command::Diff { version } => tell_diff(rt, alloc, previous, current, version, out),
         _ => unreachable!(),
     }
 }
 
 impl DomainSession {
-    /// Puts a question to the last version, and appends the answer. The answer to `audit full` is written elsewhere.
+    /// Puts a question to the last version, and appends the answer. The answers to `audit full` and `aside` are written
+    /// elsewhere.
     pub(crate) fn ask_last(
         &self,
         rt: &impl Runtime,

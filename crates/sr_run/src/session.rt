@@ -5,6 +5,7 @@ ghost use Rattle.sr_engine.specs.Written.{written};
 ghost use Rattle.sr_run.specs.Session.{IsRefusedAs, version_links, version_nodes};
 ghost use Rattle.sr_run.specs.Handlers.{IsNoRefusal, IsReply, WritesRefusal};
 
+use crate::account::begin_asides;
 use crate::audits::begin_audit;
 use crate::edits::LinkEdit;
 use crate::kept::{KeptVersion, last_number, last_version};
@@ -12,7 +13,7 @@ use crate::stop::Stop;
 use sr_base::{Runtime, Sink, SinkFault};
 use sr_cert::CertDraft;
 use sr_engine::Answers;
-use sr_lsdb::Editor;
+use sr_lsdb::{Editor, Facts};
 use sr_print::{Refusal, put_refused, put_show};
 use sr_script::{Command, LineFault};
 use std::alloc::Global;
@@ -36,6 +37,8 @@ pub(crate) enum Reply {
     Text,
     /// By the audit of the last version, which is written case by case.
     Audit,
+    /// By what of the accepted facts isn't used: so much, which is written LSP by LSP.
+    Asides(u64),
 }
 
 impl Model for DomainSession {
@@ -150,6 +153,20 @@ impl DomainSession {
         self.alloc
     }
 
+    /// The accepted facts.
+    pub(crate) fn accepted_facts(&self) -> &Facts
+        ensures { result.now ≡ self.now.editing.accepted }
+    {
+        self.editor.accepted()
+    }
+
+    /// The facts that the staged edits make of the accepted ones.
+    pub(crate) fn tentative_facts(&self) -> &Facts
+        ensures { result.now ≡ self.now.editing.tentative }
+    {
+        self.editor.tentative()
+    }
+
     /// The last version, where there is one.
     pub(crate) fn current(&self) -> &KeptVersion
         ensures { result.now ≡ self.now.current }
@@ -224,7 +241,7 @@ impl DomainSession {
     }
 
     /// Carries out a command that leaves background work alone and searches for no distances, and appends the answer; of
-    /// `audit full` nothing is appended.
+    /// `audit full` and `aside` nothing is appended.
     pub(crate) fn tell(
         &mut self,
         rt: &impl Runtime,
@@ -238,6 +255,12 @@ impl DomainSession {
     {
         match command {
             Command::AuditFull => begin_audit(&self.current),
+            Command::Aside => {
+                match begin_asides(self.alloc, self.editor.accepted(), &self.current) {
+                    Ok(count) => Ok(Reply::Asides(count)),
+                    Err(stop) => Err(stop),
+                }
+            }
             other => replied(self.tell_text(rt, other, out)),
         }
     }

@@ -4,6 +4,7 @@ ghost use Rattle.sr_script.specs.Says.{is_question};
 ghost use Rattle.std.specs.Prelude.{◌≡◌, true};
 ghost use Rattle.sr_run.specs.Handlers.{IsAsked, MakesTried, TriedAs, TriesNone};
 
+use crate::account::begin_asides;
 use crate::kept::{KeptVersion, last_number};
 use crate::questions::ask;
 use crate::session::DomainSession;
@@ -21,6 +22,8 @@ pub(crate) enum Tried {
     Text,
     /// By the audit of this version, which is written case by case.
     Audit(KeptVersion),
+    /// By what of the tentative facts isn't used: so much, which is written LSP by LSP.
+    Asides(u64),
 }
 
 impl DomainSession {
@@ -44,7 +47,7 @@ impl DomainSession {
     }
 
     /// `try QUESTION`: puts the question to the version that a commit would publish, and appends the answer; of `audit full`
-    /// nothing is appended. The staged edits stay as they are.
+    /// and `aside` nothing is appended. The staged edits stay as they are.
     pub(crate) fn try_question<L: Ledger>(
         &self,
         rt: &impl Runtime,
@@ -60,15 +63,17 @@ impl DomainSession {
             Ok(tried) => tried,
             Err(stop) => return Err(stop),
         };
+        let facts = self.editor.tentative();
         match question {
             Command::AuditFull => Ok(Tried::Audit(tried)),
-            other => {
-                let facts = self.editor.tentative();
-                match ask(rt, self.alloc, facts, &self.current, &tried, other, out) {
-                    Ok(()) => Ok(Tried::Text),
-                    Err(stop) => Err(stop),
-                }
-            }
+            Command::Aside => match begin_asides(self.alloc, facts, &tried) {
+                Ok(count) => Ok(Tried::Asides(count)),
+                Err(stop) => Err(stop),
+            },
+            other => match ask(rt, self.alloc, facts, &self.current, &tried, other, out) {
+                Ok(()) => Ok(Tried::Text),
+                Err(stop) => Err(stop),
+            },
         }
     }
 }

@@ -11,7 +11,7 @@ ghost use Rattle.sr_print.specs.Links.{AreLinks};
 ghost use Rattle.sr_print.specs.Forwarding.{IsEntryWithin};
 ghost use Rattle.sr_run.specs.Questions.{IsForwarded};
 
-use sr_fib::Entry;
+use sr_fib::FibEntry;
 use sr_forward::{Walk, walk};
 use sr_model::{LinkNo, NodeNo};
 use sr_repair::{Version, node_label};
@@ -37,7 +37,7 @@ pub(crate) fn next_hops(version: &Version, from: NodeNo, to: NodeNo) -> &[LinkNo
 }
 
 /// What the label does at the node.
-pub(crate) fn look_up(version: &Version, node: NodeNo, label: u32) -> Option<Entry<'_>>
+pub(crate) fn look_up(version: &Version, node: NodeNo, label: u32) -> Option<FibEntry<'_>>
     requires { node.0 < node_count version.now.net.graph }
     ensures lookup { IsLookup version.now.net node.0 label (found_of result) }
     ensures within { IfSome (found_of result) (IsEntryWithin version.now.net.graph) }

@@ -2,7 +2,7 @@
 
 use super::{run, words};
 use sr_base::{Runtime, SteadySink, SteadySource};
-use sr_lsp::{Capability, Lsp, LspId, Part, Prefix, Reach, in_range, write_lsp};
+use sr_lsp::{Capability, Lsp, LspId, Part, Parts, Prefix, Reach, in_range, write_lsp};
 use sr_model::{Range, SystemId};
 use sr_seq::{Few, Seq};
 use sr_subtlv::{LinkIds, PrefixSid, Sid, SrCap};
@@ -105,7 +105,7 @@ fn put_node(
         sequence: 1,
         checksum: 0,
         flags: 3,
-        parts: Seq::new(parts_of(alloc, node, pairs)?),
+        parts: Parts::new(alloc, parts_of(alloc, node, pairs)?)?,
     };
     if !in_range(&lsp) {
         return Ok(());

@@ -99,12 +99,12 @@ fn remains_by<L: Ledger>(
     let mut steps = Steps::<L>::new(blank);
     let net = version.net();
     let left = post(alloc, net, version.trees(), case, &mut steps)?;
-    let ways = walks(alloc, net, version.trees(), &left, case)?;
+    let ways = walks(net, version.trees(), &left, case);
     let mut distances = Vec::new(alloc);
     let mut on_walks = Vec::new(alloc);
     for node in 0..net.graph().node_count() as u16 {
         distances.push(left.dist(NodeNo(node)))?;
-        on_walks.push(ways.has(NodeNo(node)))?;
+        on_walks.push(ways.has(node as usize))?;
     }
     Ok(Remains {
         distances,

@@ -7,10 +7,10 @@ ghost use Rattle.sr_delta.specs.Changes.{AreChanges};
 ghost use Rattle.sr_delta.specs.KeptTrees.{AreKeptTrees};
 
 use super::fixtures::{Line, id, net_of, trees_of};
-use sr_delta::{Change, Changes, OldCase, case_stays, changes, kept_trees, tree_stays};
+use sr_delta::{Change, Changes, OldCase, Staying, case_stays, changes, kept_trees, tree_stays};
 use sr_labels::Net;
 use sr_model::{Case, Ident, Kind, LinkKey, LinkNo, NodeNo};
-use sr_post::{Post, post};
+use sr_post::{Post, post, walks};
 use sr_spf::{Steps, Trees};
 use std::alloc::{AllocError, Global};
 use std::marker::Brand;
@@ -133,8 +133,9 @@ fn stays(
     requires case { IsCase old.now.graph case }
 {
     let left = left_of(alloc, old, trees, case)?;
-    let old_case = OldCase::new(old, trees, case, left.cells());
-    case_stays(alloc, changes, kept, &old_case, new)
+    let walks = walks(old, trees, &left, case);
+    let old_case = OldCase::new(old, trees, case, left.cells(), walks);
+    Ok(case_stays(changes, &Staying::new(changes, kept), &old_case, new))
 }
 
 /// The links whose cases of this kind stay.

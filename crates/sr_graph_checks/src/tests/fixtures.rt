@@ -5,7 +5,7 @@ ghost use Rattle.sr_model.specs.Graph.{node_count};
 ghost use Rattle.sr_model.specs.Rule.{AreAnnounced};
 ghost use Rattle.sr_graph.specs.Draft.{IsDraft};
 ghost use Rattle.sr_spf.specs.Trees.{tree_count, AreTrees};
-ghost use Rattle.sr_graph_checks.specs.Spans.{groups_at, IsSpanned};
+ghost use Rattle.sr_graph_checks.specs.Spans.{span_groups, IsSpanned};
 
 use sr_graph::{Draft, DraftLink, Graph};
 use sr_labels::{Net, NodeLabels, Srgb, first_clash};
@@ -84,7 +84,7 @@ fn numbered(alloc: Global, nodes: u64) -> Result<Vec<SystemId>, AllocError>
 /// The groups of a link whose ends add up to this number: group 7 where that is the risky one, else
 /// none.
 fn groups_of(alloc: Global, ends: u64, risky: u64) -> Result<Vec<u32>, AllocError>
-    ensures { IfOk result (λ groups. groups.items ≡ groups_at risky ends) }
+    ensures { IfOk result (λ groups. groups.items ≡ span_groups risky ends) }
 {
     if ends == risky {
         Ok(vec![in alloc; 7]?)

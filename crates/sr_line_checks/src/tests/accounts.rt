@@ -2,7 +2,7 @@
 use super::fixtures::{id, net_of, pairs_graph, ring_graph};
 use sr_account::{Aside, LinkSource, Matter, Place, Reason};
 use sr_lsp::LspId;
-use sr_print::{put_asides, put_links, put_nodes};
+use sr_print::{put_aside_count, put_asides, put_links, put_nodes};
 use sr_subtlv::Sid;
 use std::alloc::{AllocError, Global};
 use std::test::Fail;
@@ -135,6 +135,7 @@ fn asides(alloc: Global) -> Result<Vec<Aside>, AllocError> {
 fn asides_are_printed(rt: HostRuntime) -> Result<(), AllocError> {
     let mut out = Vec::new(rt.alloc());
     put_asides(&asides(rt.alloc())?, &mut out)?;
+    put_aside_count(7, &mut out)?;
     let text = "aside 0000.0000.0001.0a-f0 part 9 reach 0000.0000.0002.ff pseudonode\n\
         aside 0000.0000.0001.0a-f0 part 9 prefix 192.0.2.0/24 length\n\
         aside 0000.0000.0001.0a-f0 part 9 name hostname\n\

@@ -1,9 +1,9 @@
-//! Two small nets: a ring of four nodes, and two nodes with two pairs of links.
+//! Two small nets: a ring of four nodes, and two nodes with two bidirectional links.
 ghost use Rattle.std.specs.Prelude.{◌≡◌, ◌<◌, length, map, IfOk};
 ghost use Rattle.sr_model.specs.Graph.{node_count};
 ghost use Rattle.sr_model.specs.Rule.{AreAnnounced};
 ghost use Rattle.sr_graph.specs.Draft.{IsDraft};
-ghost use Rattle.sr_line_checks.specs.Drafts.{drafted};
+ghost use Rattle.sr_line_checks.specs.Drafts.{drafted_in};
 
 use sr_graph::{Draft, DraftLink, Graph};
 use sr_labels::{Net, NodeLabels, Srgb, first_clash};
@@ -35,7 +35,7 @@ fn key(from: u64, to: u64, ident: Ident) -> LinkKey
 
 /// The links of these names, each of metric 1 and in these groups.
 fn links_of(alloc: Global, keys: &[LinkKey], groups: &[u32]) -> Result<Vec<DraftLink>, AllocError>
-    ensures { IfOk result (λ links. links.items ≡ map (drafted groups.now) keys.now) }
+    ensures { IfOk result (λ links. links.items ≡ map (drafted_in groups.now) keys.now) }
 {
     let mut links = Vec::new(alloc);
     for key in keys {
@@ -70,7 +70,7 @@ fn ring(alloc: Global) -> Result<Draft, AllocError>
     })
 }
 
-/// Nodes 1 and 2, joined by a pair of links with addresses and by one with link identifiers, both in groups 3 and 700.
+/// Nodes 1 and 2, joined by a bidirectional link with addresses and by one with link identifiers, both in groups 3 and 700.
 fn pairs(alloc: Global) -> Result<Draft, AllocError>
     ensures { IfOk result IsDraft }
 {

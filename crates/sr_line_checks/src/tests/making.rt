@@ -1,7 +1,7 @@
 //! Made scripts, against values from outside.
 use sr_base::{MemorySink, SteadySink};
 use sr_engine::End;
-use sr_lsp::{Part, read_lsp};
+use sr_lsp::{PartRef, read_lsp};
 use sr_make::make;
 use std::alloc::{AllocError, Global};
 use std::test::Fail;
@@ -50,8 +50,8 @@ struct Told {
 fn push_links(alloc: Global, digits: &str, told: &mut Vec<Told>) -> Result<(), Fail> {
     let octets = hex::decode(alloc, digits.as_bytes())?;
     let lsp = read_lsp(alloc, &octets)?;
-    for part in lsp.parts.as_slice() {
-        if let Part::Reach(reach) = part {
+    for at in 0..lsp.parts.count() {
+        if let PartRef::Reach(reach) = lsp.parts.at(at) {
             told.push(Told {
                 from: lsp.id.system.value(),
                 to: reach.neighbour.value(),

@@ -1,7 +1,7 @@
 //! What is read of PDUs, and what is refused.
 
 use super::fixtures::{ADJ_LABEL, AS_A_ROUTER_WRITES, PDU, PREFIX_INDEX, changed};
-use sr_lsp::{Check, Malformed, Part, Prefix, Reach, ReadFault, read_lsp};
+use sr_lsp::{Check, Malformed, PartRef, Prefix, Reach, ReadFault, read_lsp};
 use sr_subtlv::Msd;
 use std::alloc::Global;
 use std::process::Abort;
@@ -114,12 +114,9 @@ fn check_prefix(rt: &impl Abort, prefix: &Prefix) {
 fn parts_as_a_router_writes_them(rt: HostRuntime) -> Result<(), Fail> {
     let lsp = read_lsp(rt.alloc(), &AS_A_ROUTER_WRITES)?;
     assert_eq!(rt; lsp.lifetime, 1200);
-    match lsp.parts.as_slice() {
-        [
-            Part::Capability(capability),
-            Part::Reach(reach),
-            Part::Prefix(prefix),
-        ] => {
+    assert_eq!(rt; lsp.parts.count(), 3);
+    match (lsp.parts.at(0), lsp.parts.at(1), lsp.parts.at(2)) {
+        (PartRef::Capability(capability), PartRef::Reach(reach), PartRef::Prefix(prefix)) => {
             assert_eq!(rt; capability.router, 0x0a00_0001);
             let msds = [Msd { kind: 1, value: 10 }];
             assert_eq!(rt; capability.msd.as_slice(), msds.as_slice());

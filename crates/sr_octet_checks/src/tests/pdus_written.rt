@@ -2,7 +2,8 @@
 
 use super::fixtures::{ADJ_LABEL, AS_A_ROUTER_WRITES, PREFIX_INDEX, id};
 use sr_lsp::{
-    Capability, Lsp, LspId, Part, Prefix, Reach, Risk, WriteFault, in_range, read_lsp, write_lsp,
+    Capability, Lsp, LspId, Part, Parts, Prefix, Reach, Risk, WriteFault, in_range, read_lsp,
+    write_lsp,
 };
 use sr_model::Range;
 use sr_seq::{Few, Seq};
@@ -11,8 +12,8 @@ use std::alloc::{AllocError, Global};
 use std::test::Fail;
 
 /// The first PDU of system 1, with these parts.
-fn first_of(parts: Vec<Part>) -> Lsp {
-    Lsp {
+fn first_of(alloc: Global, parts: Vec<Part>) -> Result<Lsp, AllocError> {
+    Ok(Lsp {
         lifetime: 1200,
         id: LspId {
             system: id(1),
@@ -22,8 +23,8 @@ fn first_of(parts: Vec<Part>) -> Lsp {
         sequence: 1,
         checksum: 0,
         flags: 3,
-        parts: Seq::new(parts),
-    }
+        parts: Parts::new(alloc, parts)?,
+    })
 }
 
 /// A link of metric 1 to a system, with link identifiers and Adj-SIDs.
@@ -97,7 +98,7 @@ fn ring(alloc: Global) -> Result<Lsp, AllocError> {
     parts.push(prefix(alloc)?)?;
     parts.push(reach(2, 1, vec![in alloc; ADJ_LABEL]?))?;
     parts.push(reach(4, 4, vec![in alloc; other]?))?;
-    Ok(first_of(parts))
+    first_of(alloc, parts)
 }
 
 #[test]
@@ -136,7 +137,7 @@ fn written_again(rt: HostRuntime) -> Result<(), Fail> {
 fn a_part_is_too_long(rt: HostRuntime) -> Result<(), Fail> {
     let alloc = rt.alloc();
     let wide = reach(2, 1, vec![in alloc; ADJ_LABEL; 40]?);
-    let lsp = first_of(vec![in alloc; wide]?);
+    let lsp = first_of(alloc, vec![in alloc; wide]?)?;
     assert!(rt; in_range(&lsp));
     match write_lsp(alloc, &lsp) {
         Err(WriteFault::PartTooLong { part }) => assert_eq!(rt; part, 0),
@@ -158,7 +159,7 @@ fn long(alloc: Global) -> Result<Lsp, AllocError> {
             groups: Few::new(vec![in alloc; 7; 59]?),
         }))?;
     }
-    Ok(first_of(parts))
+    first_of(alloc, parts)
 }
 
 #[test]

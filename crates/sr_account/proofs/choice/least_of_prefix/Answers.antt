@@ -6,7 +6,7 @@ use Rattle.sr_account.proofs.choice.least_of_prefix.Goals as goal
 
 pub loop-k-preserved : goal.loop-k-preserved
 loop-k-preserved c =
-    least-sid c.args.id.now c.args.at c.args.prefix.now c.loop-k.k c.as_slice-sid-items.result.now _ c.loop-k.found c.offer_at.result c.lesser_offer-found.result c.requires c.loop-k-test.true c.lesser_offer-found.ensures c.offer_at.ensures
+    least-sid c.args.id.now c.args.at c.args.prefix.now c.loop-k.k c.as_slice-sid-items.result.now _ c.loop-k.found c.index_offer.result c.lesser_offer-found.result c.requires c.loop-k-test.true c.lesser_offer-found.ensures c.index_offer.ensures
     ∙ c.loop-k.invariant
 
 pub returns : goal.returns

@@ -12,12 +12,12 @@ use Rattle.sr_account.proofs.sources.fill.Goals.{else-id-eq0-via-then-id-eq0+els
 pub fill_from-requires-clause-parts : goal.fill_from-requires-clause-parts
 fill_from-requires-clause-parts c =
     let entry : LspId × Stored = (c.in-Some.id.now, c.in-Some.stored.now) in
-    parts-counted c.args.facts.now c.requires.order entry c.in-Some-live.shared c.as_slice.result.now
+    parts-counted c.args.facts.now c.requires.order entry c.in-Some-live.shared c.lsp.result.now.parts
     (next-there c.args.facts.now c.args.net.now entry c.loop-id.id-iterator c.next.new.self c.loop-id.sources c.in-Some.ensures.steps c.loop-id.invariant)
     c.if-id-eq0.true
     (sym c.is_present.ensures ∙ c.if-is_present.true)
     c.in-Some-live.is
-    (c.as_slice.ensures ∙ ap (λ (x : Lsp). x.parts) c.lsp.ensures)
+    (ap (λ (x : Lsp). x.parts) c.lsp.ensures)
 
 pub loop-id-preserved-in-Some-live : goal.loop-id-preserved-in-Some-live
 loop-id-preserved-in-Some-live c =
@@ -27,11 +27,11 @@ loop-id-preserved-in-Some-live c =
     let old = c.loop-id.sources in
     let new = c.fill_from.new.sources in
     let there : Contains facts.database entry = next-there facts net entry c.loop-id.id-iterator c.next.new.self old c.in-Some.ensures.steps c.loop-id.invariant in
-    let parts : parts_of c.in-Some.stored.now.live ≡ c.as_slice.result.now = ap parts_of c.in-Some-live.is ∙ sym (c.as_slice.ensures ∙ ap (λ (x : Lsp). x.parts) c.lsp.ensures) in
-    let long : length (parts_of c.in-Some.stored.now.live) ≡ length c.as_slice.result.now = ap length parts in
-    let all : length (parts_of c.in-Some.stored.now.live) ≤ length c.as_slice.result.now = omega (arith, long) in
+    let parts : parts_of c.in-Some.stored.now.live ≡ c.lsp.result.now.parts = ap parts_of c.in-Some-live.is ∙ sym (ap (λ (x : Lsp). x.parts) c.lsp.ensures) in
+    let long : length (parts_of c.in-Some.stored.now.live) ≡ length c.lsp.result.now.parts = ap length parts in
+    let all : length (parts_of c.in-Some.stored.now.live) ≤ length c.lsp.result.now.parts = omega (arith, long) in
     walked-more facts net entry c.next.new.self old new c.fill_from.ensures.long c.fill_from.ensures.kept
-    (entry-filled facts net c.requires.order entry (length c.as_slice.result.now) old new there all c.fill_from.ensures)
+    (entry-filled facts net c.requires.order entry (length c.lsp.result.now.parts) old new there all c.fill_from.ensures)
     (subst (λ (left : List (LspId × Stored)). IsWalkedTo facts net left old) c.in-Some.ensures.steps c.loop-id.invariant)
 
 pub loop-id-preserved-in-None-live : goal.loop-id-preserved-in-None-live

@@ -1,6 +1,7 @@
 use Rattle.std.proofs.Common.{◌++◌, List, ℕ, ap, ◌∙◌}
 use Rattle.std.specs.Prelude.{slice_index_or}
-use Rattle.sr_print.specs.Account.{link_line, link_lines, no_source}
+use Rattle.sr_account.specs.Filling.{no_source}
+use Rattle.sr_print.specs.Account.{link_line, link_lines}
 use Rattle.sr_print.proofs.Appended.{begins-longer, on_err, two_pieces}
 use Rattle.sr_print.proofs.Members.{lines-more}
 use Rattle.sr_print.proofs.account.put_each_link.Goals as goal

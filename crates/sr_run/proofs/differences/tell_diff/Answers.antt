@@ -7,7 +7,7 @@ use Rattle.sr_print.specs.Told.Told.{Diff, Refused}
 use Rattle.sr_print.proofs.DiffWithin.{diff-within}
 use Rattle.sr_run.specs.Differences.{TellsBetween, TellsDiff}
 use Rattle.sr_run.proofs.HandlerLemmas.{puts-of, told-of}
-use Rattle.sr_run.proofs.differences.diff.Goals as goal
+use Rattle.sr_run.proofs.differences.tell_diff.Goals as goal
 
 pub returns-in-None : goal.returns-in-None
 returns-in-None g c =
