@@ -16,7 +16,7 @@ use Rattle.sr_lanes.specs.Passes.{is_tight}
 use Rattle.sr_encode.specs.Aftermath.{Aftermath, IsAftermath, AddsUp, AddUpFrom, AreInside}
 use Rattle.sr_encode.specs.Search.{StepsTo, BeginsAt}
 use Rattle.sr_encode.specs.Serve.{EndsAt}
-use Rattle.sr_post.proofs.BitLemmas.{AreSifted, sifted-over}
+use Rattle.sr_lanes.proofs.SetLemmas.{AreSifted, sifted-over}
 use Rattle.sr_encode.proofs.SearchLemmas.{row-distance}
 
 -- of these nodes, the tight ones of two rows are those at which the distances add up

@@ -13,7 +13,7 @@ use Rattle.sr_encode.specs.Aftermath.{Aftermath, IsAftermath}
 use Rattle.sr_encode.specs.Search.{IsSearching}
 use Rattle.sr_encode.specs.Serve.{EndsAt, NoneEnds, AreLeastFrom, place_at, IsServedBy, AreOffered, AreTended, IsTended, IsLater, ArePlaced, AreSearched, AreResolved}
 use Rattle.sr_post.specs.Nodes.{listed_at}
-use Rattle.sr_post.proofs.BitLemmas.{none_in}
+use Rattle.sr_lanes.proofs.SetLemmas.{none_in}
 use Rattle.sr_encode.proofs.QueueLemmas.{path-kept}
 use Rattle.sr_encode.proofs.StopLemmas.{none-sound}
 

@@ -13,7 +13,7 @@ use Rattle.sr_encode.specs.declared.waypoint.Waypoint.{Waypoint}
 use Rattle.sr_encode.specs.declared.served.Served.{Served}
 use Rattle.sr_encode.specs.Aftermath.{Aftermath}
 use Rattle.sr_encode.specs.Serve.{place_at, IsServedBy, AreOffered, AreTended, IsLater, IsTended, IsMetBy}
-use Rattle.sr_post.proofs.BitLemmas.{IsWith, with-same, with-old, with-back}
+use Rattle.sr_lanes.proofs.SetLemmas.{IsWith, with-same, with-old, with-back}
 use Rattle.sr_encode.proofs.KeptHops.{served-by_hop}
 use Rattle.sr_encode.proofs.ServeLemmas.{tended-later}
 

@@ -1,5 +1,7 @@
 -- The indices that nodes announce, as a list in order, and what is sought in it.
-use Rattle.std.specs.Prelude.{◌≡◌, ◌≢◌, ℕ, ◌-◌, ◌<◌, ◌≤◌, ◌⊎◌, List, length, Option, Some, None, slice_index_or}
+use Rattle.std.specs.Prelude.{◌≡◌, ◌≢◌, ◌↔◌, ℕ, ◌-◌, ◌<◌, ◌≤◌, ◌⊎◌, true, List, length, Option, Some, None, is_some, slice_index_or, IsTrue}
+use Rattle.sr_lanes.specs.Bits.{is_in}
+use Rattle.sr_lanes.specs.declared.words.NodeBits.{NodeBits}
 use Rattle.sr_model.specs.Label.{Labels, label_of, sizes}
 use Rattle.sr_model.specs.Rule.{node_at}
 use Rattle.sr_labels.specs.declared.indices.NodeIndex.{NodeIndex}
@@ -54,3 +56,7 @@ IsFirstWithout nodes i None = (v : ℕ) → v < length nodes → label_of (node_
 IsFirstWithout nodes i (Some v) =
     (v < length nodes) × (label_of (node_at nodes v).srgb i ≡ None)
     × ((w : ℕ) → w < v → label_of (node_at nodes w).srgb i ≢ None)
+
+-- the set has just the nodes that announce an index
+abbrev pub AreIndexed : List Labels → NodeBits → Type 0
+AreIndexed nodes set = (v : ℕ) → IsTrue (is_in set v) ↔ (is_some (node_at nodes v).index ≡ true)

@@ -1,5 +1,8 @@
 //! A net: a graph with its labels.
-ghost use Rattle.std.specs.Prelude.{◌≡◌, ◌<◌, Option};
+ghost use Rattle.std.specs.Prelude.{◌≡◌, ◌↔◌, ℕ, ◌<◌, ◌≤◌, true, length, is_some, IsTrue, Option};
+ghost use Rattle.sr_lanes.specs.Bits.{is_in};
+ghost use Rattle.sr_lanes.specs.declared.limits.TheConstants.{NODES_AT_MOST};
+ghost use Rattle.sr_labels.specs.Indices.{AreIndexed};
 ghost use Rattle.sr_model.specs.declared.name.LinkKey.{LinkKey as Key};
 ghost use Rattle.sr_model.specs.Graph.{node_count, link_count};
 ghost use Rattle.sr_model.specs.Case.{key_at};
@@ -9,8 +12,23 @@ ghost use Rattle.sr_model.specs.Rule.{IsAccepted, IsNet};
 use crate::keys::{named, place};
 use crate::node::NodeLabels;
 use sr_graph::Graph;
+use sr_lanes::NodeBits;
 use sr_model::{LinkKey, LinkNo, NodeNo, SystemId};
 use std::marker::Model;
+
+/// The nodes that announce an index.
+fn indexed(nodes: &[NodeLabels]) -> NodeBits
+    requires { length nodes.now ≤ NODES_AT_MOST }
+    ensures { AreIndexed nodes.now result }
+{
+    let mut set = NodeBits::none();
+    for v in 0..nodes.len() {
+        if nodes[v].index().is_some() {
+            set = set.with(v);
+        }
+    }
+    set
+}
 
 /// A graph with what its nodes announce, the adjacency label of each link, the keys of all two-way announcements, and how
 /// many segments a list may have where its node announces no MSD (maximum SID depth). It breaks no rule on labels.
@@ -21,11 +39,14 @@ pub struct Net {
     adj: Vec<Option<u32>>,
     announced: Vec<LinkKey>,
     depth: u8,
+    /// The nodes that announce an index, so that a search needn't ask each.
+    indexed: NodeBits,
 }
 
 impl Model for Net {
     ghost use Rattle.sr_model.specs.Label.{Net as Labelled};
     ghost use Rattle.sr_model.specs.Rule.{IsAccepted};
+    ghost use Rattle.sr_labels.specs.Indices.{AreIndexed};
 
     ghost Value = { Labelled };
 
@@ -33,7 +54,8 @@ impl Model for Net {
         record { graph = a.graph; labels = a.nodes.items; adj = a.adj.items; announced = a.announced.items; depth = a.depth } };
 
     ghost invariant = { λ a. IsAccepted
-        (record { graph = a.graph; labels = a.nodes.items; adj = a.adj.items; announced = a.announced.items; depth = a.depth }) };
+        (record { graph = a.graph; labels = a.nodes.items; adj = a.adj.items; announced = a.announced.items; depth = a.depth })
+        × AreIndexed a.nodes.items a.indexed };
 }
 
 impl Net {
@@ -64,12 +86,14 @@ impl Net {
               depth = depth;
             } }
     {
+        let indexed = indexed(&nodes);
         Net {
             graph,
             nodes,
             adj,
             announced,
             depth,
+            indexed,
         }
     }
 
@@ -91,6 +115,13 @@ impl Net {
         ensures net { IsNet self.now }
     {
         &self.nodes[node.0 as usize]
+    }
+
+    /// The nodes that announce an index.
+    pub fn indexed(&self) -> NodeBits
+        ensures { (v : ℕ) → IsTrue (is_in result v) ↔ (is_some (labels_at self.now v).index ≡ true) }
+    {
+        self.indexed
     }
 
     /// The label of the link's adjacency segment, where it has one.

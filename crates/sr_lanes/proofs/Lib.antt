@@ -5,3 +5,4 @@ pub mod RunLemmas
 pub mod WordLemmas
 pub mod SizeLemmas
 pub mod AmongLemmas
+pub mod SetLemmas

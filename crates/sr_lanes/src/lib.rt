@@ -14,5 +14,5 @@ mod words;
 pub use equal::rows_equal;
 pub use limits::{CELL_AT_MOST, NODES_AT_MOST};
 pub use marks::tight_mask;
-pub use passes::{differ, finite, tight, tight_among};
+pub use passes::{differ, finite, finite_among, tight, tight_among};
 pub use words::NodeBits;

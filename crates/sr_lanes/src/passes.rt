@@ -98,3 +98,32 @@ pub fn finite(row: &[u64]) -> NodeBits
 {
     places_of(&OneRow { row })
 }
+
+/// Those of the nodes to which the row has a distance. Each is looked at alone.
+fn finite_singly(row: &[u64], among: NodeBits) -> NodeBits
+    requires among { (v : ℕ) → is_in among v ≡ true → v < length row.now }
+    ensures { (v : ℕ) → is_in result v ≡ (is_in among v && has_distance row.now v) }
+{
+    let mut left = among;
+    let mut found = NodeBits::none();
+    'left: while let Some(node) = left.take_first() {
+        if row[node] < CELL_AT_MOST {
+            found = found.with(node);
+        }
+    }
+    found
+}
+
+/// Those of the nodes to which the row has a distance. A few nodes are looked at one by one, and for more there is a pass
+/// over the row.
+#[inline(always)]
+pub fn finite_among(row: &[u64], among: NodeBits) -> NodeBits
+    requires length { length row.now ≤ NODES_AT_MOST }
+    requires among { (v : ℕ) → is_in among v ≡ true → v < length row.now }
+    ensures { (v : ℕ) → is_in result v ≡ (is_in among v && has_distance row.now v) }
+{
+    if among.count() <= FEW {
+        return finite_singly(row, among);
+    }
+    among.and(finite(row))
+}

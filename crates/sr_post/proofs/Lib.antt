@@ -6,4 +6,3 @@ pub mod KeptHopLemmas
 pub mod SourceLemmas
 pub mod ListedLemmas
 pub mod DoubtLemmas
-pub mod BitLemmas

@@ -1,2 +1,4 @@
 pub mod SpaceLemmas
 pub mod AroundLemmas
+pub mod OverLemmas
+pub mod AwayLemmas

@@ -1,5 +1,7 @@
 -- A graph where links fail.
 use Rattle.std.specs.Prelude.{◌≡◌, ◌↔◌, ℕ, ◌<◌, Bool, true, List, Option, IfSome}
+use Rattle.sr_lanes.specs.Bits.{is_in}
+use Rattle.sr_lanes.specs.declared.words.NodeBits.{NodeBits}
 use Rattle.sr_model.specs.declared.link.NodeNo.{NodeNo}
 use Rattle.sr_model.specs.declared.link.TheConstants.{FAR}
 use Rattle.sr_model.specs.Graph.{Graph, node_count, link_count, has}
@@ -19,6 +21,13 @@ IsAround g x f = (l : ℕ) → l < link_count g → (has x l ≡ true) ↔ Touch
 pub record AreSpaces (g : Graph) (t : Forest) (x : List Bool) (around : Option NodeNo) : Type 0 where
   pub trees : AreTrees g t
   pub node : IfSome around (λ (f : NodeNo). (f.0 < node_count g) × IsAround g x f.0)
+
+-- the trees are the graph's, the row is that of node u, and u reaches each node of the set
+pub record AreReachedBy (g : Graph) (t : Forest) (cells : List ℕ) (u : ℕ) (set : NodeBits) : Type 0 where
+  pub trees : AreTrees g t
+  pub row : cells ≡ row_at t.rows u
+  pub begins : u < node_count g
+  pub each : (v : ℕ) → is_in set v ≡ true → (v < node_count g) × (cell_at t u v < FAR)
 
 -- the trees are the graph's, the row is that of node u, and u reaches node v
 pub record IsReached (g : Graph) (t : Forest) (cells : List ℕ) (u v : ℕ) : Type 0 where

@@ -2,6 +2,7 @@
 //! (extended P), and the nodes from which none does (Q).
 #![tactic(auto)]
 
+mod among;
 mod extended;
 mod node_set;
 mod p_space;

@@ -1,19 +1,25 @@
 //! The spaces of one set of failed links.
-ghost use Rattle.std.specs.Prelude.{◌≡◌, ◌<◌, ◌↔◌, [], IsTrue};
+ghost use Rattle.std.specs.Prelude.{◌≡◌, ℕ, ◌<◌, ◌↔◌, [], true, IsTrue};
+ghost use Rattle.sr_lanes.specs.Bits.{is_in};
 ghost use Rattle.sr_model.specs.Graph.{node_count};
 ghost use Rattle.sr_model.specs.Walk.{IsRow};
 ghost use Rattle.sr_model.specs.Space.{InP};
 ghost use Rattle.sr_spf.specs.Trees.{AreTrees};
 ghost use Rattle.sr_spaces.specs.Failure.{IsAround};
 
+use crate::among::{avoid_links, through_node};
 use crate::space::{avoids_links, reaches};
 use sr_graph::{Graph, LinkSet};
+use sr_lanes::{NodeBits, finite_among};
 use sr_model::{FAR, NodeNo};
 use sr_spf::Trees;
 use std::marker::Model;
 
-/// P of every node of a graph where these links fail, asked of one pair of nodes at a time. Contracts see the graph and
-/// the failed links.
+/// Of a set of at most this many nodes each is asked alone (this project's rule: that costs less than passes over rows).
+const FEW: usize = 4;
+
+/// P of every node of a graph where these links fail, asked of one node or of several at once. Contracts see the graph
+/// and the failed links.
 #[derive(Drop)]
 pub struct Spaces<'a> {
     graph: &'a Graph,
@@ -108,5 +114,45 @@ impl<'a> Spaces<'a> {
             return true;
         }
         !reaches(self.graph, self.trees, row, u, v, node)
+    }
+
+    /// Those of the nodes that are in P of u. Each is asked alone.
+    fn p_singly(&self, u: NodeNo, among: NodeBits) -> NodeBits
+        requires u { u.0 < node_count self.now.graph }
+        requires among { (v : ℕ) → is_in among v ≡ true → v < node_count self.now.graph }
+        ensures { (v : ℕ) → IsTrue (is_in result v)
+            ↔ ((is_in among v ≡ true) × InP self.now.graph self.now.failed u.0 v) }
+    {
+        let mut left = among;
+        let mut found = NodeBits::none();
+        'left: while let Some(node) = left.take_first() {
+            if self.in_p(u, NodeNo(node as u16)) {
+                found = found.with(node);
+            }
+        }
+        found
+    }
+
+    /// Those of the nodes that are in P of u.
+    pub fn p_among(&self, u: NodeNo, among: NodeBits) -> NodeBits
+        requires u { u.0 < node_count self.now.graph }
+        requires among { (v : ℕ) → is_in among v ≡ true → v < node_count self.now.graph }
+        ensures { (v : ℕ) → IsTrue (is_in result v)
+            ↔ ((is_in among v ≡ true) × InP self.now.graph self.now.failed u.0 v) }
+    {
+        if among.count() <= FEW {
+            return self.p_singly(u, among);
+        }
+        let row = self.trees.cells(u);
+        let reached = finite_among(row, among);
+        let Some(node) = self.around else {
+            return avoid_links(self.graph, self.trees, row, u, self.failed, reached);
+        };
+        let away = reached.and_not(through_node(self.graph, self.trees, row, u, node, reached));
+        // No shortest walk from a node to itself has a link, also where the node is the failed one.
+        if reached.has(u.0 as usize) {
+            return away.with(u.0 as usize);
+        }
+        away
     }
 }

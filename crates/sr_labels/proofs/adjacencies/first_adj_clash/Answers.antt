@@ -1,4 +1,4 @@
-use Rattle.std.proofs.Common.{◌≡◌, List, length, subst}
+use Rattle.std.proofs.Common.{List, length, subst}
 use Rattle.std.specs.List.Sorted.{IsPermutation}
 use Rattle.sr_model.specs.declared.label.AdjLabel.{AdjLabel}
 use Rattle.sr_labels.proofs.Clashes.{nodes-moved, found-moved}

@@ -1,6 +1,6 @@
 use Rattle.sr_model.specs.Case.{IsAffected}
 use Rattle.sr_lanes.specs.Bits.{member_count}
-use Rattle.sr_post.proofs.BitLemmas.{AreSifted}
+use Rattle.sr_lanes.proofs.SetLemmas.{AreSifted}
 use Rattle.sr_post.proofs.destinations.affected_set.Given as goal
 
 abbrev pub invariant-left : goal.invariant-left

@@ -1,6 +1,6 @@
 use Rattle.sr_encode.specs.Serve.{EndsAt}
 use Rattle.sr_lanes.proofs.SizeLemmas.{size-less}
-use Rattle.sr_post.proofs.BitLemmas.{sifted-start}
+use Rattle.sr_lanes.proofs.SetLemmas.{sifted-start}
 use Rattle.sr_encode.proofs.SceneLemmas.{picked, ends-sum}
 use Rattle.sr_encode.proofs.scene.Scene.ends.Goals as goal
 

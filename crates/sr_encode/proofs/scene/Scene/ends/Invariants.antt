@@ -1,6 +1,6 @@
 use Rattle.sr_encode.specs.Serve.{EndsAt}
 use Rattle.sr_lanes.specs.Bits.{member_count}
-use Rattle.sr_post.proofs.BitLemmas.{AreSifted}
+use Rattle.sr_lanes.proofs.SetLemmas.{AreSifted}
 use Rattle.sr_encode.proofs.SceneLemmas.{ArePicked}
 use Rattle.sr_encode.proofs.scene.Scene.ends.Given as goal
 

@@ -1,7 +1,7 @@
 use Rattle.sr_model.specs.declared.repair.Segment.TheVariants.{Node}
 use Rattle.sr_encode.specs.Search.{StepsTo}
 use Rattle.sr_lanes.proofs.SizeLemmas.{size-less}
-use Rattle.sr_post.proofs.BitLemmas.{sifted-start}
+use Rattle.sr_lanes.proofs.SetLemmas.{sifted-start}
 use Rattle.sr_encode.proofs.SceneLemmas.{picked, step-sum}
 use Rattle.sr_encode.proofs.scene.Scene.steps.Goals as goal
 

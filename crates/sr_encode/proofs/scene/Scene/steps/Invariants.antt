@@ -1,7 +1,7 @@
 use Rattle.sr_model.specs.declared.repair.Segment.TheVariants.{Node}
 use Rattle.sr_encode.specs.Search.{StepsTo}
 use Rattle.sr_lanes.specs.Bits.{member_count}
-use Rattle.sr_post.proofs.BitLemmas.{AreSifted}
+use Rattle.sr_lanes.proofs.SetLemmas.{AreSifted}
 use Rattle.sr_encode.proofs.SceneLemmas.{ArePicked}
 use Rattle.sr_encode.proofs.scene.Scene.steps.Given as goal
 

@@ -1,4 +1,4 @@
--- What sets of nodes have as nodes are put in and taken out.
+-- Sets of nodes as nodes are put in and taken out one by one.
 use Rattle.std.proofs.Common.{◌≡◌, ℕ, ◌⊎◌, ⊎_elim, inl, inr, true, false, ◌||◌, ◌==◌, refl, sym, ◌∙◌, subst}
 use Rattle.std.proofs.lemmas.Bool.{eq-eqb, eqb-true, cases_eq, or_cases, or_left, or_right, true≢false}
 use Rattle.sr_lanes.specs.declared.words.NodeBits.{NodeBits}
