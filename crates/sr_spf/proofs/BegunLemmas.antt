@@ -15,15 +15,15 @@ use Rattle.sr_model.specs.declared.link.TheConstants.{FAR}
 use Rattle.sr_model.specs.Walk.{IsWalk, cost}
 use Rattle.sr_walks.proofs.Walks.{IsWalk-push, cost-append, carries-cases}
 use Rattle.sr_spf.specs.Relax.{falls, relaxed, IsTentative, near_count}
-use Rattle.sr_spf.specs.Queue.{entry, IsQueued}
+use Rattle.sr_spf.specs.Queue.{entry, IsNodeEntry, IsQueued}
 use Rattle.sr_spf.specs.Begun.{IsBegun, StandsFrom, IsSettledBefore, IsEntered, IsLeastWay}
 use Rattle.sr_graph.specs.Members.{number_at}
 use Rattle.sr_graph.specs.Ranges.{EndAt}
 use Rattle.sr_spf.proofs.RelaxLemmas.{relaxed-IsTentative}
 
--- the entries of the queue: distances with their nodes
+-- the entries of the queue
 abbrev Entries : Type 0
-Entries = List (Reverse (ℕ × ℕ))
+Entries = List (Reverse ℕ)
 
 -- one if the number is below b
 abbrev one_below : ℕ → ℕ → ℕ
@@ -91,7 +91,7 @@ begun-IsTentative g x s cells lost t = record {
 pub entered-start : (g : Graph) (x : List Bool) (s : ℕ) (cells : List ℕ) (entries : Entries) (lost : List NodeNo) → IsBegun g x s cells lost → entries ≡ [] → IsEntered g x s cells entries lost 0
 entered-start g x s cells entries lost t none = record {
   kept = begun-IsTentative g x s cells lost t;
-  inside = rw none (All-nil (λ e. e.0.1 < node_count g));
+  inside = rw none (All-nil (IsNodeEntry g));
   waits = λ v inside near. inr (λ l within outside carry begins.
       let k : IsLink g (link_at g l) = t.graph.each l within in
       ⊎_elim
@@ -146,7 +146,7 @@ module _ (g : Graph) (x : List Bool) (s : ℕ) (cells a : List ℕ) (entries ent
   no_higher : (v : ℕ) → get_or a v 0 ≤ get_or cells v 0
   no_higher v = ⊎_elim (λ e. rw e (omega arith)) (λ ne. omega (arith, others v ne)) (cases_eq v w)
 
-  still_in : (e : Reverse (ℕ × ℕ)) → Contains entries e → Contains entries' e
+  still_in : (e : Reverse ℕ) → Contains entries e → Contains entries' e
   still_in e h = Contains-permutation _ entries' e perm (Contains-append_right (entry c w ∷ []) entries e h)
 
   new_in : Contains entries' (entry c w)
@@ -166,7 +166,7 @@ module _ (g : Graph) (x : List Bool) (s : ℕ) (cells a : List ℕ) (entries ent
   entered-lower : IsEntered g x s a entries' lost (i + 1)
   entered-lower = record {
     kept = kept;
-    inside = All-permutation (λ e. e.0.1 < node_count g) _ entries' perm (All-cons (λ e. e.0.1 < node_count g) (entry c w) entries node t.inside);
+    inside = All-permutation (IsNodeEntry g) _ entries' perm (All-cons (IsNodeEntry g) (entry c w) entries (c, w, node, refl) t.inside);
     waits = λ v inside near. ⊎_elim
         (λ (e : v ≡ w). inl (rw e (rw low new_in)))
         (λ apart. let same : get_or a v 0 ≡ get_or cells v 0 = others v apart in

@@ -1,6 +1,6 @@
 -- The nodes towards which links are next hops, told by sums of cells, and their sets as they are listed.
 use Rattle.std.proofs.Common.{◌≡◌, ℕ, ◌+◌, ◌<◌, ◌≤◌, ⊎_elim, true, ◌==◌, List, [], ◌∷◌, ◌++◌, length, refl, arith, sym, ◌∙◌, subst}
-use Rattle.std.specs.Prelude.{slice_index, nat_lt}
+use Rattle.std.specs.Prelude.{◌↔◌, IsTrue, Some, slice_get, slice_index, nat_lt}
 use Rattle.std.proofs.lemmas.Bool.{cases_lt, and_parts, and_from, lt-ltb, ltb-true, eqb-true, eq-eqb}
 use Rattle.std.proofs.lemmas.List.{length_push, get_or_past}
 use Rattle.sr_lanes.specs.Bits.{is_in}
@@ -8,7 +8,7 @@ use Rattle.sr_lanes.specs.Passes.{AreCells, is_tight, has_distance}
 use Rattle.sr_lanes.specs.declared.words.NodeBits.{NodeBits}
 use Rattle.sr_model.specs.declared.link.TheConstants.{FAR}
 use Rattle.sr_model.specs.Graph.{Graph, node_count, link_count, tail, head, metric, carries, link_at, IsGraph, IsLink}
-use Rattle.sr_model.specs.Walk.{IsRow}
+use Rattle.sr_model.specs.Walk.{IsNextHop, IsRow}
 use Rattle.sr_walks.proofs.Walks.{walk-within}
 use Rattle.sr_spf.specs.Carried.{IsCarried, AreCarried}
 use Rattle.sr_spf.specs.Trees.{AreRows, row_at}
@@ -73,3 +73,7 @@ carried-more g sets n set h is = record {
       subst (λ k. IsCarried g k other) (sym same) (subst (λ s. IsCarried g n s) o.1 is))
       (get_push sets set l other e);
 }
+
+-- what the set of a link tells of a node
+pub carried-at : (g : Graph) (sets : List NodeBits) (l v : ℕ) (set : NodeBits) → AreCarried g sets (link_count g) → slice_get sets l ≡ Some set → IsTrue (is_in set v) ↔ IsNextHop g [] (tail g l) v l
+carried-at g sets l v set are at = (are.each l set at).each v

@@ -19,10 +19,6 @@ cell_in rows u v = slice_index (row_at rows u) v
 pub is_cell : (g : Graph) (rows : List (List ℕ)) (u v : ℕ) → AreRows g rows (node_count g) → u < node_count g → v < node_count g → IsCell g [] u v (cell_in rows u v)
 is_cell g rows u v r a b = (r.each u a).each v b
 
--- a cell that is read is the cell of its row
-pub cell_read : (rows : List (List ℕ)) (u v : ℕ) (row cells : List ℕ) → row ≡ row_at rows u → cells ≡ row → slice_index cells v ≡ cell_in rows u v
-cell_read rows u v row cells at is = ap (λ k. slice_index k v) (is ∙ at)
-
 -- a link whose metric and the cell of its end add up to the cell is a next hop
 pub hop-from_test : (g : Graph) (rows : List (List ℕ)) (u v l : ℕ) → IsGraph g → AreRows g rows (node_count g) → v < node_count g → l < link_count g → tail g l ≡ u → cell_in rows u v < FAR → carries g v (head g l) ≡ true → metric g l + cell_in rows (head g l) v ≡ cell_in rows u v → IsNextHop g [] u v l
 hop-from_test g rows u v l graph r b within begins near to sum =

@@ -5,7 +5,7 @@ use Rattle.sr_model.specs.declared.link.NodeNo.{NodeNo}
 use Rattle.sr_model.specs.declared.link.TheConstants.{FAR}
 use Rattle.sr_model.specs.Graph.{Graph, node_count, link_count, tail, head, metric, has, carries, IsGraph}
 use Rattle.sr_spf.specs.Relax.{IsTentative}
-use Rattle.sr_spf.specs.Queue.{entry}
+use Rattle.sr_spf.specs.Queue.{entry, IsNodeEntry}
 
 -- v is s, or a link outside x that a walk from s may take leads along the cells to v
 abbrev pub HasWay : Graph → List Bool → ℕ → List ℕ → ℕ → Type 0
@@ -43,10 +43,10 @@ IsSettledBefore g x s cells lost i v =
 
 -- the lost nodes before place i were entered: each node that has a walk waits with its cell, or is settled but for
 -- the others
-pub record IsEntered (g : Graph) (x : List Bool) (s : ℕ) (cells : List ℕ) (entries : List (Reverse (ℕ × ℕ)))
+pub record IsEntered (g : Graph) (x : List Bool) (s : ℕ) (cells : List ℕ) (entries : List (Reverse ℕ))
     (lost : List NodeNo) (i : ℕ) : Type 0 where
   pub kept : IsTentative g x s cells
-  pub inside : All (λ e. e.0.1 < node_count g) entries
+  pub inside : All (IsNodeEntry g) entries
   pub waits : (v : ℕ) → v < node_count g → slice_index cells v < FAR
       → Contains entries (entry (slice_index cells v) v) ⊎ IsSettledBefore g x s cells lost i v
 

@@ -7,13 +7,12 @@ ghost use Rattle.sr_spf.specs.Relax.{IsTentative};
 ghost use Rattle.sr_spf.specs.Queue.{IsQueued};
 ghost use Rattle.sr_spf.specs.Begun.{IsBegun, IsLeastWay};
 
-use crate::dijkstra::{Queue, settle};
+use crate::dijkstra::{Queue, entry, settle};
 use crate::steps::Steps;
 use sr_graph::{Graph, LinkSet};
 use sr_model::NodeNo;
 use sr_seq::Seq;
 use std::alloc::{AllocError, Global};
-use std::cmp::Reverse;
 use std::collections::BinaryHeap;
 use std::sync::ledger::Ledger;
 
@@ -53,7 +52,7 @@ fn enter(
         let cell = least_way(graph, without, source, *node, cells);
         if cell < cells[node.0 as usize] {
             cells[node.0 as usize] = cell;
-            queue.push(Reverse((cell as u32, node.0)))?;
+            queue.push(entry(cell, *node))?;
         }
     }
     Ok(())

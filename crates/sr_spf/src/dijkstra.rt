@@ -3,8 +3,8 @@ ghost use Rattle.std.specs.Prelude.{◌≡◌, [], ◌+◌, ◌*◌, ◌<◌, �
 ghost use Rattle.std.specs.BinaryHeap.{heap_items, heap_len};
 ghost use Rattle.sr_model.specs.Graph.{node_count, link_count};
 ghost use Rattle.sr_model.specs.Walk.{IsRow};
-ghost use Rattle.sr_spf.specs.Relax.{relaxed, falls};
-ghost use Rattle.sr_spf.specs.Queue.{IsQueued};
+ghost use Rattle.sr_spf.specs.Relax.{falls};
+ghost use Rattle.sr_spf.specs.Queue.{entry, IsQueued};
 
 use crate::steps::Steps;
 use sr_graph::{Edge, Graph, LinkRange, LinkSet};
@@ -15,29 +15,34 @@ use std::cmp::Reverse;
 use std::collections::BinaryHeap;
 use std::sync::ledger::Ledger;
 
-/// A node whose distance fell, with that distance. The least distance comes first. A distance fits 32 bits: it has at most
-/// 255 links of at most 16777214 each.
-type QueueEntry = Reverse<(u32, u16)>;
+/// How many numbers a node of an entry may have.
+const NUMBERS: u64 = 1 << 16;
+
+/// A node whose distance fell, with that distance. The least distance comes first. Both stand in one number, so that one
+/// comparison orders two entries: searches compare more than they do all else.
+type QueueEntry = Reverse<u64>;
 
 /// The nodes that wait to be visited.
 pub(crate) type Queue = BinaryHeap<QueueEntry>;
 
-/// Lowers the cell of the link's end where the way over this link, which begins at the node, is shorter.
-fn relax(node: NodeNo, edge: Edge, cells: &mut [u64]) -> bool
-    requires from { node.0 < length cells.old }
-    requires to { edge.to.0 < length cells.old }
-    requires fits { slice_index cells.old node.0 + edge.metric < 2 ^ 64 }
-    ensures cells { cells.new ≡ relaxed node.0 edge.to.0 edge.metric cells.old }
-    ensures fell { result ≡ falls node.0 edge.to.0 edge.metric cells.old }
+/// The entry of a node with this distance. A distance fits 32 bits: it has at most 255 links of at most 16777214 each.
+#[inline(always)]
+pub(crate) fn entry(cell: u64, node: NodeNo) -> QueueEntry
+    requires { cell < 2 ^ 32 }
+    ensures { result ≡ entry cell node.0 }
 {
-    let over = cells[node.0 as usize] + edge.metric as u64;
-    let to = edge.to.0 as usize;
-    if over < cells[to] {
-        cells[to] = over;
-        true
-    } else {
-        false
-    }
+    Reverse(cell * NUMBERS + node.0 as u64)
+}
+
+/// Whether the way over the link, which begins at the node, is shorter than what the cell of its end says.
+#[inline(always)]
+fn falls(node: NodeNo, edge: Edge, cells: &[u64]) -> bool
+    requires from { node.0 < length cells.now }
+    requires to { edge.to.0 < length cells.now }
+    requires fits { slice_index cells.now node.0 + edge.metric < 2 ^ 64 }
+    ensures { result ≡ falls node.0 edge.to.0 edge.metric cells.now }
+{
+    cells[node.0 as usize] + (edge.metric as u64) < cells[edge.to.0 as usize]
 }
 
 /// Relaxes the links of the node, where a walk from the source may take them, and queues each node whose cell falls.
@@ -61,8 +66,11 @@ fn visit(
     let LinkRange { first, end } = graph.links_from(node);
     for i in first..end {
         let edge = graph.edge(LinkNo(i));
-        if !without.has(LinkNo(i)) && relax(node, edge, cells) {
-            queue.push(Reverse((cells[edge.to.0 as usize] as u32, edge.to.0)))?;
+        // Most links lower nothing.
+        if falls(node, edge, cells) && !without.has(LinkNo(i)) {
+            let over = cells[node.0 as usize] + edge.metric as u64;
+            cells[edge.to.0 as usize] = over;
+            queue.push(entry(over, edge.to))?;
         }
     }
     Ok(())
@@ -81,8 +89,9 @@ pub(crate) fn settle(
     ensures row { OnOk result (IsRow graph.now without.now source.0 cells.new) }
     ensures empty { OnOk result (heap_items queue.new ≡ []) }
 {
-    'pops: while let Some(Reverse((cell, node))) = queue.pop() {
-        if cell as u64 == cells[node as usize] {
+    'pops: while let Some(Reverse(waiting)) = queue.pop() {
+        let node = (waiting % NUMBERS) as u16;
+        if waiting / NUMBERS == cells[node as usize] {
             visit(graph, without, source, NodeNo(node), cells, queue)?;
         }
     }
@@ -107,7 +116,7 @@ pub fn row<L: Ledger>(
     let mut cells = vec![in alloc; FAR; count]?;
     let mut queue = BinaryHeap::with_capacity(alloc, count)?;
     cells[source.0 as usize] = 0;
-    queue.push(Reverse((0, source.0)))?;
+    queue.push(entry(0, source))?;
     settle(graph, without, source, &mut cells, &mut queue)?;
     Ok(Seq::new(cells))
 }

@@ -1,16 +1,13 @@
 //! The next hops from one node.
-ghost use Rattle.std.specs.Prelude.{◌≡◌, ◌+◌, ◌<◌, ◌≤◌, ◌↔◌, [], length, slice_index, IsTrue, IfOk, OnOk};
-ghost use Rattle.sr_model.specs.Graph.{node_count, link_count, tail};
-ghost use Rattle.sr_model.specs.Walk.{IsNextHop};
-ghost use Rattle.sr_model.specs.declared.link.TheConstants.{FAR as Far};
+ghost use Rattle.std.specs.Prelude.{◌≡◌, ◌+◌, ◌<◌, ◌≤◌, length, IfOk, OnOk};
+ghost use Rattle.sr_model.specs.Graph.{node_count, link_count};
+ghost use Rattle.sr_spf.specs.Carried.{AreCarried};
 ghost use Rattle.sr_spf.specs.Hops.{hops_to, AddsNextHops, AreHopsFrom, IsCut};
-ghost use Rattle.sr_spf.specs.Trees.{AreRows, row_at};
 ghost use Rattle.sr_spf.specs.Renewed.{moved_link, moved_links, moved_table};
 
-use crate::shared::Shared;
 use sr_graph::{Graph, LinkRange};
-use sr_model::{FAR, LinkNo, NodeNo};
-use sr_seq::Seq;
+use sr_lanes::NodeBits;
+use sr_model::{LinkNo, NodeNo};
 use std::alloc::{AllocError, Global};
 use std::marker::Model;
 
@@ -95,58 +92,38 @@ impl HopTable {
     }
 }
 
-/// Whether the link begins a shortest walk to the node. `whole` is the distance to the node from where the link begins:
-/// there is a walk.
-fn is_next_hop(graph: &Graph, rows: &Shared<Seq<u64>>, link: LinkNo, to: NodeNo, whole: u64) -> bool
-    requires rows { AreRows graph.now rows.now (node_count graph.now) }
-    requires link { link.0 < link_count graph.now }
-    requires to { to.0 < node_count graph.now }
-    requires whole { (whole ≡ slice_index (row_at rows.now (tail graph.now link.0)) to.0) × (whole < Far) }
-    ensures { IsTrue result ↔ IsNextHop graph.now [] (tail graph.now link.0) to.0 link.0 }
-{
-    let edge = graph.edge(link);
-    let rest = rows.get(edge.to.0 as usize).as_slice()[to.0 as usize];
-    if edge.metric as u64 + rest != whole {
-        return false;
-    }
-    graph.carries(to, edge.to)
-}
-
-/// Adds the next hops from one node to another, ascending.
+/// Adds the next hops from one node to another, ascending. `carried` has the nodes towards which each link is a next hop.
 fn push_hops(
     graph: &Graph,
-    rows: &Shared<Seq<u64>>,
+    carried: &[NodeBits],
     from: NodeNo,
     to: NodeNo,
     links: &mut Vec<LinkNo>,
 ) -> Result<(), AllocError>
-    requires rows { AreRows graph.now rows.now (node_count graph.now) }
+    requires carried { AreCarried graph.now carried.now (link_count graph.now) }
     requires from { from.0 < node_count graph.now }
     requires to { to.0 < node_count graph.now }
     ensures hops { OnOk result (AddsNextHops graph.now from.0 to.0 links.old.items links.new.items) }
     ensures few { OnOk result (length links.new.items ≤ length links.old.items + link_count graph.now) }
 {
+    let _count = graph.node_count();
     let LinkRange { first, end } = graph.links_from(from);
-    let whole = rows.get(from.0 as usize).as_slice()[to.0 as usize];
-    if whole >= FAR {
-        return Ok(());
-    }
     for link in first..end {
-        if is_next_hop(graph, rows, LinkNo(link), to, whole) {
+        if carried[link as usize].has(to.0 as usize) {
             links.push(LinkNo(link))?;
         }
     }
     Ok(())
 }
 
-/// The next hops from the node to each node.
+/// The next hops from the node to each node. `carried` has the nodes towards which each link is a next hop.
 pub(crate) fn hops_of(
     alloc: Global,
     graph: &Graph,
-    rows: &Shared<Seq<u64>>,
+    carried: &[NodeBits],
     node: NodeNo,
 ) -> Result<HopTable, AllocError>
-    requires rows { AreRows graph.now rows.now (node_count graph.now) }
+    requires carried { AreCarried graph.now carried.now (link_count graph.now) }
     requires node { node.0 < node_count graph.now }
     ensures { IfOk result (AreHopsFrom graph.now node.0) }
 {
@@ -155,7 +132,7 @@ pub(crate) fn hops_of(
     let mut links = Vec::new(alloc);
     starts.push(0)?;
     for to in 0..count {
-        push_hops(graph, rows, node, NodeNo(to as u16), &mut links)?;
+        push_hops(graph, carried, node, NodeNo(to as u16), &mut links)?;
         starts.push(links.len() as u32)?;
     }
     Ok(HopTable::new(starts, links))

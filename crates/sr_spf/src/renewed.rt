@@ -1,6 +1,7 @@
 //! The rows and the next hops of a new graph, of which those of some nodes stay.
 ghost use Rattle.std.specs.Prelude.{◌≡◌, ◌+◌, ◌<◌, ◌≤◌, ◌∷◌, [], length, IsTrue, IfOk, OnOk};
-ghost use Rattle.sr_model.specs.Graph.{node_count};
+ghost use Rattle.sr_model.specs.Graph.{node_count, link_count};
+ghost use Rattle.sr_spf.specs.Carried.{AreCarried};
 ghost use Rattle.sr_spf.specs.Hops.{AreHopsFrom};
 ghost use Rattle.sr_spf.specs.Trees.{AreRows, AreHopTables};
 ghost use Rattle.sr_spf.specs.Renewed.{fallen, searches, rows_found, moved_link, moved_links, moved_table, row_found, AreInPlace, AreStayingRows, AreStayingTables, IsFoundRow, AreFoundRows, IsFoundTable};
@@ -11,6 +12,7 @@ use crate::shared::Shared;
 use crate::steps::Steps;
 use crate::trees::NODES;
 use sr_graph::{Graph, LinkSet};
+use sr_lanes::NodeBits;
 use sr_model::{LinkNo, NodeNo};
 use sr_seq::Seq;
 use sr_threads::made_of_each;
@@ -133,11 +135,11 @@ pub fn are_in_place(links: &[Option<LinkNo>]) -> bool
 fn found_table(
     alloc: Global,
     graph: &Graph,
-    rows: &Shared<Seq<u64>>,
+    carried: &[NodeBits],
     stays: &[bool],
     node: NodeNo,
 ) -> Result<Option<HopTable>, AllocError>
-    requires rows { AreRows graph.now rows.now (node_count graph.now) }
+    requires carried { AreCarried graph.now carried.now (link_count graph.now) }
     requires marks { length stays.now ≡ node_count graph.now }
     requires node { node.0 < node_count graph.now }
     ensures { IfOk result (IsFoundTable graph.now stays.now node.0) }
@@ -145,7 +147,7 @@ fn found_table(
     if stays[node.0 as usize] {
         return Ok(None);
     }
-    let table = hops_of(alloc, graph, rows, node)?;
+    let table = hops_of(alloc, graph, carried, node)?;
     Ok(Some(table))
 }
 
@@ -154,20 +156,23 @@ pub(crate) fn kept_tables(
     rt: &(impl Threads + Sync),
     alloc: Global,
     graph: &Graph,
-    rows: &Shared<Seq<u64>>,
+    carried: &[NodeBits],
     old: &Shared<HopTable>,
     stays: &[bool],
 ) -> Result<Shared<HopTable>, AllocError>
-    requires rows { AreRows graph.now rows.now (node_count graph.now) }
+    requires carried { AreCarried graph.now carried.now (link_count graph.now) }
     requires old { AreStayingTables graph.now old.now stays.now (λ t. t) }
     ensures { IfOk result (λ hops. AreHopTables graph.now hops (node_count graph.now)) }
 {
     let found = |node: u32| -> Result<Option<HopTable>, AllocError>
-        requires rows { AreRows graph.now rows.now (node_count graph.now) }
+        requires carried { AreCarried graph.now carried.now (link_count graph.now) }
         requires marks { length stays.now ≡ node_count graph.now }
         requires node { node < node_count graph.now }
         ensures { IfOk result (IsFoundTable graph.entry.now stays.entry.now node) }
-    { found_table(alloc, graph, rows, stays, NodeNo(node as u16)) };
+    {
+        let _count = graph.node_count();
+        found_table(alloc, graph, carried, stays, NodeNo(node as u16))
+    };
     let tables = made_of_each(rt, alloc, graph.node_count(), NODES, &found)?;
     Shared::renewed(alloc, old, tables)
 }
@@ -176,13 +181,13 @@ pub(crate) fn kept_tables(
 fn moved_or_found(
     alloc: Global,
     graph: &Graph,
-    rows: &Shared<Seq<u64>>,
+    carried: &[NodeBits],
     old: &Shared<HopTable>,
     stays: &[bool],
     links: &[Option<LinkNo>],
     node: NodeNo,
 ) -> Result<HopTable, AllocError>
-    requires rows { AreRows graph.now rows.now (node_count graph.now) }
+    requires carried { AreCarried graph.now carried.now (link_count graph.now) }
     requires old { AreStayingTables graph.now old.now stays.now (moved_table links.now) }
     requires node { node.0 < node_count graph.now }
     ensures { IfOk result (AreHopsFrom graph.now node.0) }
@@ -190,7 +195,7 @@ fn moved_or_found(
     if stays[node.0 as usize] {
         return old.get(node.0 as usize).moved(alloc, links);
     }
-    hops_of(alloc, graph, rows, node)
+    hops_of(alloc, graph, carried, node)
 }
 
 /// The next hops from each node: those that stay are copied with the new numbers of the links. The nodes are split among
@@ -199,21 +204,32 @@ pub(crate) fn moved_tables(
     rt: &(impl Threads + Sync),
     alloc: Global,
     graph: &Graph,
-    rows: &Shared<Seq<u64>>,
+    carried: &[NodeBits],
     old: &Shared<HopTable>,
     stays: &[bool],
     links: &[Option<LinkNo>],
 ) -> Result<Shared<HopTable>, AllocError>
-    requires rows { AreRows graph.now rows.now (node_count graph.now) }
+    requires carried { AreCarried graph.now carried.now (link_count graph.now) }
     requires old { AreStayingTables graph.now old.now stays.now (moved_table links.now) }
     ensures { IfOk result (λ hops. AreHopTables graph.now hops (node_count graph.now)) }
 {
     let moved = |node: u32| -> Result<HopTable, AllocError>
-        requires rows { AreRows graph.now rows.now (node_count graph.now) }
+        requires carried { AreCarried graph.now carried.now (link_count graph.now) }
         requires old { AreStayingTables graph.now old.now stays.now (moved_table links.now) }
         requires node { node < node_count graph.now }
         ensures { IfOk result (AreHopsFrom graph.entry.now node) }
-    { moved_or_found(alloc, graph, rows, old, stays, links, NodeNo(node as u16)) };
+    {
+        let _count = graph.node_count();
+        moved_or_found(
+            alloc,
+            graph,
+            carried,
+            old,
+            stays,
+            links,
+            NodeNo(node as u16),
+        )
+    };
     let tables = made_of_each(rt, alloc, graph.node_count(), NODES, &moved)?;
     Shared::of(alloc, tables)
 }

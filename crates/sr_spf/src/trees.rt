@@ -1,11 +1,11 @@
 //! Distances and next hops from each node in the whole graph.
 ghost use Rattle.std.specs.Prelude.{◌≡◌, ◌+◌, ◌<◌, ◌≤◌, [], length, Some, slice_get, IfOk, OnOk};
-ghost use Rattle.sr_model.specs.Graph.{Graph as Topology, node_count};
+ghost use Rattle.sr_model.specs.Graph.{Graph as Topology, node_count, link_count};
 ghost use Rattle.sr_model.specs.Walk.{Distance};
 ghost use Rattle.sr_model.specs.declared.link.TheConstants.{MOST_NODES as MostNodes};
-ghost use Rattle.sr_spf.specs.Carried.{IsCarried};
+ghost use Rattle.sr_spf.specs.Carried.{IsCarried, AreCarried};
 ghost use Rattle.sr_spf.specs.Hops.{AreNextHops, AreHopsFrom};
-ghost use Rattle.sr_spf.specs.Trees.{AreTrees, AreRows, AreHopTables, row_at, cell_at, hops_at, lists_at, tree_count, distance_of};
+ghost use Rattle.sr_spf.specs.Trees.{AreTrees, AreHopTables, row_at, cell_at, hops_at, lists_at, tree_count, distance_of};
 ghost use Rattle.sr_spf.specs.Renewed.{AreRenewable, fallen};
 
 use crate::carried::carried_of_all;
@@ -55,16 +55,19 @@ fn hops_of_all(
     rt: &(impl Threads + Sync),
     alloc: Global,
     graph: &Graph,
-    rows: &Shared<Seq<u64>>,
+    carried: &[NodeBits],
 ) -> Result<Shared<HopTable>, AllocError>
-    requires { AreRows graph.now rows.now (node_count graph.now) }
+    requires { AreCarried graph.now carried.now (link_count graph.now) }
     ensures { IfOk result (λ hops. AreHopTables graph.now hops (node_count graph.now)) }
 {
     let hops = |node: u32| -> Result<HopTable, AllocError>
-        requires rows { AreRows graph.now rows.now (node_count graph.now) }
+        requires carried { AreCarried graph.now carried.now (link_count graph.now) }
         requires node { node < node_count graph.now }
         ensures { IfOk result (AreHopsFrom graph.entry.now node) }
-    { hops_of(alloc, graph, rows, NodeNo(node as u16)) };
+    {
+        let _count = graph.node_count();
+        hops_of(alloc, graph, carried, NodeNo(node as u16))
+    };
     let tables = made_of_each(rt, alloc, graph.node_count(), NODES, &hops)?;
     Shared::of(alloc, tables)
 }
@@ -84,8 +87,8 @@ impl Trees {
         ensures least { steps.old ≤ steps.new }
     {
         let rows = rows_of(rt, alloc, graph, steps)?;
-        let hops = hops_of_all(rt, alloc, graph, &rows)?;
         let carried = carried_of_all(alloc, graph, &rows)?;
+        let hops = hops_of_all(rt, alloc, graph, &carried)?;
         Ok(Trees {
             rows,
             hops,
@@ -112,12 +115,12 @@ impl Trees {
         ensures least { steps.old ≤ steps.new }
     {
         let rows = renewed_rows(rt, alloc, graph, stays, &self.rows, steps)?;
-        let hops = if are_in_place(links) {
-            kept_tables(rt, alloc, graph, &rows, &self.hops, stays)?
-        } else {
-            moved_tables(rt, alloc, graph, &rows, &self.hops, stays, links)?
-        };
         let carried = carried_of_all(alloc, graph, &rows)?;
+        let hops = if are_in_place(links) {
+            kept_tables(rt, alloc, graph, &carried, &self.hops, stays)?
+        } else {
+            moved_tables(rt, alloc, graph, &carried, &self.hops, stays, links)?
+        };
         Ok(Trees {
             rows,
             hops,

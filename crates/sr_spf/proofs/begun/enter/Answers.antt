@@ -15,7 +15,7 @@ loop-node-preserved c =
     let node : NodeNo = get_or c.args.lost.now c.loop-node.node-index (record { 0 = 0 }) in
     let place : get_or c.args.lost.now c.loop-node.node-index node ≡ node = get_or_default c.args.lost.now c.loop-node.node-index node (record { 0 = 0 }) c.loop-node-test.true in
     elim c.if-cell-cells.branch [
-      | then-cell-cells+in_ok-push w ↦ rw (w.cells-is, w.queue-is) (entered-push _ _ _ _ _ _ _ _ _ _ c.loop-node.invariant c.loop-node-test.true place (c.requires.begun.nodes c.loop-node.node-index (record { 0 = 0 }) c.loop-node-test.true) c.least_way-cell.ensures w.if-cell-cells.true w.in_ok-push.ensures.permutation)
+      | then-cell-cells+in_ok-push w ↦ rw (w.cells-is, w.queue-is) (entered-push _ _ _ _ _ _ _ _ _ _ c.loop-node.invariant c.loop-node-test.true place (c.requires.begun.nodes c.loop-node.node-index (record { 0 = 0 }) c.loop-node-test.true) c.least_way-cell.ensures w.if-cell-cells.true (rw w.entry.ensures at w.in_ok-push.ensures.permutation))
       | else-cell-cells w ↦ rw (w.cells-is, w.queue-is) (entered-stays _ _ _ _ _ _ _ _ _ c.loop-node.invariant c.loop-node-test.true place c.least_way-cell.ensures w.if-cell-cells.false)
     ]
 

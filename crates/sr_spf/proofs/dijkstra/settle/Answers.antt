@@ -1,14 +1,19 @@
 use Rattle.std.proofs.Common.{◌≡◌, [], arith, ◌∙◌}
 use Rattle.std.specs.BinaryHeap.{heap_items}
 use Rattle.std.proofs.lemmas.List.{nil_from_length}
-use Rattle.sr_spf.proofs.QueueLemmas.{popped-inside, popped-stale, popped-fresh, IsRow-from_empty}
+use Rattle.sr_spf.proofs.QueueLemmas.{popped-split, popped-inside, popped-stale, popped-fresh, IsRow-from_empty}
 use Rattle.sr_spf.proofs.dijkstra.settle.Goals as goal
 
 pub visit-requires : goal.visit-requires
-visit-requires c = record { node = popped-inside _ _ _ _ _ _ _ _ _ c.pops.invariant c.in-Some.ensures.permutation; queued = popped-fresh _ _ _ _ _ _ _ _ _ c.pops.invariant c.in-Some.ensures.permutation }
+visit-requires c =
+    let perm = popped-split _ _ c.in-Some.field-0 c.in-Some.ensures.permutation in
+    record {
+      node = popped-inside _ _ _ _ _ _ _ _ _ c.pops.invariant (omega arith) perm;
+      queued = popped-fresh _ _ _ _ _ _ _ _ _ c.pops.invariant (omega arith) perm;
+    }
 
 pub pops-preserved : goal.pops-preserved
-pops-preserved c = popped-stale _ _ _ _ _ _ _ _ _ _ c.pops.invariant c.in-Some.ensures.permutation c.if-cell-cells.false
+pops-preserved c = popped-stale _ _ _ _ _ _ _ _ _ _ c.pops.invariant (omega arith) (popped-split _ _ c.in-Some.field-0 c.in-Some.ensures.permutation) c.if-waiting-cells.false
 
 pub returns : goal.returns
 returns c =

@@ -4,7 +4,7 @@ use Rattle.sr_spf.specs.Relax.{relaxed, falls}
 use Rattle.sr_spf.proofs.RelaxLemmas.{relaxed-falls, relaxed-stays}
 use Rattle.sr_spf.proofs.QueueLemmas.{queued-skip, queued-stays, queued-push}
 use Rattle.sr_spf.proofs.dijkstra.visit.Goals as goal
-use Rattle.sr_spf.proofs.dijkstra.visit.Goals.{then-not-has+then-relax+in_ok-push, else-not-has, else-not-has-via-then-not-has+else-relax, else-not-has-via-else-not-has}
+use Rattle.sr_spf.proofs.dijkstra.visit.Goals.{then-falls+then-not-has+in_ok-push, else-falls, else-falls-via-then-falls+else-not-has, else-falls-via-else-falls}
 
 pub loop-i-preserved : goal.loop-i-preserved
 loop-i-preserved c =
@@ -12,26 +12,25 @@ loop-i-preserved c =
     let within : c.loop-i.i < link_count c.args.graph.now = omega (arith, c.links_from-first.ensures.links.inside) in
     let begins : tail c.args.graph.now c.loop-i.i ≡ c.args.node.0 = c.links_from-first.ensures.links.from c.loop-i.i first (omega arith) in
     let carry : carries c.args.graph.now c.args.source.0 (tail c.args.graph.now c.loop-i.i) ≡ true = rw begins (cc) in
-    elim c.if-not-has.branch [
-      | then-not-has+then-relax+in_ok-push w ↦
-          let fell : falls (tail c.args.graph.now c.loop-i.i) (head c.args.graph.now c.loop-i.i) (metric c.args.graph.now c.loop-i.i) c.loop-i.cells ≡ true = rw (begins, ← c.edge-edge.ensures.to, ← c.edge-edge.ensures.metric) (sym w.relax.ensures.fell ∙ w.if-relax.true) in
-          let is : w.relax.new.cells ≡ relaxed (tail c.args.graph.now c.loop-i.i) (head c.args.graph.now c.loop-i.i) (metric c.args.graph.now c.loop-i.i) c.loop-i.cells = rw (begins, ← c.edge-edge.ensures.to, ← c.edge-edge.ensures.metric) w.relax.ensures.cells in
-          let work : sum (relaxed (tail c.args.graph.now c.loop-i.i) (head c.args.graph.now c.loop-i.i) (metric c.args.graph.now c.loop-i.i) c.loop-i.cells) < sum c.loop-i.cells = relaxed-falls _ _ _ _ _ c.loop-i.invariant.0.kept within (cc) carry fell in (
-            rw (w.cells-is, w.queue-is, is) (queued-push _ _ _ _ _ _ _ _ c.loop-i.invariant.0 within (cc) carry fell (rw (is, c.edge-edge.ensures.to) at w.in_ok-push.ensures.permutation)),
-            rw (w.cells-is, w.queue-is, is) (omega (arith, w.in_ok-push.ensures.len, c.loop-i.invariant.1)),
+    elim c.if-falls.branch [
+      | then-falls+then-not-has+in_ok-push w ↦
+          let fell : falls (tail c.args.graph.now c.loop-i.i) (head c.args.graph.now c.loop-i.i) (metric c.args.graph.now c.loop-i.i) c.loop-i.cells ≡ true = rw (begins, ← c.edge-edge.ensures.to, ← c.edge-edge.ensures.metric) (sym c.falls.ensures ∙ w.if-falls.true) in
+          let work : sum (relaxed (tail c.args.graph.now c.loop-i.i) (head c.args.graph.now c.loop-i.i) (metric c.args.graph.now c.loop-i.i) c.loop-i.cells) < sum c.loop-i.cells = relaxed-falls _ _ _ _ _ c.loop-i.invariant.0.kept within (cc) carry fell in
+          let next = queued-push _ _ _ _ _ _ _ _ c.loop-i.invariant.0 within (cc) carry fell (rw (w.entry.ensures, ← begins, c.edge-edge.ensures.to, c.edge-edge.ensures.metric) at w.in_ok-push.ensures.permutation) in (
+            rw (w.cells-is, w.queue-is) (rw (fell, begins, ← c.edge-edge.ensures.to, ← c.edge-edge.ensures.metric) at next),
+            rw (w.cells-is, w.queue-is) (omega (arith, w.in_ok-push.ensures.len, c.loop-i.invariant.1, rw (fell, begins, ← c.edge-edge.ensures.to, ← c.edge-edge.ensures.metric) at work)),
             omega arith,
           )
-      | else-not-has w ↦ elim w.else-not-has.branch [
-        | else-not-has-via-then-not-has+else-relax w' ↦
-            let stays : falls (tail c.args.graph.now c.loop-i.i) (head c.args.graph.now c.loop-i.i) (metric c.args.graph.now c.loop-i.i) c.loop-i.cells ≡ false = rw (begins, ← c.edge-edge.ensures.to, ← c.edge-edge.ensures.metric) (sym w'.relax.ensures.fell ∙ w'.if-relax.false) in
-            let is : w'.relax.new.cells ≡ relaxed (tail c.args.graph.now c.loop-i.i) (head c.args.graph.now c.loop-i.i) (metric c.args.graph.now c.loop-i.i) c.loop-i.cells = rw (begins, ← c.edge-edge.ensures.to, ← c.edge-edge.ensures.metric) w'.relax.ensures.cells in (
-              rw (w.cells-is, w.queue-is, w'.cells-is, is) (queued-stays _ _ _ _ _ _ _ c.loop-i.invariant.0 stays),
-              rw (w.cells-is, w.queue-is, w'.cells-is, is, (relaxed-stays _ _ _ stays).0) c.loop-i.invariant.1,
+      | else-falls w ↦ elim w.else-falls.branch [
+        | else-falls-via-else-falls w' ↦
+            let stays : falls (tail c.args.graph.now c.loop-i.i) (head c.args.graph.now c.loop-i.i) (metric c.args.graph.now c.loop-i.i) c.loop-i.cells ≡ false = rw (begins, ← c.edge-edge.ensures.to, ← c.edge-edge.ensures.metric) (sym c.falls.ensures ∙ w'.if-falls.false) in (
+              rw (w.cells-is, w.queue-is) (rw (relaxed-stays c.args.graph.now c.loop-i.cells c.loop-i.i stays).0 at (queued-stays _ _ _ _ _ _ _ c.loop-i.invariant.0 stays)),
+              rw (w.cells-is, w.queue-is) c.loop-i.invariant.1,
               omega arith,
             )
-        | else-not-has-via-else-not-has w' ↦ (
-          rw (w.cells-is, w.queue-is, w'.cells-is) (queued-skip _ _ _ _ _ _ _ c.loop-i.invariant.0 (cc)),
-          rw (w.cells-is, w.queue-is, w'.cells-is) c.loop-i.invariant.1,
+        | else-falls-via-then-falls+else-not-has w' ↦ (
+          rw (w.cells-is, w.queue-is) (queued-skip _ _ _ _ _ _ _ c.loop-i.invariant.0 (cc)),
+          rw (w.cells-is, w.queue-is) c.loop-i.invariant.1,
           omega arith,
         )
       ]

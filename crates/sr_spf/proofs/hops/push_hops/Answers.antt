@@ -1,29 +1,13 @@
-use Rattle.std.proofs.Common.{◌≡◌, ◌≤◌, [], refl, arith, ap, sym, ◌∙◌}
-use Rattle.std.specs.Prelude.{slice_index}
+use Rattle.std.proofs.Common.{◌≡◌, ◌≤◌, [], refl, arith, sym}
+use Rattle.std.specs.Prelude.{IsTrue, ◌↔◌}
 use Rattle.std.proofs.lemmas.List.{length_push}
-use Rattle.sr_model.specs.declared.link.TheConstants.{FAR}
-use Rattle.sr_model.specs.Graph.{tail}
+use Rattle.std.proofs.lemmas.Option.{slice_get_read}
+use Rattle.sr_model.specs.Graph.{tail, link_count}
 use Rattle.sr_model.specs.Walk.{IsNextHop}
-use Rattle.sr_spf.proofs.HopsLemmas.{cell_in, cell_read, no_hop, hops-none, hops-skip, hops-push, hops-whole}
+use Rattle.sr_spf.proofs.HopsLemmas.{hops-none, hops-skip, hops-push, hops-whole}
+use Rattle.sr_spf.proofs.CarriedLemmas.{carried-at}
 use Rattle.sr_spf.proofs.hops.push_hops.Goals as goal
-use Rattle.sr_spf.proofs.hops.push_hops.Goals.{then-is_next_hop+in_ok-push, else-is_next_hop}
-
-pub returns-then-whole-ge-FAR-clause-hops : goal.returns-then-whole-ge-FAR-clause-hops
-returns-then-whole-ge-FAR-clause-hops c =
-    let whole : slice_index c.as_slice.result.now c.args.to.0 ≡ cell_in c.args.rows.now c.args.from.0 c.args.to.0 = cell_read _ c.args.from.0 _ _ _ (c.get.ensures []) c.as_slice.ensures in
-    let far : FAR ≤ cell_in c.args.rows.now c.args.from.0 c.args.to.0 = omega (arith, whole, c.if-whole-ge-FAR.true) in
-    hops-whole _ _ _ 0 _ _ (hops-none _ _ _ 0 _ (λ l lt hop. omega arith))
-    (λ l hop. absurd (no_hop _ _ _ _ l c.requires.rows c.requires.from c.requires.to far hop))
-
-pub is_next_hop-requires : goal.is_next_hop-requires
-is_next_hop-requires c =
-    let begins : tail c.args.graph.now c.loop-link.link ≡ c.args.from.0 = c.links_from-first.ensures.links.from c.loop-link.link c.loop-link.invariant.first c.loop-link-test.true in
-    record {
-      rows = c.requires.rows;
-      link = omega (arith, c.links_from-first.ensures.links.inside, c.loop-link-test.true);
-      to = c.requires.to;
-      whole = (cell_read _ c.args.from.0 _ _ _ (c.get.ensures []) c.as_slice.ensures ∙ ap (λ k. cell_in c.args.rows.now k c.args.to.0) (sym begins), c.if-whole-ge-FAR.false);
-    }
+use Rattle.sr_spf.proofs.hops.push_hops.Goals.{then-has+in_ok-push, else-has}
 
 pub loop-link-init : goal.loop-link-init
 loop-link-init c = record {
@@ -37,13 +21,14 @@ loop-link-preserved c =
     let begins : tail c.args.graph.now c.loop-link.link ≡ c.args.from.0 = c.links_from-first.ensures.links.from c.loop-link.link c.loop-link.invariant.first c.loop-link-test.true in
     let few = c.loop-link.invariant.few in
     let first = c.loop-link.invariant.first in
-    elim c.if-is_next_hop.branch [
-      | then-is_next_hop+in_ok-push w ↦
-          let hop : IsNextHop c.args.graph.now [] c.args.from.0 c.args.to.0 c.loop-link.link = rw begins at (c.is_next_hop.ensures.0 w.if-is_next_hop.true) in
-          rw (w.links-is, w.in_ok-push.ensures.items) (record { hops = hops-push _ _ _ _ _ _ (record { 0 = c.loop-link.link }) c.loop-link.invariant.hops hop refl; few = omega (arith, length_push c.loop-link.links.items (record { 0 = c.loop-link.link })); first = omega arith })
-      | else-is_next_hop w ↦
+    let told : IsTrue c.has.result ↔ IsNextHop c.args.graph.now [] c.args.from.0 c.args.to.0 c.loop-link.link =
+    rw (← begins, c.has.ensures) (carried-at c.args.graph.now c.args.carried.now c.loop-link.link c.args.to.0 c.index-carried-link.result c.requires.carried (slice_get_read c.args.carried.now (link_count c.args.graph.now) c.loop-link.link c.index-carried-link.result (sym c.requires.carried.long) (omega (arith, c.links_from-first.ensures.links.inside, c.loop-link-test.true)) c.index-carried-link.is)) in
+    elim c.if-has.branch [
+      | then-has+in_ok-push w ↦
+          rw (w.links-is, w.in_ok-push.ensures.items) (record { hops = hops-push _ _ _ _ _ _ (record { 0 = c.loop-link.link }) c.loop-link.invariant.hops (told.0 w.if-has.true) refl; few = omega (arith, length_push c.loop-link.links.items (record { 0 = c.loop-link.link })); first = omega arith })
+      | else-has w ↦
           rw w.links-is (record {
-            hops = hops-skip _ _ _ _ _ _ c.loop-link.invariant.hops (λ hop. let is = c.is_next_hop.ensures.1 (rw begins hop) in cc);
+            hops = hops-skip _ _ _ _ _ _ c.loop-link.invariant.hops (λ hop. let is = told.1 hop in cc);
             few = omega arith;
             first = omega arith;
           })
