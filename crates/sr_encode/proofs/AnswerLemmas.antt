@@ -1,38 +1,36 @@
 -- How the answers of a case are collected, and what a search by destination finds in them.
-use Rattle.std.proofs.Common.{◌≡◌, ◌≢◌, ℕ, ◌+◌, ◌<◌, ◌≤◌, ⊎_elim, ◌-◌, Bool, true, false, List, [], ◌∷◌, ◌++◌, length, take, drop, slice_range, get_or, refl, arith, ap, sym, ◌∙◌, subst, Option, Some, None, Ok, Err}
+use Rattle.std.proofs.Common.{◌≡◌, ◌≢◌, ℕ, zero, suc, ◌+◌, ◌<◌, ◌≤◌, ⊎_elim, ◌-◌, Bool, true, false, List, [], ◌∷◌, ◌++◌, length, take, drop, slice_range, get_or, refl, arith, ap, sym, ◌∙◌, subst, Option, Some, None, Ok, Err}
 use Rattle.std.specs.Prelude.{is_some, All}
 use Rattle.std.specs.List.Sorted.{IsBinarySearchResult, IsNonDecreasingBy}
 use Rattle.std.specs.Ordering.{nat_cmp, ordering_index}
 use Rattle.std.proofs.lemmas.Cmp.{ranked}
 use Rattle.std.proofs.lemmas.List.Sorted.{IsNonDecreasingBy-from_default}
-use Rattle.std.proofs.lemmas.Bool.{cases_eq, cases_lt}
+use Rattle.std.proofs.lemmas.Bool.{cases_Bool, cases_eq, cases_lt, true≢false}
 use Rattle.std.proofs.lemmas.Bool.Decides.{nat_tests}
 use Rattle.std.proofs.lemmas.List.{length-append, length-drop, length-map, get_or-map, get_or_push, get_or_append_left, get_or_past, map-append, drop-append-le, drop_all, take-append-le, take_all}
 use Rattle.std.proofs.lemmas.List.Elements.{All-get_or, All-head, All-tail, All-push, All-weaker}
+use Rattle.sr_lanes.specs.declared.limits.TheConstants.{NODES_AT_MOST}
+use Rattle.sr_lanes.specs.declared.words.NodeBits.{NodeBits}
+use Rattle.sr_lanes.specs.Bits.{is_in, count_below, member_count, IsFirstIn, IsWithout}
+use Rattle.sr_lanes.proofs.SizeLemmas.{without-other, without-inside, size-less}
 use Rattle.sr_model.specs.declared.case.Case.{Case}
-use Rattle.sr_model.specs.declared.link.NodeNo.{NodeNo}
 use Rattle.sr_model.specs.declared.repair.Answer.{Answer}
 use Rattle.sr_model.specs.declared.repair.Answer.TheVariants.{Least, NoPath}
 use Rattle.sr_model.specs.declared.repair.Segment.{Segment}
 use Rattle.sr_model.specs.Graph.{node_count}
 use Rattle.sr_model.specs.Label.{Net, Labels, labels_at, nameless}
 use Rattle.sr_model.specs.Case.{IsFailedSet, IsAffected, source_of}
-use Rattle.sr_model.specs.Repair.{IsAnswer, IsCaseAnswer}
+use Rattle.sr_model.specs.Repair.{IsAnswer}
 use Rattle.sr_encode.specs.declared.answers.NodeAnswer.{NodeAnswer}
 use Rattle.sr_encode.specs.declared.kept.Outcome.{Outcome}
 use Rattle.sr_encode.specs.declared.kept.Outcome.TheVariants.{Least as ListOutcome, NoPath as NoPathOutcome, NoList as NoListOutcome, TooDeep as DeepOutcome}
 use Rattle.sr_encode.specs.declared.kept.Kept.{Kept}
 use Rattle.sr_encode.specs.Kept.{outcome_at, answer_from, entry_from, entries, HasSegments, AreKeptWithin}
-use Rattle.sr_encode.specs.Serve.{AreNodes}
-use Rattle.sr_post.specs.Nodes.{listed_at, AreAffected}
-use Rattle.sr_encode.specs.Answered.{node_answer_at, destination_at, answer_at, AscendByNode, AreAnswers, AreAnswered}
+use Rattle.sr_encode.specs.Answered.{node_answer_at, destination_at, AscendByNode, AreAffected, AreAnswers, AreAnswered}
 
 -- what stands for an entry past the end of a list
 abbrev pub no_entry : NodeAnswer
 no_entry = record { destination = record { 0 = 0 }; answer = NoPath }
-
-pub affected-nodes : (n : Net) (case : Case) (wanted : List NodeNo) → AreAffected n case (node_count n.graph) wanted → AreNodes n wanted
-affected-nodes n case wanted r j lt = (r.each j lt).0
 
 -- what is affected is a node
 none_index : (o : Option ℕ) → o ≡ None → is_some o ≡ true → ⊥
@@ -48,41 +46,115 @@ affected-within n case d long a =
     absurd (none_index (labels_at n d).index (ap (λ (k : Labels). k.index) past) a.index))
     (cases_lt d (node_count n.graph))
 
-pub answered-none : (n : Net) (x : List Bool) (s : ℕ) (wanted : List NodeNo) → AreAnswered n x s wanted 0 []
-answered-none n x s wanted = record { long = refl; nodes = λ i lt. absurd (omega arith); answers = λ i lt. absurd (omega arith) }
+-- the destinations of the set that aren't left are answered, ascending, and those that are left come behind them
+pub record AreAnsweredBut (n : Net) (x : List Bool) (s : ℕ) (wanted left : NodeBits) (list : List NodeAnswer) : Type 0 where
+  pub ascending : AscendByNode list
+  pub inside : (v : ℕ) → is_in left v ≡ true → is_in wanted v ≡ true
+  pub each : All (λ (e : NodeAnswer). (is_in wanted e.destination.0 ≡ true) × IsAnswer n x s e.destination.0 e.answer) list
+  pub before : All (λ (e : NodeAnswer). (v : ℕ) → is_in left v ≡ true → e.destination.0 < v) list
+  pub all : (d : ℕ) → is_in wanted d ≡ true → is_in left d ≡ false → (i : ℕ) × (i < length list) × (destination_at list i ≡ d)
+  pub few : length list + member_count left ≤ NODES_AT_MOST
 
--- one answer more
-pub answered-push : (n : Net) (x : List Bool) (s : ℕ) (wanted : List NodeNo) (m : ℕ) (list : List NodeAnswer) (entry : NodeAnswer) → AreAnswered n x s wanted m list → entry.destination.0 ≡ listed_at wanted m → IsAnswer n x s (listed_at wanted m) entry.answer → AreAnswered n x s wanted (m + 1) (list ++ entry ∷ [])
-answered-push n x s wanted m list entry r node answer =
-    let old : (i : ℕ) → i < m → node_answer_at (list ++ entry ∷ []) i ≡ node_answer_at list i = λ i lt. get_or_append_left list (entry ∷ []) no_entry i (omega (arith, r.long)) in
-    let last : node_answer_at (list ++ entry ∷ []) m ≡ entry = get_or_push list entry no_entry m r.long in
-    record {
-      long = length-append list (entry ∷ []) ∙ omega (arith, r.long);
-      nodes = λ i lt. ⊎_elim
-          (λ (here : i ≡ m). ap (λ k. destination_at (list ++ entry ∷ []) k) here ∙ ap (λ (e : NodeAnswer). e.destination.0) last ∙ node ∙ ap (λ k. listed_at wanted k) (sym here))
-          (λ (ne : i ≢ m). ap (λ (e : NodeAnswer). e.destination.0) (old i (omega arith)) ∙ r.nodes i (omega arith))
-          (cases_eq i m);
-      answers = λ i lt. ⊎_elim
-          (λ (here : i ≡ m).
-          let P : ℕ → Type 0 = λ k. IsAnswer n x s (listed_at wanted k) (answer_at (list ++ entry ∷ []) k) in
-          subst P (sym here) (subst (λ (e : NodeAnswer). IsAnswer n x s (listed_at wanted m) e.answer) (sym last) answer))
-          (λ (ne : i ≢ m). subst (λ (e : NodeAnswer). IsAnswer n x s (listed_at wanted i) e.answer) (sym (old i (omega arith))) (r.answers i (omega arith)))
-          (cases_eq i m);
-    }
+-- a test says yes to no more numbers below n than there are
+count_below-most : (test : ℕ → Bool) (n : ℕ) → count_below test n ≤ n
+unfolding count_below
+count_below-most test zero = omega arith
+count_below-most test (suc n) =
+    let before : count_below test n ≤ n = count_below-most test n in
+    ⊎_elim
+    (λ (yes : test n ≡ true). rw yes (omega (arith, before)))
+    (λ (no : test n ≡ false). rw no (omega (arith, before)))
+    (cases_Bool (test n))
+
+pub answered-start : (n : Net) (x : List Bool) (s : ℕ) (wanted : NodeBits) → AreAnsweredBut n x s wanted wanted []
+unfolding member_count
+answered-start n x s wanted = record {
+  ascending = λ i j up lt. absurd (omega arith);
+  inside = λ v is. is;
+  each = λ i e lt. absurd (omega arith);
+  before = λ i e lt. absurd (omega arith);
+  all = λ d is out. absurd (true≢false (sym is ∙ out));
+  few = omega (arith, count_below-most (is_in wanted) 256);
+}
+
+-- no node that is left comes before the first
+first-up : (left : NodeBits) (v w : ℕ) → IsFirstIn left v → is_in left w ≡ true → v ≤ w
+first-up left v w first is =
+    ⊎_elim
+    (λ (lt : w < v). absurd (true≢false (sym is ∙ first.least w lt)))
+    (λ (le : v ≤ w). le)
+    (cases_lt w v)
+
+-- an entry behind the others is that of the first node that is left
+module _ (n : Net) (x : List Bool) (s : ℕ) (wanted left less : NodeBits) (list : List NodeAnswer) (entry : NodeAnswer) (r : AreAnsweredBut n x s wanted left list) (first : IsFirstIn left entry.destination.0) (taken : IsWithout left less entry.destination.0) where
+  old : (i : ℕ) → i < length list → node_answer_at (list ++ entry ∷ []) i ≡ node_answer_at list i
+  old i lt = get_or_append_left list (entry ∷ []) no_entry i lt
+
+  last : destination_at (list ++ entry ∷ []) (length list) ≡ entry.destination.0
+  last = ap (λ (e : NodeAnswer). e.destination.0) (get_or_push list entry no_entry (length list) refl)
+
+  longer : length (list ++ entry ∷ []) ≡ length list + 1
+  longer = length-append list (entry ∷ [])
+
+  ascends : AscendByNode (list ++ entry ∷ [])
+  ascends i j up lt =
+      ⊎_elim
+      (λ (early : j < length list).
+      let low : destination_at list i < destination_at list j = r.ascending i j up early in
+      omega (arith, ap (λ (e : NodeAnswer). e.destination.0) (old i (omega arith)), ap (λ (e : NodeAnswer). e.destination.0) (old j early)))
+      (λ (late : length list ≤ j).
+      let at : j ≡ length list = omega (arith, longer) in
+      let low : destination_at list i < entry.destination.0 = r.before i no_entry (omega arith) entry.destination.0 first.member in
+      let here : destination_at (list ++ entry ∷ []) j ≡ entry.destination.0 = ap (λ k. destination_at (list ++ entry ∷ []) k) at ∙ last in
+      omega (arith, ap (λ (e : NodeAnswer). e.destination.0) (old i (omega arith))))
+      (cases_lt j (length list))
+
+  found : (d : ℕ) → is_in wanted d ≡ true → is_in less d ≡ false → (i : ℕ) × (i < length (list ++ entry ∷ [])) × (destination_at (list ++ entry ∷ []) i ≡ d)
+  found d is out =
+      ⊎_elim
+      (λ (here : d ≡ entry.destination.0). (length list, omega (arith, longer), last ∙ sym here))
+      (λ (ne : d ≢ entry.destination.0).
+      let q = r.all d is (sym (without-other left less entry.destination.0 d taken ne) ∙ out) in
+      let lt : q.0 < length list = q.1 in
+      (q.0, omega (arith, longer, lt), ap (λ (e : NodeAnswer). e.destination.0) (old q.0 lt) ∙ q.2))
+      (cases_eq d entry.destination.0)
+
+  behind : (w : ℕ) → is_in less w ≡ true → entry.destination.0 < w
+  behind w is =
+      let told = without-inside left less entry.destination.0 w taken is in
+      let ne : w ≢ entry.destination.0 = told.0 in
+      let up : entry.destination.0 ≤ w = first-up left entry.destination.0 w first told.1 in
+      omega arith
+
+  -- so the others but it are left
+  pub answered-next : IsAnswer n x s entry.destination.0 entry.answer → AreAnsweredBut n x s wanted less (list ++ entry ∷ [])
+  answered-next answer = record {
+    ascending = ascends;
+    inside = λ v is. r.inside v (without-inside left less entry.destination.0 v taken is).1;
+    each = All-push (λ (e : NodeAnswer). (is_in wanted e.destination.0 ≡ true) × IsAnswer n x s e.destination.0 e.answer) list entry r.each (r.inside entry.destination.0 first.member, answer);
+    before = All-push (λ (e : NodeAnswer). (w : ℕ) → is_in less w ≡ true → e.destination.0 < w) list entry
+        (All-weaker (λ (e : NodeAnswer). (w : ℕ) → is_in left w ≡ true → e.destination.0 < w) (λ (e : NodeAnswer). (w : ℕ) → is_in less w ≡ true → e.destination.0 < w) (λ e low w is. low w (without-inside left less entry.destination.0 w taken is).1) list r.before)
+        behind;
+    all = found;
+    few = (let shrinks : member_count less < member_count left = size-less left less entry.destination.0 first taken in omega (arith, longer, r.few));
+  }
+
+-- none is left
+pub answered-over : (n : Net) (x : List Bool) (s : ℕ) (wanted left : NodeBits) (list : List NodeAnswer) → AreAnsweredBut n x s wanted left list → ((v : ℕ) → is_in left v ≡ false) → AreAnswered n x s wanted list
+answered-over n x s wanted left list r none = record {
+  ascending = r.ascending;
+  within = λ i lt. (r.each i no_entry lt).0;
+  answers = λ i lt. (r.each i no_entry lt).1;
+  all = λ d is. r.all d is (none d);
+}
 
 -- all answers of the case
-pub answers-over : (n : Net) (case : Case) (x : List Bool) (wanted : List NodeNo) (list : List NodeAnswer) → length n.labels ≡ node_count n.graph → IsFailedSet n.graph case x → AreAffected n case (node_count n.graph) wanted → AreAnswered n x (source_of n.graph case) wanted (length wanted) list → AreAnswers n case list
-answers-over n case x wanted list long set r a = record {
-  ascending = λ i j up lt.
-      let within : j < length wanted = omega (arith, a.long) in
-      let low : listed_at wanted i < listed_at wanted j = r.ascending i j up within in
-      omega (arith, a.nodes i (omega arith), a.nodes j within);
-  affected = λ i lt. let within : i < length wanted = omega (arith, a.long) in subst (λ k. IsAffected n case k) (sym (a.nodes i within)) (r.each i within).1;
-  answers = λ i lt. let within : i < length wanted = omega (arith, a.long) in
-      subst (λ k. IsCaseAnswer n case k (answer_at list i)) (sym (a.nodes i within)) (record { failed = x; set = set; answers = a.answers i within });
-  all = λ d is.
-      let q = r.all d (affected-within n case d long is) is in
-      (q.0, (let below : q.0 < length wanted = q.1 in omega (arith, a.long)), a.nodes q.0 q.1 ∙ q.2);
+pub answers-over : (n : Net) (case : Case) (x : List Bool) (wanted : NodeBits) (list : List NodeAnswer) → IsFailedSet n.graph case x → AreAffected n case wanted → AreAnswered n x (source_of n.graph case) wanted list → AreAnswers n case list
+answers-over n case x wanted list set r a = record {
+  ascending = a.ascending;
+  affected = λ i lt. (r (destination_at list i)).0 (a.within i lt);
+  answers = λ i lt. record { failed = x; set = set; answers = a.answers i lt };
+  all = λ d is. a.all d ((r d).1 is);
 }
 
 -- what stands for an answer past the end of those that are kept
@@ -169,13 +241,13 @@ entries-kept segments more outcomes added (k ∷ ks) lists each =
     ap (λ (e : NodeAnswer). e ∷ entries (segments ++ more) (outcomes ++ added) ks) first ∙ ap (λ (l : List NodeAnswer). entry_from segments outcomes k ∷ l) rest
 
 -- one more is kept, with what it adds behind what the others have
-pub kept-push : (n : Net) (x : List Bool) (s : ℕ) (wanted : List NodeNo) (m : ℕ) (segments more : List Segment) (outcomes added : List Outcome) (list : List Kept) (kept : Kept) → AreAnswered n x s wanted m (entries segments outcomes list) → AreKeptWithin segments outcomes list → All (HasSegments (segments ++ more)) (outcomes ++ added) → length added ≤ 1 → kept.outcome < length (outcomes ++ added) → kept.destination.0 ≡ listed_at wanted m → IsAnswer n x s (listed_at wanted m) (answer_from (segments ++ more) (outcome_at (outcomes ++ added) kept.outcome) kept.cost) → AreAnswered n x s wanted (m + 1) (entries (segments ++ more) (outcomes ++ added) (list ++ kept ∷ [])) × AreKeptWithin (segments ++ more) (outcomes ++ added) (list ++ kept ∷ [])
-kept-push n x s wanted m segments more outcomes added list kept answered within lists few below node answer =
+pub kept-push : (n : Net) (x : List Bool) (s : ℕ) (wanted left less : NodeBits) (segments more : List Segment) (outcomes added : List Outcome) (list : List Kept) (kept : Kept) → AreAnsweredBut n x s wanted left (entries segments outcomes list) → AreKeptWithin segments outcomes list → All (HasSegments (segments ++ more)) (outcomes ++ added) → length added ≤ 1 → kept.outcome < length (outcomes ++ added) → IsFirstIn left kept.destination.0 → IsWithout left less kept.destination.0 → IsAnswer n x s kept.destination.0 (answer_from (segments ++ more) (outcome_at (outcomes ++ added) kept.outcome) kept.cost) → AreAnsweredBut n x s wanted less (entries (segments ++ more) (outcomes ++ added) (list ++ kept ∷ [])) × AreKeptWithin (segments ++ more) (outcomes ++ added) (list ++ kept ∷ [])
+kept-push n x s wanted left less segments more outcomes added list kept answered within lists few below first taken answer =
     let same : entries (segments ++ more) (outcomes ++ added) list ≡ entries segments outcomes list = entries-kept segments more outcomes added list within.lists within.each in
     let entry : NodeAnswer = entry_from (segments ++ more) (outcomes ++ added) kept in
     let joined : entries (segments ++ more) (outcomes ++ added) (list ++ kept ∷ []) ≡ entries segments outcomes list ++ entry ∷ [] = map-append (entry_from (segments ++ more) (outcomes ++ added)) list (kept ∷ []) ∙ ap (λ l. l ++ entry ∷ []) same in
     let others : All (λ (o : Kept). o.outcome < length (outcomes ++ added)) list = All-weaker (λ (o : Kept). o.outcome < length outcomes) (λ (o : Kept). o.outcome < length (outcomes ++ added)) (λ (o : Kept) lt. omega (arith, length-append outcomes added)) list within.each in (
-      subst (λ l. AreAnswered n x s wanted (m + 1) l) (sym joined) (answered-push n x s wanted m (entries segments outcomes list) entry answered node answer),
+      subst (λ l. AreAnsweredBut n x s wanted less l) (sym joined) (answered-next n x s wanted left less (entries segments outcomes list) entry answered first taken answer),
       record {
         lists = lists;
         each = All-push (λ (o : Kept). o.outcome < length (outcomes ++ added)) list kept others below;

@@ -1,8 +1,7 @@
 -- How destinations are served, and that they are found when the search stops.
-use Rattle.std.proofs.Common.{◌≡◌, ◌≢◌, ℕ, ◌+◌, ◌<◌, ◌≤◌, ◌↔◌, ⊎_elim, inl, inr, true, false, not, ◌&&◌, List, length, IsTrue, arith, ap, sym, ◌∙◌, subst, Some}
+use Rattle.std.proofs.Common.{◌≡◌, ◌≢◌, ℕ, ◌+◌, ◌<◌, ◌≤◌, ◌↔◌, ⊎_elim, inr, true, false, not, ◌&&◌, List, length, IsTrue, arith, ap, sym, ◌∙◌, subst, Some}
 use Rattle.std.specs.Prelude.{is_some}
-use Rattle.std.proofs.lemmas.Bool.{cases_eq, cases_Bool, and_parts, not-true, not_from_false, and_from, true≢false}
-use Rattle.sr_model.specs.declared.link.NodeNo.{NodeNo}
+use Rattle.std.proofs.lemmas.Bool.{cases_eq, cases_Bool, and_parts, not-true, true≢false}
 use Rattle.sr_model.specs.Repair.{Path, IsLeast}
 use Rattle.sr_lanes.specs.declared.words.NodeBits.{NodeBits}
 use Rattle.sr_lanes.specs.Bits.{is_in}
@@ -12,8 +11,6 @@ use Rattle.sr_encode.specs.Waypoints.{AreParents, Extends, waypoint_node, path_t
 use Rattle.sr_encode.specs.Aftermath.{Aftermath, IsAftermath}
 use Rattle.sr_encode.specs.Search.{IsSearching}
 use Rattle.sr_encode.specs.Serve.{EndsAt, NoneEnds, AreLeastFrom, place_at, IsServedBy, AreOffered, AreTended, IsTended, IsLater, ArePlaced, AreSearched, AreResolved}
-use Rattle.sr_post.specs.Nodes.{listed_at}
-use Rattle.sr_lanes.proofs.SetLemmas.{none_in}
 use Rattle.sr_encode.proofs.QueueLemmas.{path-kept}
 use Rattle.sr_encode.proofs.StopLemmas.{none-sound}
 
@@ -32,86 +29,57 @@ offered-longer after queue more k served p e within r = record {
       );
 }
 
--- where nothing is pending, more waypoints need no offer
-pub offered-all : (after : Aftermath) (queue : List Waypoint) (k m : ℕ) (served : Served)
-    → AreOffered after queue k served → ((d : ℕ) → is_in served.pending d ≡ false) → AreOffered after queue m served
-offered-all after queue k m served r none = record {
-  long = r.long;
-  inside = r.inside;
-  none = λ d is. absurd (none_in served.pending d none is);
-  some = r.some;
-}
-
-pub later-same : (served : Served) → IsLater served served
-later-same served = record { pending = λ d is. inl is; places = λ d is. is }
-
-pub later-trans : (a b c : Served) → IsLater a b → IsLater b c → IsLater a c
-later-trans a b c p q = record {
-  pending = λ d is. ⊎_elim (λ still. q.pending d still) (λ has. inr (q.places d has)) (p.pending d is);
-  places = λ d has. q.places d (p.places d has);
-}
-
--- those of the pending ones towards which lists can end at place k are served by the waypoint there
-module _ (after : Aftermath) (queue : List Waypoint) (k : ℕ) (before served : Served) (found : NodeBits)
-    (least : AreLeastFrom after queue k) (inside : k < length queue) (r : AreOffered after queue k before)
-    (ends : (d : ℕ) → IsTrue (is_in found d) ↔ ((is_in before.pending d ≡ true) × EndsAt after (waypoint_node queue k) d))
+-- those of the pending ones that were found are given place k, and are pending no more
+module _ (k : ℕ) (before served : Served) (found : NodeBits)
     (rest : (d : ℕ) → is_in served.pending d ≡ (is_in before.pending d && not (is_in found d)))
     (marked : ArePlaced before.places.items found k served.places.items) where
   -- what is pending still
-  still : (d : ℕ) → is_in served.pending d ≡ true → (is_in before.pending d ≡ true) × (is_in found d ≡ false)
+  pub still : (d : ℕ) → is_in served.pending d ≡ true → (is_in before.pending d ≡ true) × (is_in found d ≡ false)
   still d is =
       let both = and_parts (is_in before.pending d) (not (is_in found d)) (sym (rest d) ∙ is) in
       (both.0, not-true (is_in found d) both.1)
 
-  none-at : (d : ℕ) → is_in served.pending d ≡ true → NoneEnds after queue d (k + 1)
-  none-at d is j lt at =
-      let q = still d is in
-      ⊎_elim
-      (λ (here : j ≡ k). true≢false (sym ((ends d).1 (q.0, subst (λ m. EndsAt after (waypoint_node queue m) d) here at)) ∙ q.1))
-      (λ (ne : j ≢ k). r.none d q.0 j (omega arith) at)
-      (cases_eq j k)
+  -- where the waypoint at place k has the least sound list to each that was found
+  module _ (after : Aftermath) (queue : List Waypoint) (inside : k < length queue)
+      (least : (d : ℕ) → is_in found d ≡ true → IsLeast after.net after.failed after.source d (path_to queue k)) where
+    served-found : (d : ℕ) → IsServedBy after.net after.failed after.source queue d (place_at before.places.items d)
+        → IsServedBy after.net after.failed after.source queue d (place_at served.places.items d)
+    served-found d was j is =
+        ⊎_elim
+        (λ yes.
+        let here : Some k ≡ Some j = sym (marked.these d yes) ∙ is in
+        let same : k ≡ j = cc in
+        subst (λ m. (m < length queue) × IsLeast after.net after.failed after.source d (path_to queue m)) same (inside, least d yes))
+        (λ no. was j (sym (marked.others d no) ∙ is))
+        (cases_Bool (is_in found d))
 
-  served-at : (d : ℕ) → IsServedBy after.net after.failed after.source queue d (place_at served.places.items d)
-  served-at d j is =
-      ⊎_elim
-      (λ yes.
-      let q = (ends d).0 yes in
-      let here : Some k ≡ Some j = sym (marked.these d yes) ∙ is in
-      let same : k ≡ j = cc in
-      subst (λ m. (m < length queue) × IsLeast after.net after.failed after.source d (path_to queue m)) same
-      (inside, least.each k (omega arith) inside d (r.inside d q.0) (r.none d q.0) q.1))
-      (λ no. r.some d j (sym (marked.others d no) ∙ is))
-      (cases_Bool (is_in found d))
+    pub offered-found : (m n : ℕ) → AreOffered after queue m before
+        → ((d : ℕ) → is_in served.pending d ≡ true → NoneEnds after queue d n) → AreOffered after queue n served
+    offered-found m n r none = record {
+      long = marked.long ∙ r.long;
+      inside = λ d is. r.inside d (still d is).0;
+      none = none;
+      some = λ d. served-found d (r.some d);
+    }
 
-  pub offered-next : AreOffered after queue (k + 1) served
-  offered-next = record {
-    long = marked.long ∙ r.long;
-    inside = λ d is. r.inside d (still d is).0;
-    none = none-at;
-    some = served-at;
-  }
-
-  pub later-next : IsLater before served
-  later-next = record {
-    pending = λ d is. ⊎_elim
-        (λ yes. inr (ap is_some (marked.these d yes)))
-        (λ no. inl (rest d ∙ and_from (is_in before.pending d) (not (is_in found d)) is (not_from_false (is_in found d) no)))
-        (cases_Bool (is_in found d));
-    places = λ d has. ⊎_elim
-        (λ yes. ap is_some (marked.these d yes))
-        (λ no. ap is_some (marked.others d no) ∙ has)
-        (cases_Bool (is_in found d));
-  }
-
--- where no destination is pending, the search is over
-pub searched-none : (after : Aftermath) (queue : List Waypoint) (k : ℕ) (served : Served) → AreParents queue
-    → AreOffered after queue k served → ((d : ℕ) → is_in served.pending d ≡ false) → AreSearched after queue served
-searched-none after queue k served p r none = record {
-  parents = p;
-  long = r.long;
-  none = λ d is. absurd (none_in served.pending d none is);
-  some = r.some;
-}
+-- so it is where those are found towards which lists can end at place k
+pub offered-next : (after : Aftermath) (queue : List Waypoint) (k : ℕ) (before served : Served) (found : NodeBits)
+    → AreLeastFrom after queue k → k < length queue → AreOffered after queue k before
+    → ((d : ℕ) → IsTrue (is_in found d) ↔ ((is_in before.pending d ≡ true) × EndsAt after (waypoint_node queue k) d))
+    → ((d : ℕ) → is_in served.pending d ≡ (is_in before.pending d && not (is_in found d)))
+    → ArePlaced before.places.items found k served.places.items → AreOffered after queue (k + 1) served
+offered-next after queue k before served found least inside r ends rest marked =
+    offered-found k before served found rest marked after queue inside
+    (λ d yes.
+    let q = (ends d).0 yes in
+    least.each k (omega arith) inside d (r.inside d q.0) (r.none d q.0) q.1)
+    k (k + 1) r
+    (λ d is j lt at.
+    let q = still k before served found rest marked d is in
+    ⊎_elim
+    (λ (here : j ≡ k). true≢false (sym ((ends d).1 (q.0, subst (λ m. EndsAt after (waypoint_node queue m) d) here at)) ∙ q.1))
+    (λ (ne : j ≢ k). r.none d q.0 j (omega arith) at)
+    (cases_eq j k))
 
 -- and so it is at the end of the queue
 pub searched-end : (after : Aftermath) (queue : List Waypoint) (unmet : NodeBits) (i : ℕ) (served : Served)
@@ -129,17 +97,17 @@ pub tended-later : (before served : Served) → IsLater before served → (d : �
 tended-later before served later d was = ⊎_elim (λ waits. later.pending d waits) (λ has. inr (later.places d has)) was
 
 -- the destinations that have walks were pending, or had places
-pub found-from : (after : Aftermath) (queue : List Waypoint) (wanted : List NodeNo) (before served : Served)
-    → AreTended after wanted (length wanted) before → IsLater before served → AreSearched after queue served
+pub resolved-from : (after : Aftermath) (queue : List Waypoint) (wanted : NodeBits) (before served : Served)
+    → AreTended after wanted before → IsLater before served → AreSearched after queue served
     → AreResolved after queue wanted served.places.items
-found-from after queue wanted before served tended later r = record {
+resolved-from after queue wanted before served tended later r = record {
   parents = r.parents;
   long = r.long;
-  each = λ j lt. record {
+  each = λ d one. record {
     none = λ none near. ⊎_elim
-        (λ still. r.none (listed_at wanted j) still)
+        (λ still. r.none d still)
         (λ has. absurd (true≢false (sym has ∙ ap is_some none)))
-        (tended-later before served later (listed_at wanted j) (tended j lt near));
-    some = r.some (listed_at wanted j);
+        (tended-later before served later d (tended d one near));
+    some = r.some d;
   };
 }

@@ -1,7 +1,8 @@
 -- The answers of a case.
-use Rattle.std.specs.Prelude.{◌≡◌, ◌≢◌, ℕ, ◌<◌, Bool, List, length, count_by, slice_index_or}
+use Rattle.std.specs.Prelude.{◌≡◌, ◌≢◌, ◌↔◌, ℕ, ◌<◌, Bool, true, List, length, count_by, slice_index_or, IsTrue}
+use Rattle.sr_lanes.specs.Bits.{is_in}
+use Rattle.sr_lanes.specs.declared.words.NodeBits.{NodeBits}
 use Rattle.sr_model.specs.declared.case.Case.{Case}
-use Rattle.sr_model.specs.declared.link.NodeNo.{NodeNo}
 use Rattle.sr_model.specs.declared.repair.Answer.{Answer}
 use Rattle.sr_model.specs.declared.repair.Answer.TheVariants.{NoPath}
 use Rattle.sr_model.specs.declared.audit.Counts.{Counts}
@@ -10,7 +11,6 @@ use Rattle.sr_model.specs.Label.{Net}
 use Rattle.sr_model.specs.Case.{IsAffected}
 use Rattle.sr_model.specs.Repair.{IsAnswer, IsCaseAnswer}
 use Rattle.sr_encode.specs.declared.answers.NodeAnswer.{NodeAnswer}
-use Rattle.sr_post.specs.Nodes.{listed_at}
 
 -- the answer at place i, with its destination
 abbrev pub node_answer_at : List NodeAnswer → ℕ → NodeAnswer
@@ -45,6 +45,10 @@ counts_in list = record {
   toodeep = count_by (λ (e : NodeAnswer). is_too_deep e.answer) list;
 }
 
+-- the set has just the affected destinations of the case
+abbrev pub AreAffected : Net → Case → NodeBits → Type 0
+AreAffected n case wanted = (v : ℕ) → IsTrue (is_in wanted v) ↔ IsAffected n case v
+
 -- the list has the affected destinations of the case, ascending, each with its answer
 pub record AreAnswers (n : Net) (case : Case) (list : List NodeAnswer) : Type 0 where
   pub ascending : AscendByNode list
@@ -52,9 +56,9 @@ pub record AreAnswers (n : Net) (case : Case) (list : List NodeAnswer) : Type 0 
   pub answers : (i : ℕ) → i < length list → IsCaseAnswer n case (destination_at list i) (answer_at list i)
   pub all : (d : ℕ) → IsAffected n case d → (i : ℕ) × (i < length list) × (destination_at list i ≡ d)
 
--- the list has the first m destinations, each with its answer
-pub record AreAnswered (n : Net) (x : List Bool) (s : ℕ) (wanted : List NodeNo) (m : ℕ)
-    (list : List NodeAnswer) : Type 0 where
-  pub long : length list ≡ m
-  pub nodes : (i : ℕ) → i < m → destination_at list i ≡ listed_at wanted i
-  pub answers : (i : ℕ) → i < m → IsAnswer n x s (listed_at wanted i) (answer_at list i)
+-- the list has the destinations of the set, ascending, each with its answer
+pub record AreAnswered (n : Net) (x : List Bool) (s : ℕ) (wanted : NodeBits) (list : List NodeAnswer) : Type 0 where
+  pub ascending : AscendByNode list
+  pub within : (i : ℕ) → i < length list → is_in wanted (destination_at list i) ≡ true
+  pub answers : (i : ℕ) → i < length list → IsAnswer n x s (destination_at list i) (answer_at list i)
+  pub all : (d : ℕ) → is_in wanted d ≡ true → (i : ℕ) × (i < length list) × (destination_at list i ≡ d)

@@ -1,9 +1,7 @@
 -- Which waypoints serve which destinations.
-use Rattle.std.specs.Prelude.{◌≡◌, ℕ, ◌+◌, ◌<◌, ◌≤◌, ◌⊎◌, Bool, true, false, List, length, [], Option, Some, None, is_some, slice_index, slice_index_or}
+use Rattle.std.specs.Prelude.{◌≡◌, ℕ, ◌+◌, ◌<◌, ◌≤◌, ◌⊎◌, Bool, true, false, List, length, [], Option, Some, None, is_some, slice_index, slice_index_or, All}
 use Rattle.sr_lanes.specs.declared.words.NodeBits.{NodeBits}
 use Rattle.sr_lanes.specs.Bits.{is_in}
-use Rattle.sr_model.specs.declared.link.LinkNo.{LinkNo}
-use Rattle.sr_model.specs.declared.link.NodeNo.{NodeNo}
 use Rattle.sr_model.specs.declared.link.TheConstants.{FAR}
 use Rattle.sr_model.specs.Graph.{node_count, carries}
 use Rattle.sr_model.specs.Label.{Net}
@@ -14,8 +12,8 @@ use Rattle.sr_encode.specs.declared.waypoint.Waypoint.{Waypoint}
 use Rattle.sr_encode.specs.declared.served.Served.{Served}
 use Rattle.sr_encode.specs.Waypoints.{waypoint_at, waypoint_node, path_to, AreParents}
 use Rattle.sr_encode.specs.Aftermath.{Aftermath}
-use Rattle.sr_post.specs.Kept.{AreKeptHops}
-use Rattle.sr_post.specs.Nodes.{listed_at}
+use Rattle.sr_post.specs.declared.kept.HopNodes.{HopNodes}
+use Rattle.sr_post.specs.Kept.{IsKeptHop}
 
 -- lists to w can end there towards d: w is d or isn't overloaded, has d in its P, and keeps to the distances from the
 -- source as far as d
@@ -47,17 +45,18 @@ pub record AreLeastFrom (after : Aftermath) (queue : List Waypoint) (k : ℕ) : 
 abbrev pub place_at : List (Option ℕ) → ℕ → Option ℕ
 place_at places j = slice_index_or places j None
 
--- the destinations are nodes
-abbrev pub AreNodes : Net → List NodeNo → Type 0
-AreNodes n wanted = (j : ℕ) → j < length wanted → listed_at wanted j < node_count n.graph
-
 -- the waypoint at this place has the least sound list to d
 abbrev pub IsServedBy : Net → List Bool → ℕ → List Waypoint → ℕ → Option ℕ → Type 0
 IsServedBy n x s queue d place = (k : ℕ) → place ≡ Some k → (k < length queue) × IsLeast n x s d (path_to queue k)
 
--- the list has the hop that is kept towards each node
-abbrev pub AreHopsOf : Aftermath → List (Option LinkNo) → Type 0
-AreHopsOf after hops = AreKeptHops after.net.graph after.failed after.source hops (node_count after.net.graph)
+-- the link is the least that leads from the source in spite of the failed links towards each node that stands with it
+abbrev pub IsHopOf : Aftermath → HopNodes → Type 0
+IsHopOf after kept =
+    (v : ℕ) → is_in kept.nodes v ≡ true → IsKeptHop after.net.graph after.failed after.source v kept.hop.0
+
+-- so it is with each link of the list
+abbrev pub AreHopsOf : Aftermath → List HopNodes → Type 0
+AreHopsOf after kept = All (IsHopOf after) kept
 
 -- the list to the waypoint at place k is link l alone
 abbrev pub IsMetBy : List Waypoint → ℕ → ℕ → Type 0
@@ -75,10 +74,10 @@ pub record AreOffered (after : Aftermath) (queue : List Waypoint) (k : ℕ) (ser
 abbrev pub IsTended : Served → ℕ → Type 0
 IsTended served d = (is_in served.pending d ≡ true) ⊎ (is_some (place_at served.places.items d) ≡ true)
 
--- of the first m destinations those to which a walk leads are pending, or have a place
-abbrev pub AreTended : Aftermath → List NodeNo → ℕ → Served → Type 0
-AreTended after wanted m served =
-    (j : ℕ) → j < m → slice_index after.post (listed_at wanted j) < FAR → IsTended served (listed_at wanted j)
+-- the destinations to which a walk leads are pending, or have a place
+abbrev pub AreTended : Aftermath → NodeBits → Served → Type 0
+AreTended after wanted served =
+    (d : ℕ) → is_in wanted d ≡ true → slice_index after.post d < FAR → IsTended served d
 
 -- what was pending still is, or has a place now, and what had a place has one
 pub record IsLater (before served : Served) : Type 0 where
@@ -107,9 +106,8 @@ pub record IsResolved (after : Aftermath) (queue : List Waypoint) (d : ℕ) (pla
   pub some : IsServedBy after.net after.failed after.source queue d place
 
 -- so it is with each destination, whose place stands at its number, and the lists can be read from the queue
-pub record AreResolved (after : Aftermath) (queue : List Waypoint) (wanted : List NodeNo)
+pub record AreResolved (after : Aftermath) (queue : List Waypoint) (wanted : NodeBits)
     (places : List (Option ℕ)) : Type 0 where
   pub parents : AreParents queue
   pub long : length places ≡ node_count after.net.graph
-  pub each : (j : ℕ) → j < length wanted
-      → IsResolved after queue (listed_at wanted j) (place_at places (listed_at wanted j))
+  pub each : (d : ℕ) → is_in wanted d ≡ true → IsResolved after queue d (place_at places d)

@@ -1,14 +1,14 @@
 //! The answers of a case, from its search.
-ghost use Rattle.std.specs.Prelude.{◌≡◌, ◌<◌, ◌≤◌, ◌^◌, length, IfOk};
+ghost use Rattle.std.specs.Prelude.{◌≡◌, ℕ, ◌<◌, ◌^◌, true, IfOk};
 ghost use Rattle.sr_model.specs.declared.link.TheConstants.{FAR as Far};
 ghost use Rattle.sr_model.specs.Graph.{node_count};
 ghost use Rattle.sr_model.specs.Walk.{IsRow};
 ghost use Rattle.sr_model.specs.Case.{IsCase};
 ghost use Rattle.sr_spf.specs.Trees.{AreTrees};
 ghost use Rattle.sr_post.specs.Post.{IsPost};
-ghost use Rattle.sr_encode.specs.Serve.{AreNodes, AreResolved};
-ghost use Rattle.sr_post.specs.Nodes.{AreAffected};
-ghost use Rattle.sr_encode.specs.Answered.{AreAnswers};
+ghost use Rattle.sr_lanes.specs.Bits.{is_in};
+ghost use Rattle.sr_encode.specs.Serve.{AreResolved};
+ghost use Rattle.sr_encode.specs.Answered.{AreAffected, AreAnswers};
 ghost use Rattle.sr_encode.specs.Repairs.{AreAllKept};
 
 use crate::answers::CaseAnswers;
@@ -19,6 +19,7 @@ use crate::search::{Serving, search};
 use crate::waypoint::Waypoint;
 use sr_graph::LinkSet;
 use sr_labels::Net;
+use sr_lanes::NodeBits;
 use sr_model::{Case, FAR, NodeNo, Segment};
 use sr_post::{Post, spaces_of};
 use sr_spaces::Spaces;
@@ -44,33 +45,32 @@ fn whole_cost(cost: u64) -> u32
     cost as u32
 }
 
-/// The answers for the destinations, in their order.
+/// The answers for the destinations, ascending.
 fn kept_answers(
     alloc: Global,
     net: &Net,
     cells: &[u64],
     failed: &LinkSet,
     source: NodeNo,
-    wanted: &[NodeNo],
+    wanted: NodeBits,
     found: &Serving,
 ) -> Result<KeptAnswers, AllocError>
     requires cells { IsRow net.now.graph failed.now source.0 cells.now }
     requires source { source.0 < node_count net.now.graph }
-    requires wanted { AreNodes net.now wanted.now × (length wanted.now ≤ 256) }
+    requires wanted { (v : ℕ) → is_in wanted v ≡ true → v < node_count net.now.graph }
     requires found { AreResolved (record { net = net.now; failed = failed.now; source = source.0; post = cells.now })
-        found.now.queue.items wanted.now found.now.places.items }
-    ensures { IfOk result (λ all. AreAllKept net.now failed.now source.0 wanted.now all) }
+        found.now.queue.items wanted found.now.places.items }
+    ensures { IfOk result (AreAllKept net.now failed.now source.0 wanted) }
 {
     let _graph = net.graph();
-    let mut kept = Vec::with_capacity(alloc, wanted.len())?;
+    let mut kept = Vec::with_capacity(alloc, wanted.count())?;
     let mut collected = Collected::new(alloc, net, source, &found.queue)?;
-    for j in 0..wanted.len() {
-        let destination = wanted[j];
-        let node = destination.0 as usize;
+    let mut left = wanted;
+    'left: while let Some(node) = left.take_first() {
         let cost = cells[node];
         let outcome = collected.outcome_for(cost, found.places[node])?;
         kept.push(Kept {
-            destination,
+            destination: NodeNo(node as u16),
             outcome,
             cost: whole_cost(cost),
         })?;
@@ -90,12 +90,12 @@ fn answers_for(
     spaces: &Spaces,
     post: &Post,
     case: Case,
-    wanted: &[NodeNo],
+    wanted: NodeBits,
 ) -> Result<CaseAnswers, AllocError>
     requires spaces { spaces.now ≡ record { graph = net.now.graph; failed = post.now.failed } }
     requires case { IsCase net.now.graph case }
     requires post { IsPost net.now case post.now }
-    requires wanted { AreAffected net.now case (node_count net.now.graph) wanted.now }
+    requires wanted { AreAffected net.now case wanted }
     ensures { IfOk result (AreAnswers net.now case) }
 {
     let source = net.graph().link(case.link).from;
@@ -125,12 +125,12 @@ pub fn lists(
     trees: &Trees,
     post: &Post,
     case: Case,
-    wanted: &[NodeNo],
+    wanted: NodeBits,
 ) -> Result<CaseAnswers, AllocError>
     requires trees { AreTrees net.now.graph trees.now }
     requires case { IsCase net.now.graph case }
     requires post { IsPost net.now case post.now }
-    requires wanted { AreAffected net.now case (node_count net.now.graph) wanted.now }
+    requires wanted { AreAffected net.now case wanted }
     ensures { IfOk result (AreAnswers net.now case) }
 {
     let spaces = spaces_of(net.graph(), trees, post.failed(), case);

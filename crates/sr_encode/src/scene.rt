@@ -12,8 +12,8 @@ ghost use Rattle.sr_encode.specs.Serve.{EndsAt};
 
 use sr_graph::Graph;
 use sr_labels::Net;
-use sr_lanes::{NodeBits, tight_among};
-use sr_model::{FAR, LinkNo, NodeNo};
+use sr_lanes::{NodeBits, finite, tight_among};
+use sr_model::{LinkNo, NodeNo};
 use sr_spaces::Spaces;
 use std::marker::Model;
 
@@ -75,12 +75,13 @@ impl<'a> Scene<'a> {
         self.source
     }
 
-    /// Whether a walk without the failed links leads from the source to the node.
-    pub(crate) fn is_reached(&self, node: NodeNo) -> bool
-        requires { node.0 < node_count self.now.net.graph }
-        ensures value { IsTrue result ↔ (slice_index self.now.post node.0 < Far) }
+    /// Those of the nodes to which a walk without the failed links leads from the source.
+    pub(crate) fn reached(&self, among: NodeBits) -> NodeBits
+        requires { AreInside self.now among }
+        ensures { (v : ℕ) → IsTrue (is_in result v) ↔ ((is_in among v ≡ true) × (slice_index self.now.post v < Far)) }
     {
-        self.cells[node.0 as usize] < FAR
+        let _graph = self.graph();
+        among.and(finite(self.cells))
     }
 
     /// Those of the nodes at whose distances from the source the distances by w add up.
@@ -94,17 +95,6 @@ impl<'a> Scene<'a> {
         tight_among(self.cells, self.cells[w.0 as usize], row, among)
     }
 
-    /// Whether lists to waypoint w can end there towards d.
-    fn ends_at(&self, w: NodeNo, d: NodeNo) -> bool
-        requires w { w.0 < node_count self.now.net.graph }
-        requires d { d.0 < node_count self.now.net.graph }
-        requires sum { AddsUp self.now w.0 d.0 }
-        ensures { IsTrue result ↔ EndsAt self.now w.0 d.0 }
-    {
-        // P is asked last, since failed links may have to be gone through.
-        self.net.graph().carries(d, w) && self.spaces.in_p(w, d)
-    }
-
     /// Those of the nodes towards which lists to waypoint w can end there.
     pub(crate) fn ends(&self, w: NodeNo, among: NodeBits) -> NodeBits
         requires w { w.0 < node_count self.now.net.graph }
@@ -112,33 +102,13 @@ impl<'a> Scene<'a> {
         ensures after { IsAftermath self.now }
         ensures these { (d : ℕ) → IsTrue (is_in result d) ↔ ((is_in among d ≡ true) × EndsAt self.now w.0 d) }
     {
-        let mut left = self.fits(w, among);
-        let mut found = NodeBits::none();
-        'left: while let Some(node) = left.take_first() {
-            if self.ends_at(w, NodeNo(node as u16)) {
-                found = found.with(node);
-            }
+        // P is asked last, since failed links may have to be gone through.
+        let ends = self.spaces.p_among(w, self.fits(w, among));
+        if self.net.graph().overloaded(w) {
+            // No packet passes it.
+            return ends.and(NodeBits::none().with(w.0 as usize));
         }
-        found
-    }
-
-    /// Whether the node segment of v leads on from waypoint w, which isn't overloaded, and keeps to the distances from the
-    /// source.
-    fn leads_to(&self, w: NodeNo, v: NodeNo) -> bool
-        requires w { w.0 < node_count self.now.net.graph }
-        requires clear { is_overloaded self.now.net.graph w.0 ≡ false }
-        requires v { v.0 < node_count self.now.net.graph }
-        requires sum { AddsUp self.now w.0 v.0 }
-        ensures { IsTrue result ↔ StepsTo self.now w.0 (Node v) v.0 }
-    {
-        if v.0 == w.0 {
-            return false;
-        }
-        if self.net.labels(v).index().is_none() {
-            return false;
-        }
-        // Asked last, since failed links may have to be gone through.
-        self.spaces.in_p(w, v)
+        ends
     }
 
     /// Those of the nodes to which a node segment leads on from waypoint w, which isn't overloaded, and keeps to the
@@ -151,14 +121,10 @@ impl<'a> Scene<'a> {
         ensures these { (v : ℕ) → IsTrue (is_in result v)
             ↔ ((is_in among v ≡ true) × StepsTo self.now w.0 (Node (record { 0 = v })) v) }
     {
-        let mut left = self.fits(w, among);
-        let mut found = NodeBits::none();
-        'left: while let Some(node) = left.take_first() {
-            if self.leads_to(w, NodeNo(node as u16)) {
-                found = found.with(node);
-            }
-        }
-        found
+        let _graph = self.graph();
+        let others = among.and(self.net.indexed()).without(w.0 as usize);
+        // P is asked last, since failed links may have to be gone through.
+        self.spaces.p_among(w, self.fits(w, others))
     }
 
     /// The end of the link, where its adjacency segment leads on from its beginning, which isn't overloaded, and keeps to the

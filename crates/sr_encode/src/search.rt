@@ -1,13 +1,14 @@
 //! The search: each waypoint is offered to the destinations that are pending, and then looked on from.
 ghost use Rattle.std.specs.Prelude.{◌≡◌, IfOk, OnOk};
 ghost use Rattle.sr_encode.specs.Search.{IsSearching};
-ghost use Rattle.sr_encode.specs.Serve.{AreNodes, AreOffered, AreSearched, AreResolved, IsLater, AreHopsOf};
+ghost use Rattle.sr_encode.specs.Aftermath.{AreInside};
+ghost use Rattle.sr_encode.specs.Serve.{AreOffered, AreSearched, AreResolved, IsLater, AreHopsOf};
 
 use crate::met::Met;
 use crate::scene::Scene;
 use crate::served::Served;
 use crate::waypoint::Waypoint;
-use sr_model::NodeNo;
+use sr_lanes::NodeBits;
 use sr_post::Post;
 use std::alloc::{AllocError, Global};
 
@@ -47,11 +48,11 @@ pub(crate) fn search(
     alloc: Global,
     scene: &Scene,
     post: &Post,
-    wanted: &[NodeNo],
+    wanted: NodeBits,
 ) -> Result<Serving, AllocError>
-    requires hops { AreHopsOf scene.now post.now.hops }
-    requires wanted { AreNodes scene.now.net wanted.now }
-    ensures { IfOk result (λ found. AreResolved scene.now found.queue.items wanted.now found.places.items) }
+    requires hops { AreHopsOf scene.now post.now.kept }
+    requires wanted { AreInside scene.now wanted }
+    ensures { IfOk result (λ found. AreResolved scene.now found.queue.items wanted found.places.items) }
 {
     let mut met = Met::first(alloc, scene)?;
     let mut served = Served::by_hops(alloc, scene, &met.queue, post, wanted)?;

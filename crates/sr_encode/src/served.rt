@@ -1,15 +1,15 @@
 //! Which waypoint serves which destination.
-ghost use Rattle.std.specs.Prelude.{◌≡◌, ℕ, ◌+◌, ◌*◌, ◌<◌, ◌≤◌, ◌↔◌, true, false, length, slice_index, IsTrue, IfOk, IfSome};
-ghost use Rattle.sr_model.specs.declared.link.TheConstants.{FAR as Far};
+ghost use Rattle.std.specs.Prelude.{◌≡◌, ℕ, ◌+◌, ◌<◌, ◌≤◌, ◌↔◌, true, false, length, IsTrue, IfOk, IfSome};
 ghost use Rattle.sr_lanes.specs.Bits.{is_in};
 ghost use Rattle.sr_model.specs.Graph.{node_count};
-ghost use Rattle.sr_encode.specs.Serve.{AreNodes, AreLeastFrom, AreOffered, AreTended, ArePlaced, IsLater, IsTended, IsMetBy, AreHopsOf};
+ghost use Rattle.sr_encode.specs.Aftermath.{AreInside};
+ghost use Rattle.sr_encode.specs.Serve.{AreLeastFrom, AreOffered, AreTended, ArePlaced, IsLater, IsMetBy, IsHopOf, AreHopsOf};
 
 use crate::scene::Scene;
 use crate::waypoint::Waypoint;
 use sr_lanes::NodeBits;
-use sr_model::{LinkNo, NodeNo};
-use sr_post::Post;
+use sr_model::LinkNo;
+use sr_post::{HopNodes, Post};
 use std::alloc::{AllocError, Global};
 
 /// The place in the queue of the waypoint that serves each destination, by the number of its node, and the destinations
@@ -45,48 +45,36 @@ fn place_over(queue: &[Waypoint], link: LinkNo) -> Option<usize>
     Some(place)
 }
 
-/// The place in the queue of the waypoint to which the link alone leads, where it is found. The place `near` is looked at
-/// first: destinations that follow one another mostly keep the same hop.
-fn place_near(queue: &[Waypoint], near: usize, link: LinkNo) -> Option<usize>
-    ensures { IfSome result (IsMetBy queue.now link.0) }
-{
-    if near < queue.len() && queue[near].first.0 == link.0 && queue[near].depth == 0 {
-        return Some(near);
-    }
-    place_over(queue, link)
-}
-
 impl Served {
-    /// Serves the destination by the waypoint to which the hop kept towards it leads, where that is found. Where it isn't,
-    /// but a walk leads there, the destination is pending. Gives the place at which the next hop is looked for first.
-    fn take(
-        &mut self,
-        scene: &Scene,
-        queue: &[Waypoint],
-        post: &Post,
-        node: NodeNo,
-        near: usize,
-    ) -> usize
-        requires hops { AreHopsOf scene.now post.now.hops }
-        requires inside { (node.0 < node_count scene.now.net.graph)
-            × (length queue.now ≤ node_count scene.now.net.graph) }
+    /// Serves those of the pending destinations towards which the hop is kept by the waypoint to which it leads, where
+    /// that is found.
+    fn take(&mut self, scene: &Scene, queue: &[Waypoint], kept: &HopNodes)
+        requires kept { IsHopOf scene.now kept.now }
+        requires short { length queue.now ≤ node_count scene.now.net.graph }
         requires offered { AreOffered scene.now queue.now 0 self.old }
         ensures offered { AreOffered scene.now queue.now 0 self.new }
-        ensures later { IsLater self.old self.new
-            × (slice_index scene.now.post node.0 < Far → IsTended self.new node.0) }
+        ensures later { IsLater self.old self.new }
     {
         let _graph = scene.graph();
-        if let Some(hop) = post.hop(node) {
-            if let Some(place) = place_near(queue, near, hop) {
-                self.places[node.0 as usize] = Some(place as u16);
-                return place;
-            }
-        }
-        if !scene.is_reached(node) {
-            return near;
-        }
-        self.pending = self.pending.with(node.0 as usize);
-        near
+        let Some(place) = place_over(queue, kept.hop) else {
+            return;
+        };
+        let found = self.pending.and(kept.nodes);
+        self.pending = self.pending.and_not(found);
+        mark(&mut self.places, found, place as u16);
+    }
+
+    /// No destination is served: those to which a walk leads are pending.
+    fn none(alloc: Global, scene: &Scene, wanted: NodeBits) -> Result<Served, AllocError>
+        requires { AreInside scene.now wanted }
+        ensures offered { (queue : _) → IfOk result (AreOffered scene.now queue 0) }
+        ensures tended { IfOk result (AreTended scene.now wanted) }
+    {
+        let count = scene.graph().node_count() as usize;
+        Ok(Served {
+            places: vec![in alloc; None; count]?,
+            pending: scene.reached(wanted),
+        })
     }
 
     /// The destinations to which a next hop still leads are served: the least sound list to such a one is that hop alone.
@@ -96,22 +84,17 @@ impl Served {
         scene: &Scene,
         queue: &[Waypoint],
         post: &Post,
-        wanted: &[NodeNo],
+        wanted: NodeBits,
     ) -> Result<Served, AllocError>
-        requires hops { AreHopsOf scene.now post.now.hops }
+        requires hops { AreHopsOf scene.now post.now.kept }
         requires short { length queue.now ≤ node_count scene.now.net.graph }
-        requires wanted { AreNodes scene.now.net wanted.now }
+        requires wanted { AreInside scene.now wanted }
         ensures offered { IfOk result (AreOffered scene.now queue.now 0) }
-        ensures tended { IfOk result (AreTended scene.now wanted.now (length wanted.now)) }
+        ensures tended { IfOk result (AreTended scene.now wanted) }
     {
-        let count = scene.graph().node_count() as usize;
-        let mut served = Served {
-            places: vec![in alloc; None; count]?,
-            pending: NodeBits::none(),
-        };
-        let mut near = 0;
-        for j in 0..wanted.len() {
-            near = served.take(scene, queue, post, wanted[j], near);
+        let mut served = Served::none(alloc, scene, wanted)?;
+        for kept in post.kept() {
+            served.take(scene, queue, kept);
         }
         Ok(served)
     }

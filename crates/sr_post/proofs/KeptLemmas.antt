@@ -14,8 +14,7 @@ use Rattle.sr_walks.proofs.Distances.{cell-distance, distance-from_shortest, dis
 use Rattle.sr_walks.proofs.Rows.{row-stable}
 use Rattle.sr_spf.specs.Begun.{HasWay, IsBegun}
 use Rattle.sr_lanes.specs.declared.words.NodeBits.{NodeBits}
-use Rattle.sr_lanes.specs.Bits.{is_in, IsWithout}
-use Rattle.sr_lanes.proofs.SizeLemmas.{without-other, without-inside}
+use Rattle.sr_lanes.specs.Bits.{is_in}
 use Rattle.sr_post.specs.Kept.{LeadsTo, IsKept, AreLost}
 use Rattle.sr_post.specs.Nodes.{AreThose, listed_at}
 use Rattle.sr_post.specs.Sets.{AreCellsWithout}
@@ -131,30 +130,25 @@ listed-contains P m nodes v those lt is =
     let same : get_or nodes at.0 (record { 0 = 0 }) ≡ record { 0 = v } = ap (λ k. record { 0 = k }) at.2 in
     subst (λ (node : NodeNo). Contains nodes node) same (Contains-get_or nodes at.0 (record { 0 = 0 }) at.1)
 
--- it is so where the lost nodes but s have FAR, and are listed
-pub kept-cells : (g : Graph) (x : List Bool) (s : ℕ) (row cells : List ℕ) (nodes : List NodeNo) (left lost : NodeBits) → IsGraph g → length row ≡ node_count g → AreLost g x s (node_count g) left → IsWithout left lost s → AreCellsWithout row lost cells → AreThose (λ v. is_in lost v ≡ true) 256 nodes → AreKeptCells g x s row cells nodes
-kept-cells g x s row cells nodes left lost graph long are without clear those = record {
+-- it is so where the lost nodes have FAR, and are listed
+pub kept-cells : (g : Graph) (x : List Bool) (s : ℕ) (row cells : List ℕ) (nodes : List NodeNo) (lost : NodeBits) → IsGraph g → length row ≡ node_count g → AreLost g x s lost → AreCellsWithout row lost cells → AreThose (λ v. is_in lost v ≡ true) 256 nodes → AreKeptCells g x s row cells nodes
+kept-cells g x s row cells nodes lost graph long are clear those = record {
   long = omega (arith, clear.long);
   each = λ v lt. ⊎_elim
       (λ (yes : is_in lost v ≡ true).
-      let out = without-inside left lost s v without yes in
       inr (
-        λ kept. ⊎_elim (λ (e : v ≡ s). out.0 e) (λ (c : (l : ℕ) × LeadsTo g x s v l). are.lost v c.0 out.1 c.1) kept,
+        λ kept. ⊎_elim (λ (e : v ≡ s). (are.within v yes).1 e) (λ (c : (l : ℕ) × LeadsTo g x s v l). are.lost v c.0 yes c.1) kept,
         clear.each v ∙ ap (λ t. if t then FAR else slice_index row v) yes,
         listed-contains (λ u. is_in lost u ≡ true) 256 nodes v those (omega (arith, graph.few_nodes)) yes,
       ))
       (λ (no : is_in lost v ≡ false).
       inl (
-        ⊎_elim
-            (λ (e : v ≡ s). inl e)
-            (λ ne. inr (are.led v lt (sym (without-other left lost s v without ne) ∙ no)))
-            (cases_eq v s),
+        ⊎_elim (λ (e : v ≡ s). inl e) (λ ne. inr (are.led v lt ne no)) (cases_eq v s),
         clear.each v ∙ ap (λ t. if t then FAR else slice_index row v) no,
       ))
       (cases_Bool (is_in lost v));
   nodes = λ k d lt.
-      let member : is_in lost (listed_at nodes k) ≡ true = (those.each k lt).1 in
-      let within : listed_at nodes k < node_count g = are.within (listed_at nodes k) (without-inside left lost s (listed_at nodes k) without member).1 in
+      let within : listed_at nodes k < node_count g = (are.within (listed_at nodes k) (those.each k lt).1).0 in
       subst (λ (node : NodeNo). node.0 < node_count g) (get_or_default nodes k (record { 0 = 0 }) d lt) within;
 }
 

@@ -3,6 +3,9 @@ pub mod WayLemmas
 pub mod MarkLemmas
 pub mod KeptLemmas
 pub mod KeptHopLemmas
+pub mod LedLemmas
+pub mod AffectedLemmas
+pub mod DangerLemmas
 pub mod SourceLemmas
 pub mod ListedLemmas
 pub mod DoubtLemmas

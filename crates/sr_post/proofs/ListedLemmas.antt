@@ -1,17 +1,15 @@
--- Lists, cells and hops as the nodes of a set are gone through.
-use Rattle.std.proofs.Common.{◌≡◌, ◌≢◌, ℕ, ◌+◌, ◌<◌, ◌≤◌, ⊎_elim, true, false, List, [], ◌∷◌, ◌++◌, length, set, refl, arith, ap, sym, ◌∙◌, subst, Option, Some, None}
+-- Lists and cells as the nodes of a set are gone through.
+use Rattle.std.proofs.Common.{◌≡◌, ◌≢◌, ℕ, ◌+◌, ◌<◌, ◌≤◌, ⊎_elim, true, false, List, [], ◌∷◌, ◌++◌, length, set, refl, arith, ap, sym, ◌∙◌, subst}
 use Rattle.std.specs.Prelude.{slice_index, if◌then◌else◌}
 use Rattle.std.proofs.lemmas.Bool.{cases_eq, cases_lt, cases_Bool, true≢false}
 use Rattle.std.proofs.lemmas.List.{length-set, get_or-set_same, get_or-set_other}
 use Rattle.sr_lanes.specs.declared.words.NodeBits.{NodeBits}
 use Rattle.sr_lanes.specs.Bits.{is_in, IsFirstIn, IsWithout}
 use Rattle.sr_lanes.proofs.SizeLemmas.{without-same, without-other, without-inside}
-use Rattle.sr_model.specs.declared.link.LinkNo.{LinkNo}
 use Rattle.sr_model.specs.declared.link.NodeNo.{NodeNo}
 use Rattle.sr_model.specs.declared.link.TheConstants.{FAR}
-use Rattle.sr_post.specs.Kept.{kept_hop_at}
 use Rattle.sr_post.specs.Nodes.{AreThose}
-use Rattle.sr_post.specs.Sets.{AreCellsWithout, KeepsHopFor}
+use Rattle.sr_post.specs.Sets.{AreCellsWithout}
 use Rattle.sr_post.proofs.NodeLemmas.{those-none, those-push, those-up}
 
 -- the nodes of the set below m are listed, and the others are left
@@ -96,29 +94,3 @@ clearing-over row lost left cells r none = record {
       (λ (no : is_in lost v ≡ false). r.others v no ∙ ap (λ t. if t then FAR else slice_index row v) (sym no))
       (cases_Bool (is_in lost v));
 }
-
--- of these nodes, those that aren't left have the hop
-pub record IsKeeping (before : List (Option LinkNo)) (nodes : NodeBits) (hop : LinkNo) (left : NodeBits) (hops : List (Option LinkNo)) : Type 0 where
-  pub long : length hops ≡ length before
-  pub inside : (v : ℕ) → is_in left v ≡ true → is_in nodes v ≡ true
-  pub these : (v : ℕ) → is_in nodes v ≡ true → is_in left v ≡ false → kept_hop_at hops v ≡ Some hop
-  pub others : (v : ℕ) → is_in nodes v ≡ false → kept_hop_at hops v ≡ kept_hop_at before v
-
-pub keeping-start : (before : List (Option LinkNo)) (nodes : NodeBits) (hop : LinkNo) → IsKeeping before nodes hop nodes before
-keeping-start before nodes hop = record { long = refl; inside = λ v is. is; these = λ v is out. absurd (true≢false (sym is ∙ out)); others = λ v out. refl }
-
-pub keeping-next : (before : List (Option LinkNo)) (nodes : NodeBits) (hop : LinkNo) (left less : NodeBits) (hops : List (Option LinkNo)) (v : ℕ) → IsKeeping before nodes hop left hops → v < length before → is_in left v ≡ true → IsWithout left less v → IsKeeping before nodes hop less (set hops v (Some hop))
-keeping-next before nodes hop left less hops v r within is taken = record {
-  long = length-set hops v (Some hop) ∙ r.long;
-  inside = λ d yes. r.inside d (without-inside left less v d taken yes).1;
-  these = λ d yes out. ⊎_elim
-      (λ (here : d ≡ v). subst (λ j. kept_hop_at (set hops v (Some hop)) j ≡ Some hop) (sym here) (get_or-set_same hops v (Some hop) None (omega (arith, r.long))))
-      (λ (ne : d ≢ v). get_or-set_other hops v d (Some hop) None ne ∙ r.these d yes (sym (without-other left less v d taken ne) ∙ out))
-      (cases_eq d v);
-  others = λ d out.
-      let apart : d ≢ v = λ same. true≢false (sym (r.inside v is) ∙ subst (λ j. is_in nodes j ≡ false) same out) in
-      get_or-set_other hops v d (Some hop) None apart ∙ r.others d out;
-}
-
-pub keeping-over : (before : List (Option LinkNo)) (nodes : NodeBits) (hop : LinkNo) (left : NodeBits) (hops : List (Option LinkNo)) → IsKeeping before nodes hop left hops → ((v : ℕ) → is_in left v ≡ false) → KeepsHopFor before nodes hop hops
-keeping-over before nodes hop left hops r none = record { long = r.long; these = λ v is. r.these v is (none v); others = r.others }

@@ -50,17 +50,6 @@ those-push P v nodes r is =
           (cases_eq d v.0);
     }
 
--- it hasn't, so that there is none more
-pub those-skip : (P : ℕ → Type 0) (v : ℕ) (nodes : List NodeNo) → AreThose P v nodes → (P v → ⊥) → AreThose P (v + 1) nodes
-those-skip P v nodes r apart = record {
-  ascending = r.ascending;
-  each = λ j lt. ((let low : listed_at nodes j < v = (r.each j lt).0 in omega arith), (r.each j lt).1);
-  all = λ u lt is. ⊎_elim
-      (λ (here : u ≡ v). absurd (apart (subst P here is)))
-      (λ (ne : u ≢ v). r.all u (omega arith) is)
-      (cases_eq u v);
-}
-
 -- none up to here has it
 pub those-up : (P : ℕ → Type 0) (m n : ℕ) (nodes : List NodeNo) → AreThose P m nodes → m ≤ n → ((v : ℕ) → m ≤ v → v < n → P v → ⊥) → AreThose P n nodes
 those-up P m n nodes r le none = record {
@@ -70,14 +59,6 @@ those-up P m n nodes r le none = record {
       (λ (low : u < m). r.all u low is)
       (λ (up : m ≤ u). absurd (none u up lt is))
       (cases_lt u m);
-}
-
--- another property that is had by the same
-pub those-same : (P Q : ℕ → Type 0) (m n : ℕ) (nodes : List NodeNo) → AreThose P m nodes → ((v : ℕ) → P v → Q v × (v < n)) → ((v : ℕ) → Q v → P v × (v < m)) → AreThose Q n nodes
-those-same P Q m n nodes r to from = record {
-  ascending = r.ascending;
-  each = λ j lt. let told = to (listed_at nodes j) (r.each j lt).1 in (told.1, told.0);
-  all = λ u lt is. let told = from u is in r.all u told.1 told.0;
 }
 
 -- each stands no lower than its place

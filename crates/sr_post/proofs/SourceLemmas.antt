@@ -1,5 +1,5 @@
 -- Where each failed link lies at the source, a next hop that hasn't failed leads on to all that it leads to.
-use Rattle.std.proofs.Common.{◌≡◌, ◌≢◌, ℕ, ◌+◌, ◌<◌, ◌≤◌, ⊎_elim, inl, Bool, true, false, List, [], ◌∷◌, refl, arith, subst}
+use Rattle.std.proofs.Common.{◌≡◌, ◌≢◌, ℕ, ◌+◌, ◌<◌, ◌≤◌, ◌⊎◌, ⊎_elim, inl, Bool, true, false, List, [], ◌∷◌, refl, arith, subst}
 use Rattle.sr_model.specs.declared.case.Case.{Case}
 use Rattle.sr_model.specs.declared.case.Kind.{Kind}
 use Rattle.sr_model.specs.declared.case.Kind.TheVariants.{Link as LinkKind, Node as NodeKind, Risk as RiskKind}
@@ -10,6 +10,10 @@ use Rattle.sr_laws.proofs.Failures.{touches-pair}
 use Rattle.sr_laws.proofs.Keys.{pair-sym}
 use Rattle.sr_walks.proofs.Distances.{distance-from_shortest, distance-unique, sum-from_IsNextHop, sum-from_OnShortest, OnShortest-carries, InP-from_none, walk-out}
 use Rattle.sr_post.specs.Kept.{LieAt, LeadsTo}
+
+-- in the other two kinds of case no node fails
+pub no-node_fails : (kind : Kind) → (kind ≡ LinkKind) ⊎ (kind ≡ RiskKind) → kind ≢ NodeKind
+no-node_fails kind other node = ⊎_elim (λ (is : kind ≡ LinkKind). cc) (λ (is : kind ≡ RiskKind). cc) other
 
 -- what fails with link p lies at its beginning, unless a node fails
 fails-at : (g : Graph) → IsGraph g → IsNamed g → (kind : Kind) (p l : ℕ) → p < link_count g → l < link_count g

@@ -1,9 +1,6 @@
 -- Lists of nodes.
 use Rattle.std.specs.Prelude.{◌≡◌, ℕ, ◌<◌, List, length, slice_index_or}
-use Rattle.sr_model.specs.declared.case.Case.{Case}
 use Rattle.sr_model.specs.declared.link.NodeNo.{NodeNo}
-use Rattle.sr_model.specs.Label.{Net}
-use Rattle.sr_model.specs.Case.{IsAffected}
 
 -- the node at place j
 abbrev pub listed_at : List NodeNo → ℕ → ℕ
@@ -14,7 +11,3 @@ pub record AreThose (P : ℕ → Type 0) (m : ℕ) (nodes : List NodeNo) : Type 
   pub ascending : (i j : ℕ) → i < j → j < length nodes → listed_at nodes i < listed_at nodes j
   pub each : (j : ℕ) → j < length nodes → (listed_at nodes j < m) × P (listed_at nodes j)
   pub all : (v : ℕ) → v < m → P v → (j : ℕ) × (j < length nodes) × (listed_at nodes j ≡ v)
-
--- the nodes are the affected destinations below m, ascending
-abbrev pub AreAffected : Net → Case → ℕ → List NodeNo → Type 0
-AreAffected n case m wanted = AreThose (IsAffected n case) m wanted

@@ -4,26 +4,25 @@ ghost use Rattle.sr_model.specs.Case.{IsCase};
 ghost use Rattle.sr_spf.specs.Trees.{AreTrees};
 ghost use Rattle.sr_post.specs.Post.{IsPost, IsBeginning};
 
-use crate::kept::{Known, known_distances};
+use crate::kept::{HopNodes, Known, known_distances};
 use crate::left::Post;
 use crate::spaces::{doubtful_of, spaces_of};
 use sr_graph::LinkSet;
 use sr_labels::Net;
-use sr_model::{Case, LinkNo, NodeNo};
-use sr_seq::Seq;
+use sr_model::{Case, NodeNo};
 use sr_spf::{Steps, Trees, row_after};
 use std::alloc::{AllocError, Global};
 use std::marker::Model;
 use std::sync::ledger::Ledger;
 
 /// What is known of a case before its search: the failed links, the distances from the source that stay (`FAR` for the
-/// others), the nodes whose distance doesn't, and the hop kept towards each node.
+/// others), the nodes whose distance doesn't, and the hops that are kept.
 #[derive(Debug, Drop)]
 struct Begun {
     failed: LinkSet,
     cells: Vec<u64>,
     lost: Vec<NodeNo>,
-    hops: Vec<Option<LinkNo>>,
+    kept: Vec<HopNodes>,
 }
 
 impl Model for Begun {
@@ -31,7 +30,7 @@ impl Model for Begun {
 
     ghost Value = { Beginning };
 
-    ghost view = { λ a. record { failed = a.failed; cells = a.cells.items; lost = a.lost.items; hops = a.hops.items } };
+    ghost view = { λ a. record { failed = a.failed; cells = a.cells.items; lost = a.lost.items; kept = a.kept.items } };
 }
 
 impl Begun {
@@ -54,10 +53,10 @@ impl Begun {
             failed,
             cells,
             lost,
-            hops,
+            kept,
         } = self;
         let row = row_after(alloc, graph, &failed, source, cells, &lost, steps)?;
-        Ok(Post::new(failed, row, Seq::new(hops)))
+        Ok(Post::new(failed, row, kept))
     }
 }
 
@@ -70,7 +69,7 @@ fn begin(alloc: Global, net: &Net, trees: &Trees, case: Case) -> Result<Begun, A
     let graph = net.graph();
     let start = graph.edge(case.link).from;
     let failed = graph.failed(alloc, case)?;
-    let Known { cells, lost, hops } = known_distances(
+    let Known { cells, lost, kept } = known_distances(
         alloc,
         &spaces_of(graph, trees, &failed, case),
         trees,
@@ -81,7 +80,7 @@ fn begin(alloc: Global, net: &Net, trees: &Trees, case: Case) -> Result<Begun, A
         failed,
         cells,
         lost,
-        hops,
+        kept,
     })
 }
 

@@ -1,36 +1,25 @@
 //! What a failure leaves as it was: distances from the source, and next hops.
-ghost use Rattle.std.specs.Prelude.{◌≡◌, ℕ, ◌<◌, ◌↔◌, true, length, IsTrue, IfOk, None as Nothing};
+ghost use Rattle.std.specs.Prelude.{◌≡◌, ℕ, ◌<◌, ◌↔◌, true, length, IsTrue, IfOk, OnOk};
 ghost use Rattle.sr_lanes.specs.Bits.{is_in};
 ghost use Rattle.sr_model.specs.Graph.{node_count, link_count, tail};
-ghost use Rattle.sr_model.specs.Space.{InP};
 ghost use Rattle.sr_spf.specs.Begun.{IsBegun};
 ghost use Rattle.sr_spf.specs.Trees.{AreTrees};
-ghost use Rattle.sr_post.specs.Kept.{AreDoubtful, LeadsTo, AreKeptHops, AreLost, kept_hop_at};
-ghost use Rattle.sr_post.specs.Sets.{AreCellsWithout, KeepsHopFor};
+ghost use Rattle.sr_post.specs.Kept.{AreDoubtful, LeadsTo, LosesHop, AreEndangered, AreKeptHops, AreLost};
+ghost use Rattle.sr_post.specs.Sets.{AreCellsWithout, KeepsHop};
 
 use crate::listed::all_listed;
 use sr_graph::LinkRange;
-use sr_lanes::NodeBits;
+use sr_lanes::{NodeBits, finite};
 use sr_model::{FAR, LinkNo, NodeNo};
 use sr_spaces::Spaces;
 use sr_spf::Trees;
 use std::alloc::{AllocError, Global};
 
-/// Those of the nodes that are in P of this one.
-fn in_p_among(spaces: &Spaces, from: NodeNo, among: NodeBits) -> NodeBits
-    requires from { from.0 < node_count spaces.now.graph }
-    requires among { (v : ℕ) → is_in among v ≡ true → v < node_count spaces.now.graph }
-    ensures { (v : ℕ) → IsTrue (is_in result v)
-        ↔ ((is_in among v ≡ true) × InP spaces.now.graph spaces.now.failed from.0 v) }
-{
-    let mut left = among;
-    let mut found = NodeBits::none();
-    'left: while let Some(node) = left.take_first() {
-        if spaces.in_p(from, NodeNo(node as u16)) {
-            found = found.with(node);
-        }
-    }
-    found
+/// A link from the source, and nodes towards which it is the least that leads in spite of the failed links.
+#[derive(Clone, Copy, Debug)]
+pub struct HopNodes {
+    pub hop: LinkNo,
+    pub nodes: NodeBits,
 }
 
 /// Those of the nodes to which the link leads in spite of the failed links. Where it is a next hop and hasn't failed, P of
@@ -48,53 +37,100 @@ fn led_by(
     ensures { (v : ℕ) → IsTrue (is_in result v) ↔ ((is_in among v ≡ true)
         × LeadsTo spaces.now.graph spaces.now.failed (tail spaces.now.graph hop.0) v hop.0) }
 {
-    if spaces.failed().has(hop) {
+    let led = among.and(trees.carried(hop));
+    // Most links lead elsewhere.
+    if led.is_empty() || spaces.failed().has(hop) {
         return NodeBits::none();
     }
-    let end = spaces.graph().edge(hop).to;
-    let led = among.and(trees.carried(hop));
     // Of most nodes there is no doubt.
     let sure = led.and_not(doubtful);
-    sure.or(in_p_among(spaces, end, led.and(doubtful)))
+    sure.or(spaces.p_among(spaces.graph().edge(hop).to, led.and(doubtful)))
 }
 
-/// Keeps the hop towards these nodes.
-fn keep_hop(hops: &mut [Option<LinkNo>], nodes: NodeBits, hop: LinkNo)
-    requires { (v : ℕ) → is_in nodes v ≡ true → v < length hops.old }
-    ensures { KeepsHopFor hops.old nodes hop hops.new }
+/// The nodes towards which a failed link is a next hop of the source.
+fn losing(spaces: &Spaces, trees: &Trees, source: NodeNo) -> NodeBits
+    requires trees { AreTrees spaces.now.graph trees.now }
+    requires source { source.0 < node_count spaces.now.graph }
+    ensures { (v : ℕ) → IsTrue (is_in result v) ↔ LosesHop spaces.now.graph spaces.now.failed source.0 v }
 {
-    let mut left = nodes;
-    'left: while let Some(node) = left.take_first() {
-        hops[node] = Some(hop);
+    let LinkRange { first, end } = spaces.graph().links_from(source);
+    let mut losing = NodeBits::none();
+    for link in first..end {
+        if spaces.failed().has(LinkNo(link)) {
+            losing = losing.or(trees.carried(LinkNo(link)));
+        }
+    }
+    losing
+}
+
+/// The nodes that may be lost: all but the source, and but those of which there is no doubt that their next hops, of which
+/// none failed, still lead there.
+fn endangered(spaces: &Spaces, trees: &Trees, doubtful: NodeBits, source: NodeNo) -> NodeBits
+    requires trees { AreTrees spaces.now.graph trees.now }
+    requires doubtful { AreDoubtful spaces.now.graph spaces.now.failed source.0 doubtful }
+    requires source { source.0 < node_count spaces.now.graph }
+    ensures { AreEndangered spaces.now.graph spaces.now.failed source.0 result }
+{
+    let count = spaces.graph().node_count() as usize;
+    let reached = finite(spaces.row(source));
+    let safe = reached
+        .and_not(doubtful)
+        .and_not(losing(spaces, trees, source));
+    NodeBits::below(count)
+        .without(source.0 as usize)
+        .and_not(safe)
+}
+
+/// The hops kept from a source, each with its nodes, and the nodes to which no link tried so far leads.
+#[derive(Drop)]
+struct KeptHops {
+    kept: Vec<HopNodes>,
+    left: NodeBits,
+}
+
+impl KeptHops {
+    /// Keeps the hop towards those nodes that are left to which it leads.
+    fn keep(&mut self, hop: LinkNo, led: NodeBits) -> Result<(), AllocError>
+        ensures { OnOk result (KeepsHop self.old hop led self.new) }
+    {
+        if led.is_empty() {
+            return Ok(());
+        }
+        self.kept.push(HopNodes { hop, nodes: led })?;
+        self.left = self.left.and_not(led);
+        Ok(())
     }
 }
 
-/// Keeps for each node the least link that leads there from the source in spite of the failed links, if one does. Gives
-/// the nodes to which none does. At first no hop is kept.
+/// The least link that leads from the source in spite of the failed links towards each of the endangered nodes, if one
+/// does, and the nodes to which none does.
 fn keep_hops(
+    alloc: Global,
     spaces: &Spaces,
     trees: &Trees,
     doubtful: NodeBits,
     source: NodeNo,
-    hops: &mut [Option<LinkNo>],
-) -> NodeBits
+) -> Result<KeptHops, AllocError>
     requires trees { AreTrees spaces.now.graph trees.now }
     requires doubtful { AreDoubtful spaces.now.graph spaces.now.failed source.0 doubtful }
     requires source { source.0 < node_count spaces.now.graph }
-    requires long { length hops.old ≡ node_count spaces.now.graph }
-    requires none { (v : ℕ) → kept_hop_at hops.old v ≡ Nothing }
-    ensures hops { AreKeptHops spaces.now.graph spaces.now.failed source.0 hops.new (node_count spaces.now.graph) }
-    ensures lost { AreLost spaces.now.graph spaces.now.failed source.0 (node_count spaces.now.graph) result }
+    ensures hops { IfOk result (λ hops. AreKeptHops spaces.now.graph spaces.now.failed source.0 hops.kept.items) }
+    ensures lost { IfOk result (λ hops. AreLost spaces.now.graph spaces.now.failed source.0 hops.left) }
 {
-    let graph = spaces.graph();
-    let LinkRange { first, end } = graph.links_from(source);
-    let mut left = NodeBits::below(graph.node_count() as usize);
+    let LinkRange { first, end } = spaces.graph().links_from(source);
+    let mut hops = KeptHops {
+        kept: Vec::new(alloc),
+        left: endangered(spaces, trees, doubtful, source),
+    };
     for link in first..end {
-        let found = led_by(spaces, trees, doubtful, LinkNo(link), left);
-        keep_hop(hops, found, LinkNo(link));
-        left = left.and_not(found);
+        // A few links mostly lead to all of them.
+        if hops.left.is_empty() {
+            return Ok(hops);
+        }
+        let led = led_by(spaces, trees, doubtful, LinkNo(link), hops.left);
+        hops.keep(LinkNo(link), led)?;
     }
-    left
+    Ok(hops)
 }
 
 /// The cells of the row, but `FAR` at the lost nodes.
@@ -119,8 +155,8 @@ pub(crate) struct Known {
     pub(crate) cells: Vec<u64>,
     /// The nodes that are lost.
     pub(crate) lost: Vec<NodeNo>,
-    /// For each node the least link that leads there in spite of the failed ones, if one does.
-    pub(crate) hops: Vec<Option<LinkNo>>,
+    /// The hops that are kept towards nodes that lose a next hop.
+    pub(crate) kept: Vec<HopNodes>,
 }
 
 /// The distances from the source that stay, and the links that lead to the nodes that keep theirs. Towards a node that
@@ -137,13 +173,10 @@ pub(crate) fn known_distances(
     requires source { source.0 < node_count spaces.now.graph }
     ensures begun { IfOk result (λ known. IsBegun spaces.now.graph spaces.now.failed source.0 known.cells.items
         known.lost.items) }
-    ensures hops { IfOk result (λ known. AreKeptHops spaces.now.graph spaces.now.failed source.0 known.hops.items
-        (node_count spaces.now.graph)) }
+    ensures hops { IfOk result (λ known. AreKeptHops spaces.now.graph spaces.now.failed source.0 known.kept.items) }
 {
-    let count = spaces.graph().node_count() as usize;
-    let mut hops = vec![in alloc; None; count]?;
-    let lost = keep_hops(spaces, trees, doubtful, source, &mut hops).without(source.0 as usize);
-    let cells = cells_without(alloc, spaces.row(source), lost)?;
-    let lost = all_listed(alloc, lost)?;
-    Ok(Known { cells, lost, hops })
+    let KeptHops { kept, left } = keep_hops(alloc, spaces, trees, doubtful, source)?;
+    let cells = cells_without(alloc, spaces.row(source), left)?;
+    let lost = all_listed(alloc, left)?;
+    Ok(Known { cells, lost, kept })
 }

@@ -5,23 +5,24 @@ ghost use Rattle.sr_model.specs.Label.{Net as Labelled};
 ghost use Rattle.sr_model.specs.Walk.{Distance};
 ghost use Rattle.sr_model.specs.Case.{IsFailedSet, source_of};
 ghost use Rattle.sr_spf.specs.Trees.{distance_of};
-ghost use Rattle.sr_post.specs.Kept.{KeepsHop, kept_hop_at};
+ghost use Rattle.sr_post.specs.Kept.{AreKeptHops};
 ghost use Rattle.sr_post.specs.Post.{IsPost};
 
+use crate::kept::HopNodes;
 use sr_graph::LinkSet;
-use sr_model::{FAR, LinkNo, NodeNo};
+use sr_model::{FAR, NodeNo};
 use sr_seq::Seq;
 use std::marker::Model;
 
 /// What is left after the failure of a case: the failed links, the distances from the source without them, and the next
-/// hops that still lead to a node.
+/// hops that still lead on.
 #[derive(Debug, Drop)]
 pub struct Post {
     failed: LinkSet,
     /// The distance from the source to each node, by number; `FAR` where there is no walk.
     row: Seq<u64>,
-    /// For each node, by number, the least link that leads there from the source in spite of the failed ones, if one does.
-    hops: Seq<Option<LinkNo>>,
+    /// The hops that are kept towards nodes that lose a next hop.
+    kept: Vec<HopNodes>,
 }
 
 impl Model for Post {
@@ -29,15 +30,15 @@ impl Model for Post {
 
     ghost Value = { Remains };
 
-    ghost view = { λ a. record { failed = a.failed; cells = a.row; hops = a.hops } };
+    ghost view = { λ a. record { failed = a.failed; cells = a.row; kept = a.kept.items } };
 }
 
 impl Post {
     /// What is left, of these parts.
-    pub(crate) fn new(failed: LinkSet, row: Seq<u64>, hops: Seq<Option<LinkNo>>) -> Post
-        ensures { result ≡ record { failed = failed; cells = row; hops = hops } }
+    pub(crate) fn new(failed: LinkSet, row: Seq<u64>, kept: Vec<HopNodes>) -> Post
+        ensures { result ≡ record { failed = failed; cells = row; kept = kept.items } }
     {
-        Post { failed, row, hops }
+        Post { failed, row, kept }
     }
 
     /// The failed links.
@@ -72,15 +73,14 @@ impl Post {
         if cell < FAR { Some(cell) } else { None }
     }
 
-    /// The least link that leads from the source to the node in spite of the failed links: it hasn't failed, it begins a
-    /// shortest walk there in the whole graph, and no shortest walk from its end to the node holds a failed link. None
-    /// exactly where no link does.
-    pub fn hop(&self, v: NodeNo) -> Option<LinkNo>
-        requires { v.0 < length self.now.hops }
-        ensures hop { result ≡ kept_hop_at self.now.hops v.0 }
-        ensures kept { (n : Labelled) (case : Failure) → IsPost n case self.now
-            → (x : List Bool) → IsFailedSet n.graph case x → KeepsHop n.graph x (source_of n.graph case) v.0 result }
+    /// The links from the source that still lead on, each with nodes towards which it is the least that does: it hasn't
+    /// failed, it begins a shortest walk there in the whole graph, and no shortest walk from its end to the node holds a
+    /// failed link. Each node that loses a next hop stands with one, where some link still leads there.
+    pub fn kept(&self) -> &[HopNodes]
+        ensures kept { result.now ≡ self.now.kept }
+        ensures hops { (n : Labelled) (case : Failure) → IsPost n case self.now
+            → (x : List Bool) → IsFailedSet n.graph case x → AreKeptHops n.graph x (source_of n.graph case) result.now }
     {
-        self.hops.as_slice()[v.0 as usize]
+        &self.kept
     }
 }

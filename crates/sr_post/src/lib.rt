@@ -11,8 +11,9 @@ mod listed;
 mod marks;
 mod spaces;
 
-pub use destinations::{affected, affected_nodes, affected_set};
+pub use destinations::{affected, affected_set};
 pub use failure::post;
+pub use kept::HopNodes;
 pub use left::Post;
 pub use marks::{walks, walks_along};
 pub use spaces::spaces_of;

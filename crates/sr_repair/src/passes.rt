@@ -2,11 +2,10 @@
 //! and the passes over all cases, in threads.
 ghost use Rattle.std.specs.Prelude.{◌≡◌, ◌*◌, ◌<◌, IfOk, MatchOption};
 ghost use Rattle.std.specs.Arc.{arc_value};
-ghost use Rattle.sr_model.specs.Graph.{node_count};
 ghost use Rattle.sr_model.specs.Case.{IsCase};
 ghost use Rattle.sr_graph.specs.Failed.{FailsAsLink};
 ghost use Rattle.sr_spf.specs.Trees.{AreTrees};
-ghost use Rattle.sr_post.specs.Nodes.{AreAffected};
+ghost use Rattle.sr_encode.specs.Answered.{AreAffected};
 ghost use Rattle.sr_repair.specs.Answers.{case_count, IsPassed, IsPassedIn, AreAllPassed};
 ghost use Rattle.sr_repair.specs.Former.{IsSearched};
 ghost use Rattle.sr_repair.specs.Solutions.{IsSolution};
@@ -17,8 +16,9 @@ use crate::setting::Setting;
 use crate::solved::Solved;
 use sr_encode::lists;
 use sr_labels::Net;
-use sr_model::{Case, NodeNo};
-use sr_post::{affected_nodes, post};
+use sr_lanes::NodeBits;
+use sr_model::Case;
+use sr_post::{affected_set, post};
 use sr_spf::{Searched, Steps, Trees};
 use sr_threads::{Share, made_of_each};
 use std::alloc::{AllocError, Global};
@@ -53,13 +53,13 @@ fn solved_from<L: Ledger>(
     net: &Net,
     trees: &Trees,
     case: Case,
-    wanted: &[NodeNo],
+    wanted: NodeBits,
     blank: Blank,
 ) -> Result<(Arc<Solved>, Searched), AllocError>
     requires blank { (blank.name ≡ L.name) × (blank.parts ≡ L.parts) × (0 < L.parts) }
     requires trees { AreTrees net.now.graph trees.now }
     requires case { IsCase net.now.graph case }
-    requires wanted { AreAffected net.now case (node_count net.now.graph) wanted.now }
+    requires wanted { AreAffected net.now case wanted }
     ensures { IfOk result (λ made. IsSolution net.now case (arc_value made.0)) }
 {
     let mut steps = Steps::<L>::new(blank);
@@ -77,11 +77,11 @@ fn searched(
     net: &Net,
     trees: &Trees,
     case: Case,
-    wanted: &[NodeNo],
+    wanted: NodeBits,
 ) -> Result<(Arc<Solved>, Searched), AllocError>
     requires trees { AreTrees net.now.graph trees.now }
     requires case { IsCase net.now.graph case }
-    requires wanted { AreAffected net.now case (node_count net.now.graph) wanted.now }
+    requires wanted { AreAffected net.now case wanted }
     ensures { IfOk result (λ made. IsSolution net.now case (arc_value made.0)) }
 {
     solved_from::<Brand>(alloc, net, trees, case, wanted, Blank::new(1))
@@ -94,12 +94,12 @@ fn listed(alloc: Global, setting: &Setting<'_>, case: Case) -> Result<Passed, Al
     ensures { IfOk result (IsPassed setting.now.former setting.now.net case) }
 {
     let _graph = setting.net.graph();
-    let wanted = affected_nodes(alloc, setting.net, setting.trees, case)?;
+    let wanted = affected_set(setting.net, setting.trees, case);
     // In many domains half of the cases affect no destination.
-    if wanted.is_empty() {
+    let Some(_) = wanted.first() else {
         return Ok(Passed::Nothing);
-    }
-    let (solved, searched) = searched(alloc, setting.net, setting.trees, case, &wanted)?;
+    };
+    let (solved, searched) = searched(alloc, setting.net, setting.trees, case, wanted)?;
     Ok(Passed::Listed(solved, searched))
 }
 

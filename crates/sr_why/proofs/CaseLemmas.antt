@@ -4,7 +4,7 @@ use Rattle.std.specs.Prelude.{MatchOption}
 use Rattle.std.proofs.lemmas.Option.{MatchOption-at_some}
 use Rattle.sr_model.specs.declared.case.Case.{Case}
 use Rattle.sr_model.specs.declared.repair.Answer.{Answer}
-use Rattle.sr_model.specs.Graph.{Graph, node_count}
+use Rattle.sr_model.specs.Graph.{Graph}
 use Rattle.sr_model.specs.Label.{Net}
 use Rattle.sr_model.specs.Walk.{IsRow}
 use Rattle.sr_model.specs.Case.{IsFailedSet, source_of}
@@ -19,7 +19,7 @@ pub post-over : (n m : Net) → m.graph ≡ n.graph → (case : Case) (p : Remai
 post-over n m same case p i = record {
   failed = subst (λ (g : Graph). IsFailedSet g case p.failed) (sym same) i.failed;
   row = subst (λ (g : Graph). IsRow g p.failed (source_of g case) p.cells) (sym same) i.row;
-  hops = subst (λ (g : Graph). AreKeptHops g p.failed (source_of g case) p.hops (node_count g)) (sym same) i.hops;
+  hops = subst (λ (g : Graph). AreKeptHops g p.failed (source_of g case) p.kept) (sym same) i.hops;
 }
 
 -- the answer that is found for a destination is the case's

@@ -10,7 +10,7 @@ use crate::whole::{WholeList, whole_list};
 use sr_encode::lists;
 use sr_labels::Net;
 use sr_model::{Case, NodeNo};
-use sr_post::{Post, affected_nodes};
+use sr_post::{Post, affected_set};
 use sr_spf::Trees;
 use std::alloc::{AllocError, Global};
 
@@ -31,7 +31,7 @@ pub(crate) fn least_list(
     ensures { IfOk result
         (IsLeastList net.now post.now.failed (source_of net.now.graph case) destination.0) }
 {
-    let wanted = affected_nodes(alloc, net, trees, case)?;
-    let answers = lists(alloc, net, trees, post, case, &wanted)?;
+    let wanted = affected_set(net, trees, case);
+    let answers = lists(alloc, net, trees, post, case, wanted)?;
     whole_list(alloc, answers.answer_for(destination).unwrap())
 }

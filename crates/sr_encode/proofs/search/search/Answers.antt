@@ -1,5 +1,5 @@
 use Rattle.sr_encode.proofs.QueueLemmas.{searching-short}
-use Rattle.sr_encode.proofs.ServeLemmas.{found-from}
+use Rattle.sr_encode.proofs.ServeLemmas.{resolved-from}
 use Rattle.sr_encode.proofs.search.search.Goals as goal
 
 pub by_hops-requires-clause-short : goal.by_hops-requires-clause-short
@@ -10,5 +10,5 @@ explore-requires-clause-offered c = rw c.deref.ensures.value at c.in_ok-served.e
 
 pub returns : goal.returns
 returns c =
-    found-from c.args.scene.now c.explore.new.met.queue.items c.args.wanted.now c.in_ok-served.served c.explore.new.served
+    resolved-from c.args.scene.now c.explore.new.met.queue.items c.args.wanted c.in_ok-served.served c.explore.new.served
     c.in_ok-served.ensures.tended c.in_ok-explore.ensures.later c.in_ok-explore.ensures.over

@@ -7,4 +7,4 @@ returns-clause-begun c =
     let x = c.args.spaces.now.failed in
     let s = c.args.source.0 in
     kept-begun g x s c.row.result.now c.in_ok-cells.cells.items c.in_ok-lost.lost.items c.requires.trees.graph c.requires.source c.row.ensures
-    (kept-cells g x s c.row.result.now c.in_ok-cells.cells.items c.in_ok-lost.lost.items c.keep_hops.result c.without-lost.result c.requires.trees.graph c.row.ensures.long c.keep_hops.ensures.lost c.without-lost.ensures c.in_ok-cells.ensures c.in_ok-lost.ensures)
+    (kept-cells g x s c.row.result.now c.in_ok-cells.cells.items c.in_ok-lost.lost.items c.in_ok-kept.field-0.left c.requires.trees.graph c.row.ensures.long c.in_ok-kept.ensures.lost c.in_ok-cells.ensures c.in_ok-lost.ensures)

@@ -1,27 +1,21 @@
-use Rattle.std.proofs.Common.{◌≡◌, ◌≢◌, ⊎_elim, ℕ, [], ap, sym, ◌∙◌, subst}
+use Rattle.std.proofs.Common.{◌≡◌, ◌≢◌, ℕ, [], ap, sym, ◌∙◌, subst}
 use Rattle.std.specs.Prelude.{slice_index, List}
 use Rattle.sr_lanes.specs.Bits.{is_in}
 use Rattle.sr_lanes.specs.Passes.{is_tight}
 use Rattle.sr_model.specs.declared.case.Kind.{Kind}
-use Rattle.sr_model.specs.declared.case.Kind.TheVariants.{Link as LinkKind, Node as NodeKind, Risk as RiskKind}
+use Rattle.sr_model.specs.declared.case.Kind.TheVariants.{Node as NodeKind}
 use Rattle.sr_model.specs.Case.{FailsWith}
 use Rattle.sr_model.specs.Graph.{tail, head, link_at, IsLink}
 use Rattle.sr_model.specs.Walk.{IsRow}
 use Rattle.sr_spf.specs.Trees.{row_at}
-use Rattle.sr_post.proofs.SourceLemmas.{lie-at-source}
+use Rattle.sr_post.proofs.SourceLemmas.{no-node_fails, lie-at-source}
 use Rattle.sr_post.proofs.DoubtLemmas.{sure-at_source, sure-around}
 use Rattle.sr_post.proofs.spaces.doubtful_of.Goals as goal
-
-not-link : (kind : Kind) → kind ≡ LinkKind → kind ≢ NodeKind
-not-link kind is node = cc
-
-not-risk : (kind : Kind) → kind ≡ RiskKind → kind ≢ NodeKind
-not-risk kind is node = cc
 
 pub returns-in-Link : goal.returns-in-Link
 returns-in-Link c = λ x set.
     let g = c.args.graph.now in
-    let other : c.args.case.kind ≢ NodeKind = ⊎_elim (λ is. not-link c.args.case.kind is) (λ is. not-risk c.args.case.kind is) c.in-Link.is in
+    let other : c.args.case.kind ≢ NodeKind = no-node_fails c.args.case.kind c.in-Link.is in
     sure-at_source g x (tail g c.args.case.link.0) c.none.result c.edge-edge.ensures.graph
     (lie-at-source g c.edge-edge.ensures.graph c.node_count-count.ensures.named c.args.case c.requires.case x set other)
 
