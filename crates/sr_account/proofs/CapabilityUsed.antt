@@ -36,6 +36,7 @@ use Rattle.sr_account.proofs.SearchLaw.{Decided, decided-both, decided-like, dec
 use Rattle.sr_account.proofs.PlaceLaw.{decided-before, entry-from, entry-to, search-parts}
 use Rattle.sr_account.proofs.LinkLaw.{labels-node}
 use Rattle.sr_account.proofs.ReachUsed.{node-used}
+use Rattle.sr_account.proofs.ItemLemmas.{own-is}
 
 -- ---- the first of parts that says something
 
@@ -127,9 +128,6 @@ first-in {A} f node (e ∷ es) up entry k x y there own at says before = ⊎_eli
     after rest found =
         let less : id_cmp e.0 entry.0 ≡ Less = all-of (λ (i : LspId). id_cmp e.0 i ≡ Less) (keys_of es) entry.0 (sorted_head id_cmp e.0 (keys_of es) up) (mapped-to (λ (z : LspId × Stored). z.0) es entry rest) in
         ap (λ o. option_or o (first_from f node es)) (none-earlier f node e es (place_in entry k) less before) ∙ found
-
-pub own-is : (node : ℕ) (id : LspId) → is_own node id ≡ true → (id.system ≡ node) × (id.pseudonode ≡ 0)
-own-is node id own = let b = and_parts (id.system == node) (id.pseudonode == 0) own in (eqb-true id.system node b.0, eqb-true id.pseudonode 0 b.1)
 
 -- what a part says is the first of its node where none of the node's own before it says so
 first-said : {A : Type 0} (facts : Facts) → IsInOrder facts → (f : Part → Option A) (says : Part → Type 0) → ((z : Part) (y : A) → f z ≡ Some y → says z) → (place : PartPlace) (x : Part) (y : A) → place.id.pseudonode ≡ 0 → IsPartAt facts place x → f x ≡ Some y → (IsSaidBefore says facts place → ⊥) → first_from f place.id.system facts.database ≡ Some y

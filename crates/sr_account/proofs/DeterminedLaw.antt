@@ -43,10 +43,11 @@ use Rattle.sr_account.specs.Reasons.{AdjFails, IsFirstReason, IsUnhindered, reas
 use Rattle.sr_account.specs.Asides.{AreAsides, IsTold, aside_of}
 use Rattle.sr_account.specs.Sources.{AreFlagsOf, AreSources, IsSourceOf}
 use Rattle.sr_account.specs.Filling.{no_source}
-use Rattle.sr_account.proofs.SearchLaw.{Decided, at-place, filtered-to, flat-to, place-of}
+use Rattle.sr_account.proofs.SearchLaw.{Decided, at-place, flat-to, place-of}
 use Rattle.sr_account.proofs.PlaceLaw.{before-itself, decided-id, entry-from, part-one}
 use Rattle.sr_account.proofs.ReachUsed.{IsSoundEntry, entry-sound}
 use Rattle.sr_account.proofs.AdjUsed.{label-there, sid-first, sid-least, sid-says}
+use Rattle.sr_domain.proofs.MemberLemmas.{filtered-to}
 
 -- ---- the first reason
 

@@ -32,6 +32,7 @@ use Rattle.sr_account.specs.Items.{Item, IsFactItem, IsPartAt, PartPlace, PlaceB
 use Rattle.sr_account.specs.Items.Item.{OfPart, OfAdj, OfPrefix}
 use Rattle.sr_account.specs.Steps.{adj_item, at_part, each_from, entry_items, items_of_entries, own_items, part_items, prefix_item, sid_items}
 use Rattle.sr_account.proofs.EachLemmas.{each-from, each-to}
+use Rattle.sr_domain.proofs.MemberLemmas.{filtered-from, filtered-to}
 
 -- the first item stands before the second
 abbrev pub Before : Item → Item → Type 0
@@ -273,29 +274,8 @@ own-ascend facts node up =
     items-ascend (filter (λ (e : LspId × Stored). is_own node e.0) facts.database)
     (subst (λ (ids : List LspId). IsStrictlySortedBy id_cmp ids) (sym (keys-kept (is_own node) facts.database)) (IsStrictlySortedBy-filter id_cmp (is_own node) (keys_of facts.database) up))
 
-pub kept-from : {X : Type 0} (p : X → Bool) (xs : List X) (z : X) → Contains (filter p xs) z → Contains xs z × (p z ≡ true)
-kept-from p [] z c = absurd (nowhere z c)
-kept-from {X} p (x ∷ xs) z c = by (p x) refl (λ h. kept-from p xs z h) c
-  where
-    by : (b : Bool) → p x ≡ b → (Contains (filter p xs) z → Contains xs z × (p z ≡ true)) → Contains (cond b (x ∷ filter p xs) (filter p xs)) z → Contains (x ∷ xs) z × (p z ≡ true)
-    by true e rest h = ⊎_elim
-        (λ (same : x ≡ z). (subst (λ (v : X). Contains (x ∷ xs) v) same (here x xs), subst (λ (v : X). p v ≡ true) same e))
-        (λ (r : Contains (filter p xs) z). let q = rest r in (later x xs z q.0, q.1))
-        (cases x (filter p xs) z h)
-    by false e rest h = let q = rest h in (later x xs z q.0, q.1)
-
-pub kept-to : {X : Type 0} (p : X → Bool) (xs : List X) (z : X) → Contains xs z → p z ≡ true → Contains (filter p xs) z
-kept-to p [] z c e = absurd (nowhere z c)
-kept-to {X} p (x ∷ xs) z c e = by (p x) refl (λ h. kept-to p xs z h e) (cases x xs z c)
-  where
-    by : (b : Bool) → p x ≡ b → (Contains xs z → Contains (filter p xs) z) → (x ≡ z) ⊎ Contains xs z → Contains (cond b (x ∷ filter p xs) (filter p xs)) z
-    by true f rest (inl same) = subst (λ (v : X). Contains (x ∷ filter p xs) v) same (here x (filter p xs))
-    by true f rest (inr r) = later x (filter p xs) z (rest r)
-    by false f rest (inl same) = absurd (let clash : false ≡ true = sym f ∙ ap p same ∙ e in cc)
-    by false f rest (inr r) = rest r
-
-own-parts : (node : ℕ) (id : LspId) → is_own node id ≡ true → (id.system ≡ node) × (id.pseudonode ≡ 0)
-own-parts node id e = (grind (arith, nat_tests), grind (arith, nat_tests))
+pub own-is : (node : ℕ) (id : LspId) → is_own node id ≡ true → (id.system ≡ node) × (id.pseudonode ≡ 0)
+own-is node id e = (grind (arith, nat_tests), grind (arith, nat_tests))
 
 own-test : (node : ℕ) (id : LspId) → id.system ≡ node → id.pseudonode ≡ 0 → is_own node id ≡ true
 own-test node id e f = grind (arith, nat_tests)
@@ -310,8 +290,8 @@ pub own-from : (facts : Facts) (node : ℕ) (item : Item) → IsStrictlySortedBy
 own-from facts node item up c =
     let own : List (LspId × Stored) = filter (λ (e : LspId × Stored). is_own node e.0) facts.database in
     let e = item-entry own item c in
-    let k = kept-from (λ (e : LspId × Stored). is_own node e.0) facts.database e.0 e.1 in
-    let o = own-parts node e.0.0 k.1 in
+    let k = filtered-from (λ (e : LspId × Stored). is_own node e.0) facts.database e.0 e.1 in
+    let o = own-is node e.0.0 k.1 in
     let at : (item_place item).id ≡ e.0.0 = entry-at e.0 item e.2 in
     record {
       is = item-from facts item up (entry-item facts.database e.0 item k.0 e.2);
@@ -324,6 +304,6 @@ own-to facts node item own =
     let s = item-stored facts item own.is in
     let kept : List (LspId × Stored) = filter (λ (e : LspId × Stored). is_own node e.0) facts.database in
     entry-item kept s.entry item
-    (kept-to (λ (e : LspId × Stored). is_own node e.0) facts.database s.entry s.there
+    (filtered-to (λ (e : LspId × Stored). is_own node e.0) facts.database s.entry s.there
     (own-test node s.entry.0 (ap (λ (i : LspId). i.system) s.own ∙ own.system) (ap (λ (i : LspId). i.pseudonode) s.own ∙ own.real)))
     s.within

@@ -33,8 +33,10 @@ use Rattle.sr_domain.proofs.MemberLemmas.{here, later, cases, nowhere, picked-fr
 use Rattle.sr_domain.proofs.NetLemmas.{found_as}
 use Rattle.sr_account.specs.Items.{IsPartAt, PartPlace}
 use Rattle.sr_account.specs.Laws.{IsInOrder}
-use Rattle.sr_account.proofs.SearchLaw.{at-place, filtered-from, filtered-to, flat-from, flat-to, place-of}
+use Rattle.sr_account.proofs.SearchLaw.{at-place, flat-from, flat-to, place-of}
 use Rattle.sr_account.proofs.PlaceLaw.{entry-from, entry-to, stored-there}
+use Rattle.sr_domain.proofs.MemberLemmas.{filtered-from, filtered-to}
+use Rattle.sr_domain.proofs.NetLemmas.{labelled-from, labelled-to}
 
 -- ---- announcements
 
@@ -151,20 +153,6 @@ found-to facts a there both used =
     (ap (λ (t : Bool). cond t (Some (link_of facts a)) None) used)
 
 -- ---- links of the net
-
-labelled-from : (ls : List Link) (ts : List (Option ℕ)) (x : FoundLink) → Contains (labelled ls ts) x → (i : ℕ) × (i < length ls) × (x ≡ found_as (get_or ls i no_link) (get_or ts i None))
-labelled-from [] ts x c = absurd (nowhere x c)
-labelled-from (l ∷ ls) [] x c = absurd (nowhere x c)
-labelled-from (l ∷ ls) (t ∷ ts) x c = ⊎_elim
-    (λ (same : found_as l t ≡ x). (zero, omega arith, sym same))
-    (λ (rest : Contains (labelled ls ts) x). let r = labelled-from ls ts x rest in (suc r.0, (let lt : r.0 < length ls = r.1 in omega arith), r.2))
-    (cases (found_as l t) (labelled ls ts) x c)
-
-labelled-to : (ls : List Link) (ts : List (Option ℕ)) (i : ℕ) → length ts ≡ length ls → i < length ls → Contains (labelled ls ts) (found_as (get_or ls i no_link) (get_or ts i None))
-labelled-to [] ts i long lt = absurd (omega arith)
-labelled-to (l ∷ ls) [] i long lt = absurd (omega arith)
-labelled-to (l ∷ ls) (t ∷ ts) zero long lt = here (found_as l t) (labelled ls ts)
-labelled-to (l ∷ ls) (t ∷ ts) (suc i) long lt = later (found_as l t) (labelled ls ts) (found_as (get_or ls i no_link) (get_or ts i None)) (labelled-to ls ts i (omega arith) (omega arith))
 
 -- each link of the net is found
 pub link-from : (facts : Facts) (net : Net) → IsNetOf facts net → (l : ℕ) → l < link_count net.graph → IsFoundBy facts (found_as (link_at net.graph l) (adj_at net l))

@@ -34,7 +34,7 @@ use Rattle.sr_account.proofs.SearchLaw.{Decided, at-place, decided-both, decided
 use Rattle.sr_account.proofs.PlaceLaw.{decided-before, entry-from, entry-to, part-one, search-parts}
 use Rattle.sr_account.proofs.LinkLaw.{labels-node}
 use Rattle.sr_account.proofs.ReachUsed.{node-used}
-use Rattle.sr_account.proofs.CapabilityUsed.{own-is}
+use Rattle.sr_account.proofs.ItemLemmas.{own-is}
 
 -- ---- the node's own parts
 

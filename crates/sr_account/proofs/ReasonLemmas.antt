@@ -24,8 +24,8 @@ use Rattle.sr_account.specs.Items.{PartPlace}
 use Rattle.sr_account.specs.Items.Item.{OfPart, OfAdj}
 use Rattle.sr_account.specs.Reasons.{AdjFails, HoldsFor, LspFails, ReachFails, RiskFails, reason_rank}
 use Rattle.sr_account.specs.Steps.{AnnouncementFails, IsFirstOf, IsSurvey, IsFoundReason, NoReason, ends_cmp, ends_of, has_link, names_in}
-use Rattle.sr_account.proofs.ItemLemmas.{kept-from, kept-to}
 use Rattle.sr_account.proofs.SearchLemmas.{ends-found, ends-said, is_named, linked-used, named-any, sorted-same, used-linked}
+use Rattle.sr_domain.proofs.MemberLemmas.{filtered-from, filtered-to}
 
 -- none of the reasons of a lower rank holds
 abbrev pub NoneBelow : (Reason → Type 0) → ℕ → Type 0
@@ -170,14 +170,14 @@ pub used-none : (facts : Facts) (survey : Survey) (node : ℕ) (risk : Risk) (it
 used-none facts survey node risk items s e f a c named used =
     let said = filter (has_link facts) (announcements_of facts) in
     let none : false ≡ list_any (is_named (name_of node risk)) said = f ∙ sorted-same (names_in said) survey.used.items items (same_name (name_of node risk)) s.used e ∙ named-any (name_of node risk) said in
-    let found : list_any (is_named (name_of node risk)) said ≡ true = any-from (is_named (name_of node risk)) said a (kept-to (has_link facts) (announcements_of facts) a c (used-linked facts a used)) named in
+    let found : list_any (is_named (name_of node risk)) said ≡ true = any-from (is_named (name_of node risk)) said a (filtered-to (has_link facts) (announcements_of facts) a c (used-linked facts a used)) named in
     let bad : false ≡ true = none ∙ found in cc
 
 pub used-some : (facts : Facts) (survey : Survey) (node : ℕ) (risk : Risk) (items : List RiskName) → IsSurvey facts survey → items ≡ survey.used.items → true ≡ list_any (same_name (name_of node risk)) items → RiskFails facts node risk LinkUnused → ⊥
 used-some facts survey node risk items s e f h =
     let said = filter (has_link facts) (announcements_of facts) in
     let found = any-to (is_named (name_of node risk)) said (sym (f ∙ sorted-same (names_in said) survey.used.items items (same_name (name_of node risk)) s.used e ∙ named-any (name_of node risk) said)) in
-    let kept = kept-from (has_link facts) (announcements_of facts) found.0 found.1 in
+    let kept = filtered-from (has_link facts) (announcements_of facts) found.0 found.1 in
     h found.0 kept.0 found.2 (linked-used facts found.0 kept.1)
 
 -- what is looked up of an announcement

@@ -82,25 +82,3 @@ flat-to {X} {Y} f (z ∷ xs) x y c d = ⊎_elim
     (λ (same : z ≡ x). Contains-append_left (f z) (flat_map f xs) y (subst (λ (v : X). Contains (f v) y) (sym same) d))
     (λ (rest : Contains xs x). Contains-append_right (f z) (flat_map f xs) y (flat-to f xs x y rest d))
     (cases z xs x c)
-
-pub filtered-from : {X : Type 0} (p : X → Bool) (xs : List X) (x : X) → Contains (filter p xs) x → Contains xs x × (p x ≡ true)
-filtered-from p [] x c = absurd (nowhere x c)
-filtered-from {X} p (y ∷ ys) x c = by (λ h. filtered-from p ys x h) (p y) refl c
-  where
-    by : (Contains (filter p ys) x → Contains ys x × (p x ≡ true)) → (b : Bool) → p y ≡ b → Contains (cond b (y ∷ filter p ys) (filter p ys)) x → Contains (y ∷ ys) x × (p x ≡ true)
-    by rest true e h = ⊎_elim
-        (λ (same : y ≡ x). (subst (λ (z : X). Contains (y ∷ ys) z) same (here y ys), ap p (sym same) ∙ e))
-        (λ (more : Contains (filter p ys) x). let r = rest more in (later y ys x r.0, r.1))
-        (cases y (filter p ys) x h)
-    by rest false e h = let r = rest h in (later y ys x r.0, r.1)
-
-pub filtered-to : {X : Type 0} (p : X → Bool) (xs : List X) (x : X) → Contains xs x → p x ≡ true → Contains (filter p xs) x
-filtered-to p [] x c e = absurd (nowhere x c)
-filtered-to {X} p (y ∷ ys) x c e = ⊎_elim
-    (λ (same : y ≡ x). subst (λ (b : Bool). Contains (cond b (y ∷ filter p ys) (filter p ys)) x) (sym (ap p same ∙ e)) (subst (λ (z : X). Contains (y ∷ filter p ys) z) same (here y (filter p ys))))
-    (λ (rest : Contains ys x). by (p y) (filtered-to p ys x rest e))
-    (cases y ys x c)
-  where
-    by : (b : Bool) → Contains (filter p ys) x → Contains (cond b (y ∷ filter p ys) (filter p ys)) x
-    by true h = later y (filter p ys) x h
-    by false h = h

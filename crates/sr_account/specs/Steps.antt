@@ -190,7 +190,8 @@ own_items facts node = items_of_entries (filter (λ (entry : LspId × Stored). i
 -- the index that the Prefix-SID at this place of its node's own LSPs can give the node
 abbrev pub index_offer : ℕ → ℕ → ℕ → PrefixSid → Option Offer
 index_offer fragment place k sid =
-    option_map (λ (given : NodeSid). record { index = given.index; fragment = fragment; part = place; sid = k }) (node_sid_by sid)
+    option_map (λ (given : NodeSid). record { index = given.index; fragment = fragment; part = place; sid = k })
+    (node_sid_by sid)
 
 -- the index that an item can give its node
 abbrev pub offer_of : Item → Option Offer

@@ -27,10 +27,7 @@ use Rattle.sr_adjprot.specs.Active.{adj_case, IsOwnHop, IsRedirected, IsAdjAnswe
 use Rattle.sr_adjprot.specs.Delivery.{AdjDelivers}
 use Rattle.sr_adjprot.specs.Backup.{IsReplaced}
 use Rattle.sr_adjprot.specs.Laws.{BackupsAreUnique}
-
--- an index that is there isn't missing
-some_not_none : (index : Option ℕ) → index ≡ None → is_some index ≡ true → ⊥
-some_not_none index none some = false≢true (sym (ap is_some none) ∙ some)
+use Rattle.sr_seq.proofs.ListLemmas.{none-not_some}
 
 -- the lists and stacks of one answer are the same
 repair_same : (n : Net) (l : LinkNo) (a b : RepairList) (labels more : List ℕ) → IsRedirected n l (Least a) → IsRedirected n l (Least b) → IsStack n (head n.graph l.0) a.first.0 a.segments (reverse labels) → IsStack n (head n.graph l.0) b.first.0 b.segments (reverse more) → Repair a labels ≡ Repair b more
@@ -55,11 +52,11 @@ adj-answer-one n e l Unprotected (Repair list ts) p q = absurd (false≢true (sy
 adj-answer-one n e l Unprotected (Uncovered a) p q = absurd (false≢true (sym p ∙ q.0.marked))
 adj-answer-one n e l NoIndex Unprotected p q = absurd (false≢true (sym q ∙ p.0))
 adj-answer-one n e l NoIndex NoIndex p q = refl
-adj-answer-one n e l NoIndex (Steer t c) p q = absurd (some_not_none (labels_at n (head n.graph l.0)).index p.1 q.0.index)
-adj-answer-one n e l NoIndex (Repair list ts) p q = absurd (some_not_none (labels_at n (head n.graph l.0)).index p.1 q.0.index)
-adj-answer-one n e l NoIndex (Uncovered a) p q = absurd (some_not_none (labels_at n (head n.graph l.0)).index p.1 q.0.index)
+adj-answer-one n e l NoIndex (Steer t c) p q = absurd (none-not_some (labels_at n (head n.graph l.0)).index p.1 q.0.index)
+adj-answer-one n e l NoIndex (Repair list ts) p q = absurd (none-not_some (labels_at n (head n.graph l.0)).index p.1 q.0.index)
+adj-answer-one n e l NoIndex (Uncovered a) p q = absurd (none-not_some (labels_at n (head n.graph l.0)).index p.1 q.0.index)
 adj-answer-one n e l (Steer t c) Unprotected p q = absurd (false≢true (sym q ∙ p.0.marked))
-adj-answer-one n e l (Steer t c) NoIndex p q = absurd (some_not_none (labels_at n (head n.graph l.0)).index q.1 p.0.index)
+adj-answer-one n e l (Steer t c) NoIndex p q = absurd (none-not_some (labels_at n (head n.graph l.0)).index q.1 p.0.index)
 adj-answer-one n e l (Steer t c) (Steer s d) p q =
     let labels : t ≡ s = label-same n (tail n.graph l.0) (head n.graph l.0) t s p.1.label_is q.1.label_is in
     let costs : c ≡ d = distance-unique n.graph [] (tail n.graph l.0) (head n.graph l.0) c d p.1.distance q.1.distance in
@@ -67,12 +64,12 @@ adj-answer-one n e l (Steer t c) (Steer s d) p q =
 adj-answer-one n e l (Steer t c) (Repair list ts) p q = absurd (p.1.aside q.1.hop)
 adj-answer-one n e l (Steer t c) (Uncovered a) p q = absurd (p.1.aside q.1.hop)
 adj-answer-one n e l (Repair list ts) Unprotected p q = absurd (false≢true (sym q ∙ p.0.marked))
-adj-answer-one n e l (Repair list ts) NoIndex p q = absurd (some_not_none (labels_at n (head n.graph l.0)).index q.1 p.0.index)
+adj-answer-one n e l (Repair list ts) NoIndex p q = absurd (none-not_some (labels_at n (head n.graph l.0)).index q.1 p.0.index)
 adj-answer-one n e l (Repair list ts) (Steer t c) p q = absurd (q.1.aside p.1.hop)
 adj-answer-one n e l (Repair list ts) (Repair other us) p q = repair_same n l list other ts us p.1 q.1 p.2 q.2
 adj-answer-one n e l (Repair list ts) (Uncovered a) p q = absurd (not_list n l list a p.1 q.1 q.2)
 adj-answer-one n e l (Uncovered a) Unprotected p q = absurd (false≢true (sym q ∙ p.0.marked))
-adj-answer-one n e l (Uncovered a) NoIndex p q = absurd (some_not_none (labels_at n (head n.graph l.0)).index q.1 p.0.index)
+adj-answer-one n e l (Uncovered a) NoIndex p q = absurd (none-not_some (labels_at n (head n.graph l.0)).index q.1 p.0.index)
 adj-answer-one n e l (Uncovered a) (Steer t c) p q = absurd (q.1.aside p.1.hop)
 adj-answer-one n e l (Uncovered a) (Repair list ts) p q = absurd (not_list n l list a q.1 p.1 p.2)
 adj-answer-one n e l (Uncovered a) (Uncovered b) p q = ap Uncovered (case-answer-one n (adj_case l) (head n.graph l.0) a b p.1.answer_is q.1.answer_is)

@@ -35,30 +35,10 @@ use Rattle.sr_domain.proofs.NetLemmas.{found_as}
 use Rattle.sr_adjprot.specs.declared.protected.Flagged.{Flagged}
 use Rattle.sr_adjprot.specs.Eligible.{AnnouncesReach, IsEligible}
 use Rattle.sr_adjprot.specs.Protected.{if_used, flagged, flagged_by, flagged_in, flagged_of, if_protected, protected_of}
+use Rattle.sr_domain.proofs.MemberLemmas.{filtered-from, filtered-to}
+use Rattle.sr_domain.proofs.NetLemmas.{labelled-from, labelled-to}
 
 -- ---- what a filter keeps
-
-filtered-from : {X : Type 0} (p : X → Bool) (xs : List X) (x : X) → Contains (filter p xs) x → Contains xs x × (p x ≡ true)
-filtered-from p [] x c = absurd (nowhere x c)
-filtered-from {X} p (y ∷ ys) x c = by (λ h. filtered-from p ys x h) (p y) refl c
-  where
-    by : (Contains (filter p ys) x → Contains ys x × (p x ≡ true)) → (b : Bool) → p y ≡ b → Contains (cond b (y ∷ filter p ys) (filter p ys)) x → Contains (y ∷ ys) x × (p x ≡ true)
-    by rest true e h = ⊎_elim
-        (λ (same : y ≡ x). (subst (λ (z : X). Contains (y ∷ ys) z) same (here y ys), ap p (sym same) ∙ e))
-        (λ (more : Contains (filter p ys) x). let r = rest more in (later y ys x r.0, r.1))
-        (cases y (filter p ys) x h)
-    by rest false e h = let r = rest h in (later y ys x r.0, r.1)
-
-filtered-to : {X : Type 0} (p : X → Bool) (xs : List X) (x : X) → Contains xs x → p x ≡ true → Contains (filter p xs) x
-filtered-to p [] x c e = absurd (nowhere x c)
-filtered-to {X} p (y ∷ ys) x c e = ⊎_elim
-    (λ (same : y ≡ x). subst (λ (b : Bool). Contains (cond b (y ∷ filter p ys) (filter p ys)) x) (sym (ap p same ∙ e)) (subst (λ (z : X). Contains (y ∷ filter p ys) z) same (here y (filter p ys))))
-    (λ (rest : Contains ys x). by (p y) (filtered-to p ys x rest e))
-    (cases y ys x c)
-  where
-    by : (b : Bool) → Contains (filter p ys) x → Contains (cond b (y ∷ filter p ys) (filter p ys)) x
-    by true h = later y (filter p ys) x h
-    by false h = h
 
 -- ---- keys
 
@@ -107,20 +87,6 @@ announced-to facts (x ∷ es) entry part a c has e = ⊎_elim
     mine = subst (λ (b : Bool). Contains (cond b (filter_map (announced_by entry.0.system) (parts_of entry.1.live)) []) a) (sym has.counted) (picked-to (announced_by entry.0.system) (parts_of entry.1.live) part a has.part_is e)
 
 -- ---- the links of the net
-
-labelled-from : (ls : List Link) (ts : List (Option ℕ)) (x : FoundLink) → Contains (labelled ls ts) x → (i : ℕ) × (i < length ls) × (x ≡ found_as (get_or ls i no_link) (get_or ts i None))
-labelled-from [] ts x c = absurd (nowhere x c)
-labelled-from (l ∷ ls) [] x c = absurd (nowhere x c)
-labelled-from (l ∷ ls) (t ∷ ts) x c = ⊎_elim
-    (λ (same : found_as l t ≡ x). (zero, omega arith, sym same))
-    (λ (rest : Contains (labelled ls ts) x). let r = labelled-from ls ts x rest in (suc r.0, (let lt : r.0 < length ls = r.1 in omega arith), r.2))
-    (cases (found_as l t) (labelled ls ts) x c)
-
-labelled-to : (ls : List Link) (ts : List (Option ℕ)) (i : ℕ) → length ts ≡ length ls → i < length ls → Contains (labelled ls ts) (found_as (get_or ls i no_link) (get_or ts i None))
-labelled-to [] ts i long lt = absurd (omega arith)
-labelled-to (l ∷ ls) [] i long lt = absurd (omega arith)
-labelled-to (l ∷ ls) (t ∷ ts) zero long lt = here (found_as l t) (labelled ls ts)
-labelled-to (l ∷ ls) (t ∷ ts) (suc i) long lt = later (found_as l t) (labelled ls ts) (found_as (get_or ls i no_link) (get_or ts i None)) (labelled-to ls ts i (omega arith) (omega arith))
 
 link-key : (facts : Facts) (a : Announcement) (x : FoundLink) → link_by facts a ≡ Some x → a.key ≡ x.key
 link-key facts a x e = by (is_in_use facts a) e

@@ -13,9 +13,3 @@ get-append (y ∷ xs) ys (suc k) x e = ⊎_elim
     (λ h. inl (omega (arith, h.0), h.1))
     (λ h. inr (h.0, omega (arith, h.1), h.2))
     (get-append xs ys k x e)
-
--- an item of the second list
-pub get-right : {X : Type 0} (xs ys : List X) (j k : ℕ) (x : X) → k ≡ length xs + j → slice_get ys j ≡ Some x → slice_get (xs ++ ys) k ≡ Some x
-get-right [] ys j k x at e = let same : j ≡ k = omega (arith, at) in subst (λ i. slice_get ys i ≡ Some x) same e
-get-right (y ∷ xs) ys j zero x at e = absurd (omega (arith, at))
-get-right (y ∷ xs) ys j (suc k) x at e = get-right xs ys j k x (omega (arith, at)) e

@@ -13,8 +13,8 @@ use Rattle.sr_model.specs.Audit.{rank_of, CaseLt, ItemLt, IsItem, IsAudit}
 use Rattle.sr_repair.specs.Answers.{place_of, case_count}
 use Rattle.sr_repair.proofs.PlaceLemmas.{place-one}
 use Rattle.sr_audit.specs.Cases.{HasItem, AreBetween, IsAuditAt, AreAuditsAt}
-use Rattle.sr_audit.proofs.AppendLemmas.{IsIn, get-append, get-right}
-use Rattle.sr_spf.proofs.HopsLemmas.{get_left}
+use Rattle.sr_audit.proofs.AppendLemmas.{IsIn, get-append}
+use Rattle.sr_seq.proofs.ListLemmas.{get-left, get-right}
 
 -- of two ranks and numbers below k, what stands at the lower place has the lower rank, or the same and the lower number
 rank-lt : (k : ℕ) (a b : Kind) (i j : ℕ) → i < k → j < k → rank_of a * k + i < rank_of b * k + j → (rank_of a < rank_of b) ⊎ ((a ≡ b) × (i < j))
@@ -87,7 +87,7 @@ module _ (n : Net) (m k l : ℕ) (items more : List Item) (up : m ≤ k) (on : k
 
   -- what the first list has
   has-left : (case : Case) (d : ℕ) → HasItem items case d → HasItem (items ++ more) case d
-  has-left case d h = (h.0, h.1, get_left items more h.0 h.1 h.2, h.3, h.4)
+  has-left case d h = (h.0, h.1, get-left items more h.0 h.1 h.2, h.3, h.4)
 
   -- what the second list has
   has-right : (case : Case) (d : ℕ) → HasItem more case d → HasItem (items ++ more) case d

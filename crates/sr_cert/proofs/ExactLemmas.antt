@@ -11,6 +11,7 @@ use Rattle.sr_walks.proofs.Rows.{row-stable}
 use Rattle.sr_walks.proofs.Distinct.{distance-small}
 use Rattle.sr_cert.specs.Rows.{Heading, From, To, IsRowTo}
 use Rattle.sr_cert.specs.Settled.{base, far_end, Serves, offer_at, Reaches, AreToldByLinks, IsExactWithout}
+use Rattle.sr_seq.proofs.ListLemmas.{last-cut}
 
 module _ (g : Graph) (x : List Bool) (h : Heading) (cells : List ℕ) (settled : AreToldByLinks g x h cells) where
   -- the cell of the row's own node is 0
@@ -153,15 +154,6 @@ own-exact g x u c cell =
     (λ far. absurd (cell.far far [] refl))
     (cases_lt c FAR)
 
--- a list is empty, or has a last element
-ends_in : (p : List ℕ) → (p ≡ []) ⊎ ((q : List ℕ) × (l : ℕ) × (p ≡ q ++ l ∷ []))
-ends_in [] = inl refl
-ends_in (k ∷ p) =
-    ⊎_elim
-    (λ (e : p ≡ []). inr ([], k, rw e refl))
-    (λ r. inr (k ∷ r.0, r.1, ap (λ q. k ∷ q) r.2))
-    (ends_in p)
-
 -- a row from a node u that is exact
 module _ (g : Graph) (graph : IsGraph g) (x : List Bool) (u : ℕ) (cells : List ℕ) (row : IsRow g x u cells) where
   last-met : (w c : ℕ) (q : List ℕ) (l : ℕ) → c < FAR → IsDistance g x u w c → IsWalk g x u (q ++ l ∷ []) w → cost g (q ++ l ∷ []) ≡ c → (k : ℕ) × Reaches g (From u) w k × Serves g x (From u) k × (offer_at g (From u) cells k ≡ c)
@@ -180,7 +172,7 @@ module _ (g : Graph) (graph : IsGraph g) (x : List Bool) (u : ℕ) (cells : List
       ⊎_elim
       (λ e. absurd (ne (let here : u ≡ w = subst (λ p. IsWalk g x u p w) e d.reached.1 in sym here)))
       (λ r. last-met w c r.0 r.1 near d (subst (λ p. IsWalk g x u p w) r.2 d.reached.1) (sym (ap (λ p. cost g p) r.2) ∙ d.reached.2))
-      (ends_in d.reached.0)
+      (last-cut d.reached.0)
 
   from-settled : AreToldByLinks g x (From u) cells
   from-settled w within =

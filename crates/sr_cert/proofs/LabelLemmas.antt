@@ -15,18 +15,12 @@ use Rattle.sr_cert.specs.Clauses.{AreUsable}
 use Rattle.sr_cert.specs.Walked.{AreSegmentsWithin, last_segment}
 use Rattle.sr_cert.proofs.WalkedLemmas.{drop-segment, drop-all}
 use Rattle.sr_repair.proofs.StackLemmas.{have-cons}
+use Rattle.sr_laws.proofs.Stacks.{labels-count}
 
 -- a segment has one label at a node
 pub segment-label-one : (n : Net) (u : ℕ) (s : Segment) (a b : ℕ) → IsSegmentLabel n u s a → IsSegmentLabel n u s b → a ≡ b
 segment-label-one n u (Node v) a b p q = label-same n u v.0 a b p q
 segment-label-one n u (Adj l) a b p q = same_Some _ _ (sym p ∙ q)
-
--- there is a label for each segment
-labels-count : (n : Net) (u : ℕ) (ss : List Segment) (ts : List ℕ) → IsLabels n u ss ts → length ts ≡ length ss
-labels-count n u [] ts a = ap length a
-labels-count n u (s ∷ ss) [] a = absurd a
-labels-count n u (Node v ∷ ss) (t ∷ ts) a = ap suc (labels-count n v.0 ss ts a.1)
-labels-count n u (Adj l ∷ ss) (t ∷ ts) a = ap suc (labels-count n (head n.graph l.0) ss ts a.1)
 
 pub labels-length : (n : Net) (u : ℕ) (ss : List Segment) (d : NodeNo) (labels : List ℕ) → IsLabels n u (ss ++ last_segment d ∷ []) (reverse labels) → length labels ≡ length ss + 1
 labels-length n u ss d labels a = omega (arith, labels-count n u (ss ++ last_segment d ∷ []) (reverse labels) a, length-reverse labels, length-append ss (last_segment d ∷ []))

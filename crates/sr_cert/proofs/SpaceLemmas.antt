@@ -41,10 +41,6 @@ module _ (g : Graph) (u v : ℕ) (ends : v < node_count g) (from : List ℕ) (a 
 pub on-carries : (g : Graph) (u v l : ℕ) → OnShortest g [] u v l → (carries g u (tail g l) ≡ true) × (carries g v (head g l) ≡ true)
 on-carries g u v l on = OnShortest-carries g [] u v l on
 
--- a failed link on a shortest walk keeps the node out
-pub one-out : (g : Graph) (x : List Bool) (links : List LinkNo) (u v i : ℕ) → AreMembers x links → i < length links → OnShortest g [] u v (number_at links i) → InP g x u v → ⊥
-one-out g x links u v i members lt on inside = none-from_InP g x u v (number_at links i) inside (members.each i lt) on
-
 -- a number in the set is one of its tests
 pub member-within : (x : List Bool) (links : List LinkNo) (i : ℕ) → AreMembers x links → i < length links → number_at links i < length x
 member-within x links i members lt =

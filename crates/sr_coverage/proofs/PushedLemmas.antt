@@ -21,10 +21,11 @@ use Rattle.sr_model.specs.Repair.{IsCaseAnswer}
 use Rattle.sr_model.specs.Rule.{IsNet}
 use Rattle.sr_insight.specs.declared.stack_count.StackCount.{StackCount}
 use Rattle.sr_insight.specs.Stacks.{pushes, AreStackCounts}
-use Rattle.sr_audit.proofs.AppendLemmas.{get-append, get-right}
+use Rattle.sr_audit.proofs.AppendLemmas.{get-append}
 use Rattle.sr_coverage.proofs.PushesLemmas.{pushes-from, pushes-least, pushes-rank, pushes-many}
 use Rattle.sr_coverage.specs.Pushed.{IsWide, AreNarrow, pushed_slot, AreTallied, row_slot, AreRowsOf}
-use Rattle.sr_spf.proofs.HopsLemmas.{get_left}
+use Rattle.sr_seq.proofs.ListLemmas.{get-left, get-right}
+use Rattle.sr_laws.proofs.Stacks.{labels-count}
 
 -- a slot of the table
 pub slot-within : (w : ℕ) (kind : Kind) (labels : ℕ) → labels < w → pushed_slot w kind labels < 3 * w
@@ -58,13 +59,6 @@ slot-before w NodeKind RiskKind i j li lj lt = inl (omega arith)
 slot-before w RiskKind LinkKind i j li lj lt = absurd (omega arith)
 slot-before w RiskKind NodeKind i j li lj lt = absurd (omega arith)
 slot-before w RiskKind RiskKind i j li lj lt = inr (refl, omega arith)
-
--- each segment has one label
-labels-count : (n : Net) (u : ℕ) (ss : List Segment) (ts : List ℕ) → IsLabels n u ss ts → length ts ≡ length ss
-labels-count n u [] ts is = ap length is
-labels-count n u (s ∷ ss) [] is = absurd is
-labels-count n u (Node v ∷ ss) (t ∷ ts) is = omega (arith, labels-count n v.0 ss ts is.1)
-labels-count n u (Adj l ∷ ss) (t ∷ ts) is = omega (arith, labels-count n (head n.graph l.0) ss ts is.1)
 
 -- a list pushes at most one label more than it has segments
 stack-few : (n : Net) (d first : ℕ) (ss : List Segment) (labels : List ℕ) → IsStack n d first ss labels → length labels ≤ length ss + 1
@@ -192,7 +186,7 @@ rows-push w table m rows row few at is some are = record {
       (last-or rows row j a ea))
       (last-or rows row k b eb);
   all = λ slot lt here. ⊎_elim
-      (λ (low : slot < m). let old = are.all slot low here in (old.0, old.1, get_left rows (row ∷ []) old.0 old.1 old.2, old.3))
+      (λ (low : slot < m). let old = are.all slot low here in (old.0, old.1, get-left rows (row ∷ []) old.0 old.1 old.2, old.3))
       (λ (high : m ≤ slot). (length rows, row, get-right rows (row ∷ []) 0 (length rows) row (omega arith) refl, omega (arith, high, lt, at)))
       (cases_lt slot m);
 }

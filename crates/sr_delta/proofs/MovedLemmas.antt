@@ -4,8 +4,8 @@ use Rattle.std.specs.Prelude.{slice_get}
 use Rattle.std.proofs.lemmas.List.{length_push}
 use Rattle.sr_model.specs.Graph.{Graph}
 use Rattle.sr_lanes.specs.declared.words.NodeBits.{NodeBits}
-use Rattle.sr_spf.proofs.HopsLemmas.{get_push}
 use Rattle.sr_delta.specs.Moved.{AreMoved, IsMovedFrom}
+use Rattle.sr_seq.proofs.ListLemmas.{get-push}
 
 pub moved-none : (g h : Graph) → AreMoved g h [] 0
 moved-none g h = record { long = refl; each = λ u set is. absurd {0} (cc) }
@@ -19,5 +19,5 @@ moved-more g h sets n set are one = record {
       (λ last.
       let at : u ≡ n = omega (arith, last.0, are.long) in
       subst (λ k. IsMovedFrom g h k other) (sym at) (subst (λ (k : NodeBits). IsMovedFrom g h n k) last.1 one))
-      (get_push sets set u other is);
+      (get-push sets set u other is);
 }

@@ -52,7 +52,14 @@ impl Changes {
     ) -> Changes
         requires { AreWithin nodes links.items }
         ensures { result
-            ≡ record { nodes = nodes; same = same; links = links.items; partners = partners.items; origins = origins.items; alike = alike } }
+            ≡ record {
+              nodes = nodes;
+              same = same;
+              links = links.items;
+              partners = partners.items;
+              origins = origins.items;
+              alike = alike;
+            } }
     {
         Changes {
             nodes,

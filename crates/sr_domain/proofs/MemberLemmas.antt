@@ -1,5 +1,5 @@
 -- What a list contains, and what its maps contain.
-use Rattle.std.proofs.Common.{◌≡◌, ℕ, zero, suc, ◌<◌, ◌⊎◌, inl, inr, ⊎_elim, List, [], ◌∷◌, map, length, get_or, refl, arith, ap, sym, ◌∙◌, subst, Option, Some, None}
+use Rattle.std.proofs.Common.{◌≡◌, ℕ, zero, suc, ◌<◌, ◌⊎◌, inl, inr, ⊎_elim, List, [], ◌∷◌, map, length, get_or, refl, arith, ap, sym, ◌∙◌, subst, Option, Some, None, Bool, true, false, cond, filter}
 use Rattle.std.specs.Prelude.{Contains}
 use Rattle.std.specs.List.{filter_map, cons_option, AllByRecursion}
 use Rattle.std.proofs.lemmas.List.Elements.{All-from_recursion, All-contains}
@@ -58,3 +58,26 @@ picked-to {X} {Y} f (z ∷ xs) x y c e = ⊎_elim
     (λ (same : z ≡ x). subst (λ (o : Option Y). Contains (cons_option o (filter_map f xs)) y) (sym (ap f same ∙ e)) (here y (filter_map f xs)))
     (λ (rest : Contains xs x). kept_by y (filter_map f xs) (f z) (picked-to f xs x y rest e))
     (cases z xs x c)
+
+-- a filter keeps what is there and passes the test
+pub filtered-from : {X : Type 0} (p : X → Bool) (xs : List X) (x : X) → Contains (filter p xs) x → Contains xs x × (p x ≡ true)
+filtered-from p [] x c = absurd (nowhere x c)
+filtered-from {X} p (y ∷ ys) x c = by (λ h. filtered-from p ys x h) (p y) refl c
+  where
+    by : (Contains (filter p ys) x → Contains ys x × (p x ≡ true)) → (b : Bool) → p y ≡ b → Contains (cond b (y ∷ filter p ys) (filter p ys)) x → Contains (y ∷ ys) x × (p x ≡ true)
+    by rest true e h = ⊎_elim
+        (λ (same : y ≡ x). (subst (λ (z : X). Contains (y ∷ ys) z) same (here y ys), ap p (sym same) ∙ e))
+        (λ (more : Contains (filter p ys) x). let r = rest more in (later y ys x r.0, r.1))
+        (cases y (filter p ys) x h)
+    by rest false e h = let r = rest h in (later y ys x r.0, r.1)
+
+pub filtered-to : {X : Type 0} (p : X → Bool) (xs : List X) (x : X) → Contains xs x → p x ≡ true → Contains (filter p xs) x
+filtered-to p [] x c e = absurd (nowhere x c)
+filtered-to {X} p (y ∷ ys) x c e = ⊎_elim
+    (λ (same : y ≡ x). subst (λ (b : Bool). Contains (cond b (y ∷ filter p ys) (filter p ys)) x) (sym (ap p same ∙ e)) (subst (λ (z : X). Contains (y ∷ filter p ys) z) same (here y (filter p ys))))
+    (λ (rest : Contains ys x). by (p y) (filtered-to p ys x rest e))
+    (cases y ys x c)
+  where
+    by : (b : Bool) → Contains (filter p ys) x → Contains (cond b (y ∷ filter p ys) (filter p ys)) x
+    by true h = later y (filter p ys) x h
+    by false h = h

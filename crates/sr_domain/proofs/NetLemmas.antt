@@ -1,5 +1,5 @@
 -- The net of a graph and its labels is accepted, and is that of the facts.
-use Rattle.std.proofs.Common.{◌≡◌, ℕ, zero, suc, ◌+◌, ◌<◌, ◌≤◌, Bool, true, false, cond, ◌||◌, List, [], ◌∷◌, map, length, get_or, refl, arith, ap, sym, ◌∙◌, subst, Option, Some, None}
+use Rattle.std.proofs.Common.{◌≡◌, ℕ, zero, suc, ◌+◌, ◌<◌, ◌≤◌, Bool, true, false, cond, ◌||◌, List, [], ◌∷◌, map, length, get_or, refl, arith, ap, sym, ◌∙◌, subst, Option, Some, None, ⊎_elim}
 use Rattle.std.specs.Prelude.{Contains, slice_get}
 use Rattle.std.specs.Option.{option_map}
 use Rattle.std.specs.List.{filter_map, cons_option, list_any}
@@ -32,7 +32,7 @@ use Rattle.sr_domain.specs.Links.{links_of, link_by, link_of, is_in_use, labelle
 use Rattle.sr_domain.specs.Rules.{AreKept}
 use Rattle.sr_domain.specs.Steps.{IsGraphOf}
 use Rattle.sr_domain.specs.Net.{IsNetOf}
-use Rattle.sr_domain.proofs.MemberLemmas.{here, later, picked-from}
+use Rattle.sr_domain.proofs.MemberLemmas.{here, later, picked-from, nowhere, cases}
 use Rattle.sr_domain.proofs.PlacesLemmas.{place-at}
 use Rattle.sr_domain.proofs.AdjLemmas.{clash-moved}
 
@@ -43,6 +43,21 @@ first-same x y xs ys e = (cc, cc)
 -- a link of a graph with its label, as it was found
 abbrev pub found_as : Link → Option ℕ → FoundLink
 found_as link label = record { key = link.key; metric = link.metric; label = label }
+
+-- the links with their labels, one by one
+pub labelled-from : (ls : List Link) (ts : List (Option ℕ)) (x : FoundLink) → Contains (labelled ls ts) x → (i : ℕ) × (i < length ls) × (x ≡ found_as (get_or ls i no_link) (get_or ts i None))
+labelled-from [] ts x c = absurd (nowhere x c)
+labelled-from (l ∷ ls) [] x c = absurd (nowhere x c)
+labelled-from (l ∷ ls) (t ∷ ts) x c = ⊎_elim
+    (λ (same : found_as l t ≡ x). (zero, omega arith, sym same))
+    (λ (rest : Contains (labelled ls ts) x). let r = labelled-from ls ts x rest in (suc r.0, (let lt : r.0 < length ls = r.1 in omega arith), r.2))
+    (cases (found_as l t) (labelled ls ts) x c)
+
+pub labelled-to : (ls : List Link) (ts : List (Option ℕ)) (i : ℕ) → length ts ≡ length ls → i < length ls → Contains (labelled ls ts) (found_as (get_or ls i no_link) (get_or ts i None))
+labelled-to [] ts i long lt = absurd (omega arith)
+labelled-to (l ∷ ls) [] i long lt = absurd (omega arith)
+labelled-to (l ∷ ls) (t ∷ ts) zero long lt = here (found_as l t) (labelled ls ts)
+labelled-to (l ∷ ls) (t ∷ ts) (suc i) long lt = later (found_as l t) (labelled ls ts) (found_as (get_or ls i no_link) (get_or ts i None)) (labelled-to ls ts i (omega arith) (omega arith))
 
 -- the adjacency labels of the graph are those of its links as they were found
 adj-made : (nodes : List ℕ) (ls : List Link) (fs : List FoundLink) → length fs ≡ length ls → labelled ls (map link_label fs) ≡ fs → ((i : ℕ) → i < length ls → place_in nodes (get_or ls i no_link).key.from ≡ (get_or ls i no_link).from.0) → adj_labels_of ls (map link_label fs) ≡ filter_map (adj_label_by nodes) fs

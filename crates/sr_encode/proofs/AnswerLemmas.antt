@@ -27,15 +27,11 @@ use Rattle.sr_encode.specs.declared.kept.Outcome.TheVariants.{Least as ListOutco
 use Rattle.sr_encode.specs.declared.kept.Kept.{Kept}
 use Rattle.sr_encode.specs.Kept.{outcome_at, answer_from, entry_from, entries, HasSegments, AreKeptWithin}
 use Rattle.sr_encode.specs.Answered.{node_answer_at, destination_at, AscendByNode, AreAffected, AreAnswers, AreAnswered}
+use Rattle.sr_seq.proofs.ListLemmas.{none-not_some}
 
 -- what stands for an entry past the end of a list
 abbrev pub no_entry : NodeAnswer
 no_entry = record { destination = record { 0 = 0 }; answer = NoPath }
-
--- what is affected is a node
-none_index : (o : Option ℕ) → o ≡ None → is_some o ≡ true → ⊥
-none_index None e is = let z : false ≡ true = is in absurd (cc)
-none_index (Some k) e is = absurd (cc)
 
 pub affected-within : (n : Net) (case : Case) (d : ℕ) → length n.labels ≡ node_count n.graph → IsAffected n case d → d < node_count n.graph
 affected-within n case d long a =
@@ -43,7 +39,7 @@ affected-within n case d long a =
     (λ (lt : d < node_count n.graph). lt)
     (λ (ge : node_count n.graph ≤ d).
     let past : labels_at n d ≡ nameless = get_or_past n.labels d nameless (omega arith) in
-    absurd (none_index (labels_at n d).index (ap (λ (k : Labels). k.index) past) a.index))
+    absurd (none-not_some (labels_at n d).index (ap (λ (k : Labels). k.index) past) a.index))
     (cases_lt d (node_count n.graph))
 
 -- the destinations of the set that aren't left are answered, ascending, and those that are left come behind them

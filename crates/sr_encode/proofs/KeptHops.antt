@@ -96,9 +96,3 @@ module _ (n : Net) (x : List Bool) (s d : ℕ) where
       λ j same.
       let is : k ≡ j = cc in
       subst (λ i. (i < length queue) × IsLeast n x s d (path_to queue i)) is (within, there)
-
-  -- and the distance of d stays
-  pub cost-from_hop : (l c : ℕ) → IsKeptHop n.graph x s d l → IsDistance n.graph [] s d c → IsDistance n.graph x s d c
-  cost-from_hop l c hop before =
-      let same : metric n.graph l + cost n.graph hop.leads.hop.more ≡ c = distance-unique n.graph [] s d _ _ (distance-from_shortest n.graph [] s d (l ∷ hop.leads.hop.more) hop.leads.hop.shortest) before in
-      subst (λ k. IsDistance n.graph x s d k) same (distance-stays l hop.leads)

@@ -15,7 +15,8 @@ use Rattle.sr_encode.specs.Waypoints.{waypoint_at, waypoint_node, path_to, met_f
 
 -- the segments by number: the nodes first, then the links
 abbrev pub segment_numbered : Graph → ℕ → Segment
-segment_numbered g k = if nat_lt k (node_count g) then Node (record { 0 = k }) else Adj (record { 0 = k - node_count g })
+segment_numbered g k =
+    if nat_lt k (node_count g) then Node (record { 0 = k }) else Adj (record { 0 = k - node_count g })
 
 -- how many segments there are
 abbrev pub key_count : Graph → ℕ

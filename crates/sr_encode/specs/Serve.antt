@@ -13,7 +13,7 @@ use Rattle.sr_encode.specs.declared.served.Served.{Served}
 use Rattle.sr_encode.specs.Waypoints.{waypoint_at, waypoint_node, path_to, AreParents}
 use Rattle.sr_encode.specs.Aftermath.{Aftermath}
 use Rattle.sr_post.specs.declared.kept.HopNodes.{HopNodes}
-use Rattle.sr_post.specs.Kept.{IsKeptHop}
+use Rattle.sr_post.specs.Kept.{IsSharedHop}
 
 -- lists to w can end there towards d: w is d or isn't overloaded, has d in its P, and keeps to the distances from the
 -- source as far as d
@@ -51,8 +51,7 @@ IsServedBy n x s queue d place = (k : ℕ) → place ≡ Some k → (k < length 
 
 -- the link is the least that leads from the source in spite of the failed links towards each node that stands with it
 abbrev pub IsHopOf : Aftermath → HopNodes → Type 0
-IsHopOf after kept =
-    (v : ℕ) → is_in kept.nodes v ≡ true → IsKeptHop after.net.graph after.failed after.source v kept.hop.0
+IsHopOf after kept = IsSharedHop after.net.graph after.failed after.source kept
 
 -- so it is with each link of the list
 abbrev pub AreHopsOf : Aftermath → List HopNodes → Type 0

@@ -11,11 +11,7 @@ use Rattle.std.proofs.lemmas.List.{take-append-drop, get_or-drop, get_or-take, l
 use Rattle.std.proofs.lemmas.List.Sorted.{sorted_far, ranks_by}
 use Rattle.std.proofs.lemmas.List.Sums.{sum_by-cons, sum_by-append, count_by_more_yes}
 use Rattle.std.proofs.lemmas.Bool.{cases_eq}
-
-is_eq-true : (r : Ordering) → is_eq r ≡ true → r ≡ Equal
-is_eq-true Less e = absurd (cc)
-is_eq-true Equal e = refl
-is_eq-true Greater e = absurd (cc)
+use Rattle.sr_model.proofs.KeyOrderLemmas.{is_eq-true}
 
 equal-from : (r : Ordering) → r ≢ Less → is_lt (ordering_reverse r) ≡ false → r ≡ Equal
 equal-from Less n e = absurd (n refl)

@@ -12,6 +12,7 @@ use Rattle.sr_model.specs.Case.{key_at}
 use Rattle.sr_model.specs.Label.{Labels}
 use Rattle.sr_model.specs.Rule.{AreAnnounced, IsAccepted, IsFirstBroken, adj_labels_of}
 use Rattle.sr_labels.specs.Rules.{HaveSrgbs}
+use Rattle.sr_labels.proofs.NetLemmas.{none-listed}
 
 -- what stands for a key past the end
 abbrev pub no_key : LinkKey
@@ -52,12 +53,6 @@ keys-announced g n keys named k all = record {
   holds = λ l lt.
       (l, slice_get-get_or keys l no_key (omega (arith, k.long, all)) ∙ ap Some (k.each l (omega (arith, all))));
 }
-
--- links without adjacency labels have none to list
-none-listed : (links : List Link) (n : ℕ) → adj_labels_of links (replicate n None) ≡ []
-none-listed [] n = refl
-none-listed (k ∷ links) zero = refl
-none-listed (k ∷ links) (suc n) = none-listed links n
 
 -- what is left to know of such a net
 pub record AreAcceptable (g : Graph) (nodes : List Labels) (keys : List LinkKey) (depth : ℕ) : Type 0 where

@@ -23,7 +23,8 @@ pub record AreStackCounts (items : List Item) (counts : List StackCount) : Type 
   pub ascending : (j k : ℕ) (a b : StackCount) → j < k → slice_get counts j ≡ Some a → slice_get counts k ≡ Some b
       → StackBefore a b
   pub all : (n : ℕ) (item : Item) → slice_get items n ≡ Some item → is_least item.answer ≡ true
-      → (k : ℕ) × (count : StackCount) × (slice_get counts k ≡ Some count) × (pushes count.kind count.labels item ≡ true)
+      → (k : ℕ) × (count : StackCount) × (slice_get counts k ≡ Some count)
+      × (pushes count.kind count.labels item ≡ true)
 
 -- those of the audit of a net
 pub record HasStackCounts (n : Net) (counts : List StackCount) : Type 0 where

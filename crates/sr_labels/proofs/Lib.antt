@@ -1,5 +1,5 @@
 pub mod RangeLoops
-mod NetLemmas
+pub mod NetLemmas
 mod KeyPlaces
 pub mod Places
 pub mod IndexLists

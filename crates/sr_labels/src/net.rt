@@ -107,7 +107,6 @@ impl Net {
     }
 
     /// What the node announces.
-    #[tactic(auto, using(crate::proofs::NetLemmas::accepted_is_net))]
     pub fn labels(&self, node: NodeNo) -> &NodeLabels
         requires { node.0 < node_count self.now.graph }
         ensures value { result.now ≡ labels_at self.now node.0 }
@@ -125,7 +124,6 @@ impl Net {
     }
 
     /// The label of the link's adjacency segment, where it has one.
-    #[tactic(auto, using(crate::proofs::NetLemmas::accepted_is_net))]
     pub fn adj(&self, link: LinkNo) -> Option<u32>
         requires { link.0 < link_count self.now.graph }
         ensures value { result ≡ adj_at self.now link.0 }

@@ -18,7 +18,7 @@ count_below-same test other (suc n) all =
     rw (before, all n (omega arith)) refl
 
 -- a test that says no where another says yes, and is the same elsewhere, says yes less often
-count_below-less : (test less : ℕ → Bool) (n v : ℕ) → v < n → test v ≡ true → less v ≡ false → ((k : ℕ) → k ≢ v
+pub count_below-less : (test less : ℕ → Bool) (n v : ℕ) → v < n → test v ≡ true → less v ≡ false → ((k : ℕ) → k ≢ v
     → less k ≡ test k) → count_below less n < count_below test n
 unfolding count_below
 count_below-less test less zero v lt was gone all = absurd (omega arith)

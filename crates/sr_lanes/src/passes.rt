@@ -28,8 +28,7 @@ pub fn tight(row: &[u64], cost: u64, base: &[u64]) -> NodeBits
 #[inline(always)]
 fn tight_in_word(row: &[u64], cost: u64, base: &[u64], from: usize, among: u64) -> u64
     requires lengths { length base.now ≡ length row.now }
-    requires cost { cost ≤ CELL_AT_MOST }
-    requires base { AreCells base.now }
+    requires cells { (cost ≤ CELL_AT_MOST) × AreCells base.now }
     requires from { from + A_WORD ≤ NODES_AT_MOST }
     requires among { (i : ℕ) → i < A_WORD → bit_at among i ≡ 1 → from + i < length row.now }
     ensures { AreBitsAmong (is_tight row.now cost base.now) from among result }

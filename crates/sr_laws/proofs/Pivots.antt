@@ -19,6 +19,7 @@ use Rattle.sr_laws.proofs.Failures.{touches-pair}
 use Rattle.sr_laws.proofs.Keys.{pair-sym}
 use Rattle.sr_laws.proofs.KeptLists.{in_row}
 use Rattle.sr_laws.proofs.Waypoints.{IsWalk-avoiding, space-walk}
+use Rattle.sr_walks.proofs.Walks.{avoids-left}
 
 -- a list of links avoids the set, or one of its links is in it
 split_at : (x : List Bool) (r : List ℕ) → Avoids x r ⊎ ((p : List ℕ) × (q : List ℕ) × (l : ℕ) × (has x l ≡ true) × (r ≡ p ++ l ∷ q))
@@ -31,10 +32,6 @@ split_at x (l ∷ r) =
     (λ s. inr (l ∷ s.0, s.1, s.2, s.3, ap (λ k. l ∷ k) s.4))
     (split_at x r))
     (cases_Bool (has x l))
-
-avoids-left : (x : List Bool) (p q : List ℕ) → Avoids x (p ++ q) → Avoids x p
-avoids-left x [] q a = All-nil (λ k. has x k ≡ false)
-avoids-left x (l ∷ p) q a = All-cons (λ k. has x k ≡ false) l p (All-head (λ k. has x k ≡ false) l (p ++ q) a) (avoids-left x p q (All-tail (λ k. has x k ≡ false) l (p ++ q) a))
 
 avoids-right : (x : List Bool) (p q : List ℕ) → Avoids x (p ++ q) → Avoids x q
 avoids-right x [] q a = a

@@ -12,16 +12,11 @@ use Rattle.sr_model.specs.Graph.{Graph, link_count}
 use Rattle.sr_model.specs.Case.{key_at}
 use Rattle.sr_model.specs.Label.{keys_between, IsPlace}
 use Rattle.sr_model.specs.Rule.{AreAnnounced}
-use Rattle.sr_model.proofs.KeyOrderLemmas.{key-from_cmp, key_cmp-same}
+use Rattle.sr_model.proofs.KeyOrderLemmas.{is_eq-true, key-from_cmp, key_cmp-same}
 use Rattle.sr_laws.proofs.Keys.{KeyLt-irrefl}
 
-equal-from : (o : Ordering) → is_eq o ≡ true → o ≡ Equal
-equal-from Less e = absurd {0} (cc)
-equal-from Equal e = refl
-equal-from Greater e = absurd {0} (cc)
-
 pub key-told : (a b : LinkKey) → (same_key a b ≡ true → a ≡ b) × (a ≡ b → same_key a b ≡ true)
-key-told a b = (λ e. key-from_cmp a b (equal-from (key_cmp a b) e), λ e. ap is_eq (key_cmp-same a b e))
+key-told a b = (λ e. key-from_cmp a b (is_eq-true (key_cmp a b) e), λ e. ap is_eq (key_cmp-same a b e))
 
 -- ---- what stands in a mapped list is the image of what stood there
 pub map-from : {A B : Type 0} (f : A → B) (xs : List A) (i : ℕ) (b : B) → slice_get (map f xs) i ≡ Some b → (a : A) × (slice_get xs i ≡ Some a) × (f a ≡ b)

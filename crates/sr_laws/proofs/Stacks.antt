@@ -1,5 +1,5 @@
 -- There is one stack of a list, and one list of next hops with what becomes of the label.
-use Rattle.std.proofs.Common.{◌≡◌, ℕ, ◌<◌, ⊎_elim, inl, inr, Bool, true, false, List, [], ◌∷◌, ◌++◌, refl, arith, ap, sym, ◌∙◌, subst, Some}
+use Rattle.std.proofs.Common.{◌≡◌, ℕ, ◌<◌, ⊎_elim, inl, inr, Bool, true, false, List, [], ◌∷◌, ◌++◌, refl, arith, ap, sym, ◌∙◌, subst, Some, suc, length}
 use Rattle.std.proofs.lemmas.Option.{same_Some}
 use Rattle.std.specs.Prelude.{slice_get}
 use Rattle.sr_model.specs.declared.link.LinkNo.{LinkNo}
@@ -113,3 +113,10 @@ pub hops-one : (n : Net) (u b : ℕ) (xs ys : List (LinkNo × Out)) → AreHops 
 hops-one n u b xs ys p q =
     ascending-one (λ h k. h.0.0 < k.0.0) (λ h lt. omega (arith, lt)) (λ h k l lt lt'. omega (arith, lt, lt')) xs ys p.ascending q.ascending
     (hops_among n u b xs ys p q) (hops_among n u b ys xs q p)
+
+-- there is a label for each segment
+pub labels-count : (n : Net) (u : ℕ) (ss : List Segment) (ts : List ℕ) → IsLabels n u ss ts → length ts ≡ length ss
+labels-count n u [] ts a = ap length a
+labels-count n u (s ∷ ss) [] a = absurd a
+labels-count n u (Node v ∷ ss) (t ∷ ts) a = ap suc (labels-count n v.0 ss ts a.1)
+labels-count n u (Adj l ∷ ss) (t ∷ ts) a = ap suc (labels-count n (head n.graph l.0) ss ts a.1)

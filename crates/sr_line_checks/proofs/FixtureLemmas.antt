@@ -20,6 +20,7 @@ use Rattle.sr_graph.specs.declared.draft.DraftLink.{DraftLink}
 use Rattle.sr_graph.specs.Draft.{IsDraft, HasEnds}
 use Rattle.sr_labels.specs.Rules.{HaveSrgbs}
 use Rattle.sr_line_checks.specs.Drafts.{drafted_in}
+use Rattle.sr_labels.proofs.NetLemmas.{none-listed}
 
 -- each is below the next
 abbrev pub rises : List ℕ → Bool
@@ -105,11 +106,6 @@ pub none-or_some : (y : Option ℕ) → (y ≡ None) ⊎ ((v : ℕ) × (y ≡ So
 none-or_some None = inl refl
 none-or_some (Some v) = inr (v, refl)
 
-no_adj : (links : List Link) (n : ℕ) → adj_labels_of links (replicate n None) ≡ []
-no_adj [] n = refl
-no_adj (link ∷ links) zero = refl
-no_adj (link ∷ links) (suc n) = no_adj links n
-
 -- a net with no adjacency label is accepted, where its nodes' labels don't clash
 pub plain-accepted : (g : Graph) (nodes : List Labels) (keys : List LinkKey) → IsGraph g → IsNamed g → IsGrouped g
     → length nodes ≡ node_count g → HaveSrgbs nodes → IsFirstBroken nodes [] None → AreAnnounced g keys
@@ -127,7 +123,7 @@ plain-accepted g nodes keys graph named grouped long ranges rules announced = re
   nodes = long;
   links = length-replicate (link_count g) None;
   ranges = ranges;
-  rules = rw (no_adj g.links (link_count g)) rules;
+  rules = rw (none-listed g.links (link_count g)) rules;
   announced = announced;
   depth = omega arith;
 }

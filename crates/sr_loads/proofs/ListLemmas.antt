@@ -5,11 +5,6 @@ use Rattle.std.specs.List.{AllZip, range_with_len}
 
 -- ---- the items of a list
 
-pub get_right : {X : Type 0} (xs ys : List X) (i j : ℕ) (x : X) → j ≡ length xs + i → slice_get ys i ≡ Some x → slice_get (xs ++ ys) j ≡ Some x
-get_right [] ys i j x at e = let same : j ≡ i = omega arith in ap (slice_get ys) same ∙ e
-get_right (z ∷ xs) ys i zero x at e = absurd (omega arith)
-get_right (z ∷ xs) ys i (suc j) x at e = get_right xs ys i j x (omega arith) e
-
 -- an item is one of the first list, or of the second
 pub get_either : {X : Type 0} (xs ys : List X) (i : ℕ) (x : X) → slice_get (xs ++ ys) i ≡ Some x → (slice_get xs i ≡ Some x) ⊎ ((j : ℕ) × (i ≡ length xs + j) × (slice_get ys j ≡ Some x))
 get_either [] ys i x e = inr (i, omega arith, e)

@@ -10,8 +10,8 @@ use Rattle.sr_model.specs.Label.{Net}
 use Rattle.sr_loads.specs.declared.packet.Packet.{Packet}
 use Rattle.sr_loads.specs.declared.packet.Pair.{Pair}
 use Rattle.sr_loads.specs.Packets.{IsPacket, IsBefore, ArePackets, IsPairBefore, ArePairs, pair, packet, packets_between, packets_of}
-use Rattle.sr_loads.proofs.ListLemmas.{get_right, get_either}
-use Rattle.sr_spf.proofs.HopsLemmas.{get_left}
+use Rattle.sr_loads.proofs.ListLemmas.{get_either}
+use Rattle.sr_seq.proofs.ListLemmas.{get-left, get-right}
 
 -- ---- the order
 pub before-irreflexive : (p : Packet) → IsBefore p p → ⊥
@@ -73,7 +73,7 @@ placed choices (q ∷ qs) n p e = ⊎_elim
     (get_either (packets_between choices q) (packets_of choices qs) n p e)
   where
     next : (j : ℕ) (r : Pair) → slice_get qs j ≡ Some r → slice_get (q ∷ qs) (j + 1) ≡ Some r
-    next j r is = get_right (q ∷ []) qs j (j + 1) r (omega arith) is
+    next j r is = get-right (q ∷ []) qs j (j + 1) r (omega arith) is
 
 at-place : (choices : ℕ) (pairs : List Pair) (i k : ℕ) (q : Pair) → slice_get pairs i ≡ Some q → k < choices → slice_get (packets_of choices pairs) (i * choices + k) ≡ Some (packet q.from.0 q.to.0 k)
 at-place choices [] i k q e lt = absurd {0} (cc)
@@ -81,10 +81,10 @@ at-place choices (x ∷ xs) zero k q e lt =
     let same : x ≡ q = cc in
     let here : 0 * choices + k ≡ k = omega arith in
     ap (slice_get (packets_of choices (x ∷ xs))) here
-    ∙ get_left (packets_between choices x) (packets_of choices xs) k (packet q.from.0 q.to.0 k)
+    ∙ get-left (packets_between choices x) (packets_of choices xs) k (packet q.from.0 q.to.0 k)
     (subst (λ (y : Pair). slice_get (packets_between choices x) k ≡ Some (packet y.from.0 y.to.0 k)) same (between-at choices x k lt))
 at-place choices (x ∷ xs) (suc i) k q e lt =
-    get_right (packets_between choices x) (packets_of choices xs) (i * choices + k) (suc i * choices + k) (packet q.from.0 q.to.0 k)
+    get-right (packets_between choices x) (packets_of choices xs) (i * choices + k) (suc i * choices + k) (packet q.from.0 q.to.0 k)
     (omega (arith, between-long choices x)) (at-place choices xs i k q e lt)
 
 module _ (net : Net) (choices : ℕ) (pairs : List Pair) (are : ArePairs net pairs) where

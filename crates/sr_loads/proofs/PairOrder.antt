@@ -8,7 +8,7 @@ use Rattle.sr_model.specs.declared.link.TheConstants.{MOST_NODES}
 use Rattle.sr_loads.specs.declared.packet.Pair.{Pair}
 use Rattle.sr_loads.specs.declared.pairs.TheConstants.{MOST_PAIRS}
 use Rattle.sr_loads.specs.Packets.{ArePeers, IsPair, IsPairBefore, ArePairs, ArePairsBefore, pair}
-use Rattle.sr_spf.proofs.HopsLemmas.{get_left, get_last, get_push}
+use Rattle.sr_seq.proofs.ListLemmas.{get-left, get-last, get-push}
 
 -- ---- lists that grow
 pub pairs-none : (net : Net) → ArePairsBefore net (pair 0 0) []
@@ -48,20 +48,20 @@ pairs-push net a d pairs is are = record {
   each = λ i p e. ⊎_elim
       (λ (old : slice_get pairs i ≡ Some p). let h = are.each i p old in (h.0, before-next a d p h.1))
       (λ (last : (i ≡ length pairs) × (pair a d ≡ p)). subst (λ (u : Pair). IsPair net u × IsPairBefore u (pair a (d + 1))) last.1 (is, next))
-      (get_push pairs (pair a d) i p e);
+      (get-push pairs (pair a d) i p e);
   ascending = λ i j p r lt e f. ⊎_elim
       (λ (old : slice_get pairs j ≡ Some r). ⊎_elim
       (λ (both : slice_get pairs i ≡ Some p). are.ascending i j p r lt both old)
       (λ (last : (i ≡ length pairs) × (pair a d ≡ p)). let h = slice_get_within pairs j r old in let at = last.0 in absurd (omega arith))
-      (get_push pairs (pair a d) i p e))
+      (get-push pairs (pair a d) i p e))
       (λ (last : (j ≡ length pairs) × (pair a d ≡ r)). ⊎_elim
       (λ (old : slice_get pairs i ≡ Some p). subst (λ (u : Pair). IsPairBefore p u) last.1 (are.each i p old).1)
       (λ (same : (i ≡ length pairs) × (pair a d ≡ p)). let at = last.0 in let here = same.0 in absurd (omega arith))
-      (get_push pairs (pair a d) i p e))
-      (get_push pairs (pair a d) j r f);
+      (get-push pairs (pair a d) i p e))
+      (get-push pairs (pair a d) j r f);
   all = λ p ip before. ⊎_elim
-      (λ (old : IsPairBefore p (pair a d)). let h = are.all p ip old in (h.0, get_left pairs (pair a d ∷ []) h.0 p h.1))
-      (λ (same : pair a d ≡ p). (length pairs, subst (λ (u : Pair). slice_get (pairs ++ pair a d ∷ []) (length pairs) ≡ Some u) same (get_last pairs (pair a d))))
+      (λ (old : IsPairBefore p (pair a d)). let h = are.all p ip old in (h.0, get-left pairs (pair a d ∷ []) h.0 p h.1))
+      (λ (same : pair a d ≡ p). (length pairs, subst (λ (u : Pair). slice_get (pairs ++ pair a d ∷ []) (length pairs) ≡ Some u) same (get-last pairs (pair a d))))
       (before-or-last a d p before);
 } where
   next : IsPairBefore (pair a d) (pair a (d + 1))

@@ -9,7 +9,7 @@ use Rattle.sr_lsp.specs.declared.parts.Spot.{Spot}
 use Rattle.sr_lsp.specs.Parts.{AreUnmoved, IsPutAway}
 use Rattle.sr_lsp.specs.Spots.{IsInside, part_in, parts_by}
 
--- so far: what is kept, and then the rest of the list, of which there are so many
+-- so far: the parts that stand there, and then the rest of the list, of which there are that many
 pub record IsKeptSoFar (arrays : Arrays) (order : List Spot) (rest : List Part) (left : ℕ) (list : List Part) : Type 0 where
   pub inside : All (IsInside arrays) order
   pub parts : parts_by arrays order ++ rest ≡ list

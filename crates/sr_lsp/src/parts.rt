@@ -93,7 +93,7 @@ fn room_of(parts: &[Part]) -> Room {
     room
 }
 
-/// No parts, with room for so many.
+/// No parts, with room for that many.
 fn with_room(alloc: Global, room: Room) -> Result<Arrays, AllocError>
     ensures { IfOk result AreEmpty }
 {

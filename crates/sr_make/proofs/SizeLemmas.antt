@@ -19,7 +19,7 @@ use Rattle.sr_lsp.specs.InRange.{FitsPart, FitsLsp}
 use Rattle.sr_lsp.specs.Table.{spelling}
 use Rattle.sr_lsp.specs.Text.{HasSpelling, header_text, lsp_text, pdu_length}
 use Rattle.sr_engine.specs.Lines.{most_bytes}
-use Rattle.sr_make.specs.declared.making.TheConstants.{MOST_NODES}
+use Rattle.sr_make.specs.declared.making.TheConstants.{MOST_MADE_NODES}
 use Rattle.sr_make.specs.declared.pairs.MadePair.{MadePair}
 use Rattle.sr_make.specs.declared.pairs.Span.{Span}
 use Rattle.sr_make.specs.Draws.{drawn_from, next_state}
@@ -48,7 +48,7 @@ pairs-small x number (span ∷ spans) few =
     (pairs-small (next_state (next_state x)) (number + 1) spans (omega (arith, few)))
 
 -- the pairs of a made net are few, and their numbers small
-pub made-small : (nodes start : ℕ) → nodes ≤ MOST_NODES → AreMadePairs (made_pairs nodes start)
+pub made-small : (nodes start : ℕ) → nodes ≤ MOST_MADE_NODES → AreMadePairs (made_pairs nodes start)
 made-small nodes start most =
     let spans = length-spans nodes in
     record {
@@ -163,7 +163,7 @@ lines-short pairs a (suc n) are =
 audits-short : length audit_lines ≤ 200
 audits-short = omega arith
 
-script-short : (nodes start : ℕ) → nodes ≤ MOST_NODES → length (made_script nodes start) ≤ most_bytes
+script-short : (nodes start : ℕ) → nodes ≤ MOST_MADE_NODES → length (made_script nodes start) ≤ most_bytes
 script-short nodes start most =
     let pairs = made_pairs nodes start in
     omega (arith, length-append (lsp_lines pairs nodes) audit_lines, lines-short pairs 1 nodes (made-small nodes start most), audits-short, most)

@@ -3,7 +3,7 @@ use Rattle.std.specs.Prelude.{ℕ, ◌≤◌, ◌<◌, ◌+◌, ◌^◌, List, A
 use Rattle.sr_lsp.specs.InRange.{FitsLsp}
 use Rattle.sr_lsp.specs.Text.{HasSpelling}
 use Rattle.sr_engine.specs.Lines.{longest_line, most_bytes}
-use Rattle.sr_make.specs.declared.making.TheConstants.{MOST_NODES}
+use Rattle.sr_make.specs.declared.making.TheConstants.{MOST_MADE_NODES}
 use Rattle.sr_make.specs.declared.pairs.MadePair.{MadePair}
 use Rattle.sr_make.specs.Nodes.{made_lsp}
 use Rattle.sr_make.specs.Pairs.{made_pairs}
@@ -27,6 +27,6 @@ pub record FitsScript (pairs : List MadePair) (i : ℕ) : Type 0 where
 
 -- each node of each made net fits, and the script is short enough to be read
 abbrev pub EachMadePduFits : Type 0
-EachMadePduFits = (nodes start : ℕ) → nodes ≤ MOST_NODES
+EachMadePduFits = (nodes start : ℕ) → nodes ≤ MOST_MADE_NODES
     → ((i : ℕ) → i ≤ nodes → FitsScript (made_pairs nodes start) i)
     × (length (made_script nodes start) ≤ most_bytes)

@@ -9,4 +9,4 @@ mod pairs;
 mod script;
 
 pub use laws::{chords_begin_with_six_nodes, each_made_pair_joins, each_made_pdu_fits};
-pub use making::{FEWEST_NODES, MOST_NODES, make};
+pub use making::{FEWEST_NODES, MOST_MADE_NODES, make};

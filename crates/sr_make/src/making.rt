@@ -14,7 +14,7 @@ use std::alloc::Global;
 pub const FEWEST_NODES: u16 = 3;
 
 /// The most nodes of a made net (this project's rule); a net may have no more.
-pub const MOST_NODES: u16 = 256;
+pub const MOST_MADE_NODES: u16 = 256;
 
 /// Puts all lines of the script.
 fn put_script<K: Sink>(
@@ -24,7 +24,7 @@ fn put_script<K: Sink>(
     out: &mut Answers,
     sink: &mut K,
 ) -> Result<(), SinkFault>
-    requires { nodes ≤ MOST_NODES }
+    requires { nodes ≤ MOST_MADE_NODES }
     ensures { Puts (written (K.held sink.old) (K.faults sink.old) out.old)
         (written (K.held sink.new) (K.faults sink.new) out.new) (made_script nodes start) result }
 {
@@ -45,7 +45,7 @@ fn put_script<K: Sink>(
 /// out, the sink was given a beginning of the script.
 pub fn make<K: Sink>(alloc: Global, nodes: u16, start: u32, sink: &mut K) -> End
     requires fewest { FEWEST_NODES ≤ nodes }
-    requires most { nodes ≤ MOST_NODES }
+    requires most { nodes ≤ MOST_MADE_NODES }
     ensures { Makes (made_script nodes start) (K.held sink.old) (K.held sink.new)
         (K.faults sink.old) (K.faults sink.new) result }
 {

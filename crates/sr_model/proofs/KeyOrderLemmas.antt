@@ -1,8 +1,8 @@
 -- What `cmp` of two link keys says: the order of keys, and equality.
-use Rattle.std.proofs.Common.{◌≡◌, ℕ, ◌<◌, ◌⊎◌, ⊎_elim, inl, inr, refl, arith, ap, sym, ◌∙◌}
+use Rattle.std.proofs.Common.{◌≡◌, ℕ, ◌<◌, ◌⊎◌, ⊎_elim, inl, inr, refl, arith, ap, sym, ◌∙◌, true, Bool}
 use Rattle.std.specs.declared.cmp.Ordering.{Ordering}
 use Rattle.std.specs.declared.cmp.Ordering.TheVariants.{Less, Equal, Greater}
-use Rattle.std.specs.Ordering.{nat_cmp, ordering_then}
+use Rattle.std.specs.Ordering.{is_eq, nat_cmp, ordering_then}
 use Rattle.std.specs.Cmp.{IsTotalOrder}
 use Rattle.std.proofs.lemmas.Cmp.{ranked, by_ranked, tied_itself}
 use Rattle.sr_model.specs.declared.name.Ident.{Ident}
@@ -12,6 +12,11 @@ use Rattle.sr_model.specs.contracts.name.IdentOrd.TheImpl as ident
 use Rattle.sr_model.specs.contracts.name.LinkKeyOrd.TheImpl.Laws.{total-law}
 use Rattle.sr_model.specs.Key.{KeyLt, IdentLt}
 use Rattle.sr_model.specs.KeyOrder.{key_cmp}
+
+pub is_eq-true : (r : Ordering) → is_eq r ≡ true → r ≡ Equal
+is_eq-true Less e = absurd (cc)
+is_eq-true Equal e = refl
+is_eq-true Greater e = absurd (cc)
 
 pub key_total : IsTotalOrder key_cmp
 key_total = total-law

@@ -10,7 +10,7 @@ use Rattle.sr_model.specs.Graph.{Graph, link_count, tail}
 use Rattle.sr_graph.specs.Ranges.{HoldsLinks}
 use Rattle.sr_post.specs.declared.kept.HopNodes.{HopNodes}
 use Rattle.sr_post.specs.declared.kept.KeptHops.{KeptHops}
-use Rattle.sr_post.specs.Kept.{LeadsTo, IsKeptHop, AreEndangered, AreKeptHops, AreLost}
+use Rattle.sr_post.specs.Kept.{LeadsTo, IsKeptHop, AreEndangered, AreKeptHops, AreLost, IsSharedHop}
 use Rattle.sr_post.specs.Sets.{KeepsHop}
 
 -- the node stands with a hop of the list
@@ -120,7 +120,7 @@ module _ (g : Graph) (x : List Bool) (s : ℕ) where
     -- then the hops are kept
     pub hops-over : AreKeptHops g x s hops.kept.items
     hops-over = record {
-      least = All-weaker (Contains hops.kept.items) (λ (e : HopNodes). (v : ℕ) → is_in e.nodes v ≡ true → IsKeptHop g x s v e.hop.0) (λ e is. r.least e is) hops.kept.items (All-contains_itself hops.kept.items);
+      least = All-weaker (Contains hops.kept.items) (IsSharedHop g x s) (λ e is. r.least e is) hops.kept.items (All-contains_itself hops.kept.items);
       all = λ v k loses leads. ⊎_elim
           (λ (yes : is_in hops.left v ≡ true). absurd (r.before v k yes (over.all v k yes leads) leads))
           (λ stands. stands)

@@ -18,19 +18,8 @@ use Rattle.sr_lanes.specs.Bits.{is_in}
 use Rattle.sr_post.specs.Kept.{LeadsTo, IsKept, AreLost}
 use Rattle.sr_post.specs.Nodes.{AreThose, listed_at}
 use Rattle.sr_post.specs.Sets.{AreCellsWithout}
-
--- a list is empty, or has a last element
-last-cut : (p : List ℕ) → (p ≡ []) ⊎ ((q : List ℕ) × (k : ℕ) × (p ≡ q ++ k ∷ []))
-last-cut [] = inl refl
-last-cut (l ∷ p) =
-    ⊎_elim
-    (λ (e : p ≡ []). inr ([], l, ap (λ r. l ∷ r) e))
-    (λ (c : (q : List ℕ) × (k : ℕ) × (p ≡ q ++ k ∷ [])). inr (l ∷ c.0, c.1, ap (λ r. l ∷ r) c.2))
-    (last-cut p)
-
--- what avoids x in parts
-avoids-front : (x : List Bool) (p q : List ℕ) → Avoids x (p ++ q) → Avoids x p
-avoids-front x p q a = λ k d lt. subst (λ l. has x l ≡ false) (get_or_append_left p q d k lt) (a k d (omega (arith, length-append p q)))
+use Rattle.sr_seq.proofs.ListLemmas.{last-cut}
+use Rattle.sr_walks.proofs.Walks.{avoids-left}
 
 avoids-last : (x : List Bool) (p : List ℕ) (l : ℕ) → Avoids x (p ++ l ∷ []) → has x l ≡ false
 avoids-last x p l a = subst (λ k. has x k ≡ false) (get_or_push p l 0 (length p) refl) (a (length p) 0 (omega (arith, length-append p (l ∷ []))))
@@ -67,7 +56,7 @@ module _ (g : Graph) (x : List Bool) (s : ℕ) where
     avoids = λ p is.
         let le : cost g p ≤ cost g init = is.1 init first in
         let longer : IsWalk g [] u (p ++ k ∷ []) v = IsWalk-append g [] u p w (k ∷ []) v is.0 last clear in
-        avoids-front x p (k ∷ []) (space.avoids (p ++ k ∷ []) (longer, λ q b. let most : cost g (init ++ k ∷ []) ≤ cost g q = short.1 q b in omega (arith, cost-append g init (k ∷ []), cost-append g p (k ∷ []))));
+        avoids-left x p (k ∷ []) (space.avoids (p ++ k ∷ []) (longer, λ q b. let most : cost g (init ++ k ∷ []) ≤ cost g q = short.1 q b in omega (arith, cost-append g init (k ∷ []), cost-append g p (k ∷ []))));
   }
 
   -- the link leads on, and link k is the last

@@ -14,29 +14,12 @@ use Rattle.sr_graph.specs.Ranges.{EndAt}
 use Rattle.sr_lanes.specs.declared.words.NodeBits.{NodeBits}
 use Rattle.sr_lanes.specs.Bits.{is_in, count_below, IsWithout}
 use Rattle.sr_lanes.specs.Passes.{has_distance}
-use Rattle.sr_lanes.proofs.SizeLemmas.{count_below-same, without-same, without-other, without-inside}
+use Rattle.sr_lanes.proofs.SizeLemmas.{without-same, without-other, without-inside}
 use Rattle.sr_walks.proofs.Walks.{walk-within}
 use Rattle.sr_laws.proofs.Failures.{failed-one}
 use Rattle.sr_post.specs.Marks.{AreFound, AreWalks, IsOneBefore, LeadsAlong}
 use Rattle.sr_post.proofs.WayLemmas.{IsAlong, near_walk, along-from_way, way-from_along, along-here, along-on, along-cut}
-
--- a test that says no where another says yes, and is the same elsewhere, says yes less often
-count-less : (test less : ℕ → Bool) (n v : ℕ) → v < n → test v ≡ true → less v ≡ false → ((k : ℕ) → k ≢ v → less k ≡ test k)
-    → count_below less n < count_below test n
-unfolding count_below
-count-less test less zero v lt was gone all = absurd (omega arith)
-count-less test less (suc n) v lt was gone all =
-    ⊎_elim
-    (λ (here : v ≡ n).
-    let same : count_below less n ≡ count_below test n = count_below-same test less n (λ k below. all k (λ e. let z : n < n = omega arith in omega arith)) in
-    let was' : test n ≡ true = subst (λ k. test k ≡ true) here was in
-    let gone' : less n ≡ false = subst (λ k. less k ≡ false) here gone in
-    rw (same, was', gone') (omega arith))
-    (λ (apart : v ≢ n).
-    let before : count_below less n < count_below test n = count-less test less n v (omega arith) was gone all in
-    let same : less n ≡ test n = all n (λ e. apart (sym e)) in
-    rw same (omega (arith, before)))
-    (cases_eq v n)
+use Rattle.sr_lanes.proofs.SizeLemmas.{count_below-less}
 
 -- from the node nothing has been followed back: it isn't found, or is pending
 abbrev pub is_open : NodeBits → NodeBits → ℕ → Bool
@@ -81,7 +64,7 @@ module _ (v : ℕ) (before found pending found' pending' : NodeBits) (d : IsFoll
 
   -- there are less such nodes
   pub open-less : v < 256 → open_count found' pending' < open_count found pending
-  open-less within = count-less (is_open found pending) (is_open found' pending') 256 v within (rw (inside v d.was, d.was) refl) open-here open-other
+  open-less within = count_below-less (is_open found pending) (is_open found' pending') 256 v within (rw (inside v d.was, d.was) refl) open-here open-other
 
 -- a set and a node more
 pub with-one : (set more : NodeBits) (v : ℕ) (P Q : ℕ → Type 0) → ((k : ℕ) → IsTrue (is_in set k) ↔ P k) → ((k : ℕ) → is_in more k ≡ (k == v || is_in set k))

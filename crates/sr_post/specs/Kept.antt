@@ -48,9 +48,13 @@ pub record IsKeptHop (g : Graph) (x : List Bool) (s v l : ℕ) : Type 0 where
   pub leads : LeadsTo g x s v l
   pub least : (k : ℕ) → LeadsTo g x s v k → l ≤ k
 
+-- the link is the least that leads from s in spite of x towards each node that stands with it
+abbrev pub IsSharedHop : Graph → List Bool → ℕ → HopNodes → Type 0
+IsSharedHop g x s kept = (v : ℕ) → is_in kept.nodes v ≡ true → IsKeptHop g x s v kept.hop.0
+
 -- each link of the list is the least that leads from s in spite of x towards each node that stands with it, and each
 -- node that loses a next hop, and to which some link leads, stands with one
 pub record AreKeptHops (g : Graph) (x : List Bool) (s : ℕ) (kept : List HopNodes) : Type 0 where
-  pub least : All (λ (e : HopNodes). (v : ℕ) → is_in e.nodes v ≡ true → IsKeptHop g x s v e.hop.0) kept
+  pub least : All (IsSharedHop g x s) kept
   pub all : (v l : ℕ) → LosesHop g x s v → LeadsTo g x s v l
       → (e : HopNodes) × Contains kept e × (is_in e.nodes v ≡ true)

@@ -9,7 +9,7 @@ use Rattle.sr_model.specs.Label.{Net}
 use Rattle.sr_print.specs.Names.{Texts, AreNames, HasText, named_segment}
 use Rattle.sr_print.specs.Repairs.{IsSegment, AreSegments, segment_word}
 
--- the text of a segment that is kept is its word
+-- a segment that is kept is spelled by its word
 pub segment-named : (n : Net) (names : Texts) → AreNames n names → (segment : Segment) → IsSegment n.graph segment → named_segment names segment ≡ segment_word n segment
 unfolding segment_word
 segment-named n names are (Node v) within = ap (λ t. codes " node:" ++ t) (are.nodes.each v.0 within)

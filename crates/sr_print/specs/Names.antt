@@ -20,7 +20,7 @@ node_text n v = system_text (system_at n.graph v)
 abbrev pub text_at : List (List ℕ) → ℕ → List ℕ
 text_at texts i = slice_index_or texts i []
 
--- these are the texts of the first m numbers
+-- a text for each of the first m numbers
 pub record AreTexts (text : ℕ → List ℕ) (m : ℕ) (texts : List (List ℕ)) : Type 0 where
   pub long : length texts ≡ m
   pub each : (i : ℕ) → i < m → text_at texts i ≡ text i

@@ -107,7 +107,7 @@ impl Names {
         })
     }
 
-    /// The text of the node.
+    /// The name of the node.
     pub(crate) fn node(&self, node: NodeNo) -> &[u8]
         requires { node.0 < length self.now.nodes }
         ensures { result.now ≡ text_at self.now.nodes node.0 }
@@ -115,7 +115,7 @@ impl Names {
         self.nodes[node.0 as usize].octets()
     }
 
-    /// The text of the link.
+    /// The name of the link.
     pub(crate) fn link(&self, link: LinkNo) -> &[u8]
         requires { link.0 < length self.now.links }
         ensures { result.now ≡ text_at self.now.links link.0 }

@@ -66,8 +66,7 @@ impl<'a> Former<'a> {
         trees: &'a Trees,
         farther: &'a [NodeBits],
     ) -> Former<'a>
-        requires changes { AreChanges computed.now net.now changes.now }
-        requires same { changes.now.same ≡ true }
+        requires changes { AreChanges computed.now net.now changes.now × (changes.now.same ≡ true) }
         requires kept { AreKeptTrees computed.now net.now kept.now }
         requires trees { AreTrees net.now.graph trees.now }
         requires farther { AreMoved computed.now.graph net.now.graph farther.now (node_count computed.now.graph) }

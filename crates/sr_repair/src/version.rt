@@ -1,6 +1,7 @@
 //! A version: the net of an accepted commit, with what is computed of it.
 ghost use Rattle.std.specs.Prelude.{◌≡◌, ℕ, ◌+◌, ◌*◌, ◌<◌, ◌≤◌, IfOk, MatchOption};
 ghost use Rattle.sr_model.specs.Case.{IsCase, IsAffected};
+ghost use Rattle.sr_model.specs.declared.limits.TheConstants.{MOST_VERSION};
 ghost use Rattle.sr_model.specs.Graph.{node_count, link_count};
 ghost use Rattle.sr_model.specs.Repair.{IsCaseAnswer};
 ghost use Rattle.sr_model.specs.Rule.{IsNet};
@@ -81,7 +82,7 @@ impl Version {
         net: Net,
         steps: &mut Steps<L>,
     ) -> Result<Version, AllocError>
-        requires { self.now.number < 65535 }
+        requires { self.now.number < MOST_VERSION }
         ensures version { IfOk result (λ v. v ≡ version_of (self.now.number + 1) net) }
         ensures searches { (w : ℕ) × (steps.new ≡ steps.old + w) × IsWithinWork self.now.net net w }
     {
@@ -95,7 +96,7 @@ impl Version {
     /// The version after this one, of the same net: nothing is computed, and all but the number is shared. Fails only out
     /// of memory.
     pub fn renumbered(&self) -> Result<Version, AllocError>
-        requires { self.now.number < 65535 }
+        requires { self.now.number < MOST_VERSION }
         ensures { IfOk result (λ v. v ≡ version_of (self.now.number + 1) self.now.net) }
     {
         let computed = Arc::try_clone(&self.computed)?;

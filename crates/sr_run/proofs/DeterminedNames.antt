@@ -16,16 +16,12 @@ use Rattle.sr_script.specs.declared.name.RepairName.{RepairName}
 use Rattle.sr_print.specs.declared.refusal.Refusal.{Refusal}
 use Rattle.sr_print.specs.declared.refusal.Refusal.TheVariants.{NoNode, NoDestination, NotAffected}
 use Rattle.sr_run.specs.Names.{IsLinkOf, OfNode, OfEnds, OfAnnounced, OfLink, OfNamedLink, OfFailure, OfAffected, ends_named, key_meant, missing_link}
+use Rattle.sr_seq.proofs.ListLemmas.{none-not_some}
 
 -- a name means one link
 pub link-one : (net : Net) → IsNamed net.graph → (name : LinkName) (a b : LinkNo) → IsLinkOf net name a → IsLinkOf net name b → a ≡ b
 link-one net named name a b p q =
     link_is a b (key-one net.graph named a.0 b.0 p.within q.within (same_Some (key_at net.graph a.0) (key_at net.graph b.0) (sym p.named ∙ q.named)))
-
--- what is none isn't some
-pub none-not_some : (index : Option ℕ) → index ≡ None → is_some index ≡ true → ⊥
-none-not_some None none some = absurd (cc)
-none-not_some (Some i) none some = absurd (cc)
 
 -- nor is a key both
 not_both : (net : Net) (name : LinkName) (key : LinkKey) → key_meant net name ≡ None → key_meant net name ≡ Some key → ⊥

@@ -24,7 +24,8 @@ use Rattle.sr_print.specs.Told.Told.{Distance, NextHops, Lookup, Walk, Loads}
 use Rattle.sr_repair.specs.Version.{NumberedNet}
 use Rattle.sr_run.specs.Questions.{IsRefused, IsForwarded, TellsDistance, TellsNextHops, TellsLookup, TellsWalk, TellsWalkOf, TellsLoads}
 use Rattle.sr_run.proofs.DeterminedTold.{AreAlike, alike, alike-refused}
-use Rattle.sr_run.proofs.DeterminedNames.{none-not_some, of-node, of-ends}
+use Rattle.sr_run.proofs.DeterminedNames.{of-node, of-ends}
+use Rattle.sr_seq.proofs.ListLemmas.{none-not_some}
 
 -- ---- what is told
 

@@ -25,7 +25,7 @@ use Rattle.sr_print.specs.declared.refusal.Refusal.{Refusal}
 use Rattle.sr_print.specs.declared.refusal.Refusal.TheVariants.{Rule, VersionsFull}
 use Rattle.sr_print.specs.Told.{Told, Shown, spelled, is_refusal}
 use Rattle.sr_print.specs.Told.Told.{Staged, Dropped, Version, Show, Refused}
-use Rattle.sr_script.specs.declared.command.TheConstants.{MOST_VERSION}
+use Rattle.sr_model.specs.declared.limits.TheConstants.{MOST_VERSION}
 use Rattle.sr_run.specs.declared.stop.Stop.{Stop}
 use Rattle.sr_run.specs.declared.stop.Stop.TheVariants.{Refused as Refusing, Memory}
 use Rattle.sr_run.specs.declared.session.Reply.{Reply}

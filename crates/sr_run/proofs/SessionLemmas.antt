@@ -14,7 +14,6 @@ use Rattle.sr_print.specs.declared.refusal.Refusal.{Refusal}
 use Rattle.sr_print.specs.Told.{Told, spelled, is_refusal}
 use Rattle.sr_print.specs.Told.Told.{Version, Hold, Watch, Joined, Refused}
 use Rattle.sr_print.specs.Work.{report_lines, joined_line}
-use Rattle.sr_store.proofs.Numbers.{get-last}
 use Rattle.sr_store.specs.Counts.{counted, opened}
 use Rattle.sr_store.specs.declared.usage.Usage.{Usage}
 use Rattle.sr_work.specs.Works.{StartsWatch, MayFollow, AreReportsOf, after_publishing, usage_published, usage_joined}
@@ -23,7 +22,7 @@ use Rattle.sr_work.specs.declared.work.Work.TheVariants.{Idle, Holds, Watches}
 use Rattle.sr_base.specs.declared.SinkFault.{SinkFault}
 use Rattle.sr_engine.specs.Replies.{Gives, AtEnd}
 use Rattle.sr_engine.specs.Written.{Written, Puts}
-use Rattle.sr_script.specs.declared.command.TheConstants.{MOST_VERSION}
+use Rattle.sr_model.specs.declared.limits.TheConstants.{MOST_VERSION}
 use Rattle.sr_run.specs.declared.stop.Stop.{Stop}
 use Rattle.sr_run.specs.declared.stop.Stop.TheVariants.{Refused as Refusing, Memory}
 use Rattle.sr_run.specs.declared.session.Reply.{Reply}
@@ -41,7 +40,7 @@ use Rattle.sr_run.proofs.StepLemmas.{Stays, quiet-stays, stays-itself}
 use Rattle.sr_run.proofs.SearchLemmas.{counts-still, counts-stays, counts-accepted, counts-asked}
 use Rattle.sr_run.proofs.VersionLemmas.{since-more, since-last, last-number}
 use Rattle.sr_run.proofs.HandlerLemmas.{accepted-next}
-use Rattle.sr_spf.proofs.HopsLemmas.{get_left}
+use Rattle.sr_seq.proofs.ListLemmas.{get-left, get-last}
 
 -- a session of these parts
 abbrev pub session : State → Work → Usage → ℕ → Session
@@ -147,7 +146,7 @@ commit-rejected old new work usage searches reason can m = record {
 can-published : (work : Work) (version : NumberedNet) → CanReport work → CanReport (after_publishing work version)
 can-published Idle version can = tt
 can-published (Holds held) version can = can
-can-published (Watches watched) version can = (can.0, get_left watched.versions (version ∷ []) 0 can.0 can.1, can.2)
+can-published (Watches watched) version can = (can.0, get-left watched.versions (version ∷ []) 0 can.0 can.1, can.2)
 
 -- what runs once a net is accepted
 work-published : (nets : List Net) (background : Background) (work : Work) (net : Net) (version : NumberedNet) → version ≡ version_of (length nets + 1) net

@@ -11,7 +11,7 @@ use Rattle.sr_print.specs.Told.Told.{Refused}
 use Rattle.sr_repair.specs.Version.{NumberedNet, version_of}
 use Rattle.sr_work.specs.declared.work.Work.{Work}
 use Rattle.sr_store.specs.declared.usage.Usage.{Usage}
-use Rattle.sr_script.specs.declared.command.TheConstants.{MOST_VERSION}
+use Rattle.sr_model.specs.declared.limits.TheConstants.{MOST_VERSION}
 use Rattle.sr_run.specs.Domain.{Domain, last_version, number_of, with_tried}
 use Rattle.sr_run.specs.Searches.{CountsSearches, IsCommitWork}
 use Rattle.sr_run.specs.Asked.{TellsQuestion}

@@ -20,7 +20,7 @@ use Rattle.sr_print.specs.declared.refusal.Refusal.TheVariants.{Malformed as Mal
 use Rattle.sr_print.specs.Told.{Told}
 use Rattle.sr_print.specs.Told.Told.{Staged, Dropped, Version, Refused}
 use Rattle.sr_repair.specs.Version.{NumberedNet, version_of}
-use Rattle.sr_script.specs.declared.command.TheConstants.{MOST_VERSION}
+use Rattle.sr_model.specs.declared.limits.TheConstants.{MOST_VERSION}
 use Rattle.sr_run.specs.Domain.{Domain, last_version, with_staged, with_dropped, with_net}
 use Rattle.sr_run.specs.Names.{OfAnnounced}
 

@@ -19,7 +19,8 @@ use Rattle.sr_script.specs.declared.name.LinkName.{LinkName}
 use Rattle.sr_script.specs.declared.name.RepairName.{RepairName}
 use Rattle.sr_script.specs.declared.command.Command.{Command}
 use Rattle.sr_model.specs.declared.link.TheConstants.{MOST_METRIC}
-use Rattle.sr_script.specs.declared.command.TheConstants.{MOST_DEPTH, MOST_WATCHERS, MOST_ROUNDS, MOST_WORKERS, MOST_EACH, MOST_VERSION}
+use Rattle.sr_script.specs.declared.command.TheConstants.{MOST_DEPTH, MOST_WORKERS, MOST_EACH}
+use Rattle.sr_model.specs.declared.limits.TheConstants.{MOST_WATCHERS, MOST_ROUNDS, MOST_VERSION}
 use Rattle.sr_script.specs.declared.command.Command.TheVariants.{Cost, Depth, Load, Prove, ProofOpen, ProofVia, ProofNode, ProofAdj, ProofRow, ProofDone, Commit, AuditFull, Aside as AsideWord, Hold, Watch, Join, Why}
 use Rattle.sr_script.specs.Says.{is_question}
 use Rattle.sr_print.specs.declared.refusal.Refusal.{Refusal}
@@ -234,8 +235,8 @@ IsLinkEdit (CostEdit metric) = (0 < metric) × (metric ≤ MOST_METRIC)
 IsLinkEdit DownEdit = Unit {0}
 IsLinkEdit UpEdit = Unit {0}
 
--- what isn't used of the facts is yet to be written, so many lines of it: there is a version of their net, and whatever
--- they have is used in that or told once
+-- what isn't used of the facts is yet to be written, that many lines of it: there is a version of their net, and
+-- whatever they have is used in that or told once
 abbrev pub AwaitsAsides : Facts → Option NumberedNet → ℕ → Type 0
 AwaitsAsides facts None count = ⊥
 AwaitsAsides facts (Some version) count =

@@ -3,7 +3,7 @@ use Rattle.std.specs.Prelude.{◌≡◌, ℕ, ◌+◌, ◌<◌, ◌^◌, Bool, L
 use Rattle.sr_model.specs.Rule.{IsNet}
 use Rattle.sr_wire.specs.declared.registry.TheConstants.{ADJ_SID_BACKUP, ADJ_SID_IPV6, ADJ_SID_SET, LSP_OVERLOAD, MAXIMUM_METRIC, MSD_IMPOSITION, PREFIX_SID_EXPLICIT_NULL, PREFIX_SID_NODE, PREFIX_SID_NO_POP, PREFIX_SID_READVERTISED}
 use Rattle.sr_lsdb.specs.declared.limits.TheConstants.{MOST_STAGED}
-use Rattle.sr_make.specs.declared.making.TheConstants.{FEWEST_NODES, MOST_NODES}
+use Rattle.sr_make.specs.declared.making.TheConstants.{FEWEST_NODES, MOST_MADE_NODES}
 use Rattle.sr_engine.specs.Replies.{Answered, Script}
 use Rattle.sr_script.specs.declared.command.Command.TheVariants.{Join}
 use Rattle.sr_script.specs.declared.line.Line.TheVariants.{Word}
@@ -66,6 +66,6 @@ pub record LinkStateNumbers : Type 0 where
 
 -- at most 4,096 edits are staged, and a made net has 3 to 256 nodes (this project's rules)
 pub record ProjectLimits : Type 0 where
-  pub staged : MOST_STAGED ≡ 4096
+  pub staged : MOST_STAGED ≡ 2 ^ 12
   pub fewest : FEWEST_NODES ≡ 3
-  pub most : MOST_NODES ≡ 256
+  pub most : MOST_MADE_NODES ≡ 256

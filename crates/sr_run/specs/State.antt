@@ -7,7 +7,7 @@ use Rattle.sr_domain.specs.Net.{IsNetOf}
 use Rattle.sr_repair.specs.Version.{NumberedNet}
 use Rattle.sr_cert.specs.Draft.{CertDraft, IsDraftWithin}
 use Rattle.sr_audit.specs.Counted.{AreAuditCounts}
-use Rattle.sr_script.specs.declared.command.TheConstants.{MOST_ROUNDS, MOST_VERSION}
+use Rattle.sr_model.specs.declared.limits.TheConstants.{MOST_ROUNDS, MOST_VERSION}
 use Rattle.sr_store.specs.Counts.{counted}
 use Rattle.sr_store.specs.declared.usage.Usage.{Usage}
 use Rattle.sr_work.specs.Watched.{Watched}

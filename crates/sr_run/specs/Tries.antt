@@ -8,7 +8,7 @@ use Rattle.sr_script.specs.declared.command.Command.{Command}
 use Rattle.sr_print.specs.declared.refusal.Refusal.TheVariants.{VersionsFull, Rule}
 use Rattle.sr_print.specs.Told.{Told}
 use Rattle.sr_repair.specs.Version.{version_of}
-use Rattle.sr_script.specs.declared.command.TheConstants.{MOST_VERSION}
+use Rattle.sr_model.specs.declared.limits.TheConstants.{MOST_VERSION}
 use Rattle.sr_run.specs.Domain.{Domain, last_version, with_tried}
 use Rattle.sr_run.specs.Edits.{Refuses}
 use Rattle.sr_run.specs.Asked.{TellsQuestion}

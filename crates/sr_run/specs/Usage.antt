@@ -1,6 +1,6 @@
 -- What is lent to a run, and what the usage of stores shows of the watches of a script.
 use Rattle.std.specs.Prelude.{◌≡◌, ℕ, ◌+◌, ◌-◌, ◌*◌, ◌≤◌}
-use Rattle.sr_script.specs.declared.command.TheConstants.{MOST_ROUNDS}
+use Rattle.sr_model.specs.declared.limits.TheConstants.{MOST_ROUNDS}
 use Rattle.sr_store.specs.declared.usage.Usage.{Usage}
 use Rattle.sr_run.specs.Domain.{WatchTotals}
 

@@ -75,7 +75,7 @@ fn write_asides<K: Sink>(
     }
 }
 
-/// Writes the line behind so many of these.
+/// Writes the line behind that many of these.
 fn write_aside_count<K: Sink>(
     count: u64,
     text: &mut Vec<u8>,

@@ -7,7 +7,7 @@ ghost use Rattle.sr_engine.specs.Written.{written};
 ghost use Rattle.sr_print.specs.Told.{spelled};
 ghost use Rattle.sr_print.specs.Told.Told.{Joined};
 ghost use Rattle.sr_print.specs.Work.{report_lines};
-ghost use Rattle.sr_script.specs.declared.command.TheConstants.{MOST_ROUNDS, MOST_WATCHERS};
+ghost use Rattle.sr_model.specs.declared.limits.TheConstants.{MOST_ROUNDS, MOST_WATCHERS};
 ghost use Rattle.sr_work.specs.Works.{MayFollow};
 ghost use Rattle.sr_run.specs.Background.{BeginsHold, BeginsWatch};
 ghost use Rattle.sr_run.specs.Edits.{Commits};

@@ -10,8 +10,9 @@ use crate::questions::ask;
 use crate::session::DomainSession;
 use crate::stop::Stop;
 use sr_base::Runtime;
+use sr_model::MOST_VERSION;
 use sr_print::Refusal;
-use sr_script::{Command, MOST_VERSION};
+use sr_script::Command;
 use sr_spf::Steps;
 use std::sync::ledger::Ledger;
 

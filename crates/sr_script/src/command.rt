@@ -17,12 +17,6 @@ pub const MOST_LABEL: u32 = 1_048_575;
 /// The greatest choice number.
 pub const MOST_CHOICE: u32 = u32::MAX;
 
-/// The most watchers.
-pub const MOST_WATCHERS: u32 = 8;
-
-/// The most rounds of a watcher.
-pub const MOST_ROUNDS: u32 = 16;
-
 /// The most forwarders of a load.
 pub const MOST_WORKERS: u32 = 8;
 
@@ -32,9 +26,6 @@ pub const MOST_EACH: u32 = 4;
 /// The greatest distance of a row: 2^33 - 1. No walk without repeated nodes costs as much, since it crosses at most 255
 /// links, whose metrics have 24 bits.
 pub const MOST_DISTANCE: u64 = 8_589_934_591;
-
-/// The greatest number of a version: that of the last commit that is accepted (this project's rule).
-pub const MOST_VERSION: u32 = 65_535;
 
 /// The most cells of a row: one for each node.
 pub const MOST_CELLS: usize = MOST_NODES;

@@ -13,13 +13,10 @@ use crate::argument::{
     ends_argument, grouping_argument, kind_argument, link_argument, number_argument,
     repair_argument, system_argument,
 };
-use crate::command::{
-    Command, MOST_CHOICE, MOST_DEPTH, MOST_EACH, MOST_LABEL, MOST_ROUNDS, MOST_VERSION,
-    MOST_WATCHERS, MOST_WORKERS,
-};
+use crate::command::{Command, MOST_CHOICE, MOST_DEPTH, MOST_EACH, MOST_LABEL, MOST_WORKERS};
 use crate::line::LineFault;
 use crate::words::Words;
-use sr_model::MOST_METRIC;
+use sr_model::{MOST_METRIC, MOST_ROUNDS, MOST_VERSION, MOST_WATCHERS};
 
 /// Returns the command of the reader whose word comes first, or that the words have a bad form.
 macro_rules! read_by_word {

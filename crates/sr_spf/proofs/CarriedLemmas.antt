@@ -12,7 +12,8 @@ use Rattle.sr_model.specs.Walk.{IsNextHop, IsRow}
 use Rattle.sr_walks.proofs.Walks.{walk-within}
 use Rattle.sr_spf.specs.Carried.{IsCarried, AreCarried}
 use Rattle.sr_spf.specs.Trees.{AreRows, row_at}
-use Rattle.sr_spf.proofs.HopsLemmas.{get_push, hop-from_test, test-from_hop, no_hop}
+use Rattle.sr_spf.proofs.HopsLemmas.{hop-from_test, test-from_hop, no_hop}
+use Rattle.sr_seq.proofs.ListLemmas.{get-push}
 
 -- no cell of a row is above FAR
 pub row-cells : (g : Graph) (u : ℕ) (row : List ℕ) → IsRow g [] u row → AreCells row
@@ -71,7 +72,7 @@ carried-more g sets n set h is = record {
       (λ o. h.each l other o)
       (λ o. let same : l ≡ n = omega (arith, o.0, h.long) in
       subst (λ k. IsCarried g k other) (sym same) (subst (λ s. IsCarried g n s) o.1 is))
-      (get_push sets set l other e);
+      (get-push sets set l other e);
 }
 
 -- what the set of a link tells of a node

@@ -11,6 +11,8 @@ use Rattle.sr_model.specs.Walk.{IsNextHop, IsCell}
 use Rattle.sr_walks.proofs.Distances.{cell-distance, IsNextHop-from_sum, sum-from_IsNextHop}
 use Rattle.sr_spf.specs.Hops.{AreNextHops, AddsNextHops, AreHopsFrom, IsCut, hops_to}
 use Rattle.sr_spf.specs.Trees.{AreRows, row_at}
+use Rattle.sr_seq.proofs.ListLemmas.{get-left, get-last, get-push}
+use Rattle.std.proofs.lemmas.Option.{slice_get_within}
 
 -- the cell of node v in the row of node u
 abbrev pub cell_in : List (List ℕ) → ℕ → ℕ → ℕ
@@ -39,26 +41,6 @@ test-from_hop g rows u v l graph r a b near hop =
 -- a node that is not reached has no next hops
 pub no_hop : (g : Graph) (rows : List (List ℕ)) (u v l : ℕ) → AreRows g rows (node_count g) → u < node_count g → v < node_count g → FAR ≤ cell_in rows u v → IsNextHop g [] u v l → ⊥
 no_hop g rows u v l r a b far hop = (is_cell g rows u v r a b).far far (l ∷ hop.more) hop.shortest.0
-
-pub get_left : {X : Type 0} (xs ys : List X) (i : ℕ) (x : X) → slice_get xs i ≡ Some x → slice_get (xs ++ ys) i ≡ Some x
-get_left [] ys i x e = absurd {0} (cc)
-get_left (z ∷ xs) ys zero x e = e
-get_left (z ∷ xs) ys (suc i) x e = get_left xs ys i x e
-
-pub get_last : {X : Type 0} (xs : List X) (y : X) → slice_get (xs ++ y ∷ []) (length xs) ≡ Some y
-get_last [] y = refl
-get_last (z ∷ xs) y = get_last xs y
-
-pub get_push : {X : Type 0} (xs : List X) (y : X) (i : ℕ) (x : X) → slice_get (xs ++ y ∷ []) i ≡ Some x → (slice_get xs i ≡ Some x) ⊎ ((i ≡ length xs) × (y ≡ x))
-get_push [] y zero x e = inr (refl, cc)
-get_push [] y (suc i) x e = absurd {0} (cc)
-get_push (z ∷ xs) y zero x e = inl e
-get_push (z ∷ xs) y (suc i) x e = ⊎_elim (λ h. inl h) (λ h. inr (omega (arith, h.0), h.1)) (get_push xs y i x e)
-
-get_within : {X : Type 0} (xs : List X) (i : ℕ) (x : X) → slice_get xs i ≡ Some x → i < length xs
-get_within [] i x e = absurd {0} (cc)
-get_within (z ∷ xs) zero x e = omega arith
-get_within (z ∷ xs) (suc i) x e = let h : i < length xs = get_within xs i x e in omega arith
 
 -- of the links below n, the next hops stand behind the links that there were
 pub record AddsHopsBelow (g : Graph) (u v n : ℕ) (before after : List LinkNo) : Type 0 where
@@ -96,20 +78,20 @@ hops-push g u v n before after link h hop is = record {
   each = λ i l e. ⊎_elim
       (λ o. ((h.each i l o).0, omega (arith, (h.each i l o).1)))
       (λ o. let same : l.0 ≡ n = ap (λ k. k.0) (sym o.1) ∙ is in let P : ℕ → Type 0 = λ k. IsNextHop g [] u v k in (subst P (sym same) hop, omega arith))
-      (get_push h.added link i l e);
+      (get-push h.added link i l e);
   ascending = λ i j k l lt e f. ⊎_elim
       (λ o. ⊎_elim
       (λ p. h.ascending i j k l lt p o)
-      (λ p. let z : j < length h.added = get_within h.added j l o in absurd (omega (arith, p.0)))
-      (get_push h.added link i k e))
+      (λ p. let z : j < length h.added = slice_get_within h.added j l o in absurd (omega (arith, p.0)))
+      (get-push h.added link i k e))
       (λ o. ⊎_elim
       (λ p. omega (arith, (h.each i k p).1, ap (λ (w : LinkNo). w.0) o.1))
       (λ p. absurd (omega (arith, p.0, o.0)))
-      (get_push h.added link i k e))
-      (get_push h.added link j l f);
+      (get-push h.added link i k e))
+      (get-push h.added link j l f);
   all = λ l lt other. ⊎_elim
-      (λ (e : l ≡ n). (length h.added, link, get_last h.added link, is ∙ sym e))
-      (λ (ne : l ≢ n). let o : (i : ℕ) × (k : LinkNo) × (slice_get h.added i ≡ Some k) × (k.0 ≡ l) = h.all l (omega arith) other in (o.0, o.1, get_left h.added (link ∷ []) o.0 o.1 o.2, o.3))
+      (λ (e : l ≡ n). (length h.added, link, get-last h.added link, is ∙ sym e))
+      (λ (ne : l ≢ n). let o : (i : ℕ) × (k : LinkNo) × (slice_get h.added i ≡ Some k) × (k.0 ≡ l) = h.all l (omega arith) other in (o.0, o.1, get-left h.added (link ∷ []) o.0 o.1 o.2, o.3))
       (cases_eq l n);
 }
 

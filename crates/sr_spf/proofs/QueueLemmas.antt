@@ -97,13 +97,10 @@ queued-push g x s cells entries entries' u i q within outside carry fell perm =
     (λ v ne. rw e (get_or-set_other cells (head g i) v _ 0 ne))
     (subst (λ k. IsPermutation (entry k (head g i) ∷ entries) entries') (sym c_at) perm)
 
-contains_one : {X : Type 0} (y x : X) → Contains (y ∷ []) x → y ≡ x
-contains_one y x w = ⊎_elim (λ n. absurd (omega (arith, n.1))) (λ e. e) (Contains-push_cases [] y x w)
-
 -- what a pop leaves of the entries
 left_in : (entries entries' : Entries) (c w : ℕ) (e : Reverse ℕ) → IsPermutation entries (entry c w ∷ entries') → Contains entries e → (entry c w ≡ e) ⊎ Contains entries' e
 left_in entries entries' c w e perm i =
-    ⊎_elim (λ o. inl (contains_one (entry c w) e o)) (λ r. inr r) (Contains-append_cases (entry c w ∷ []) entries' e (Contains-permutation entries _ e perm i))
+    ⊎_elim (λ o. inl (⊎_elim (λ n. absurd (omega (arith, n.1))) (λ same. same) (Contains-push_cases [] (entry c w) e o))) (λ r. inr r) (Contains-append_cases (entry c w ∷ []) entries' e (Contains-permutation entries _ e perm i))
 
 -- an entry tells its cell and its node
 pub entry-parts : (c w d v : ℕ) → w < NUMBERS → v < NUMBERS → entry c w ≡ entry d v → (c ≡ d) × (w ≡ v)

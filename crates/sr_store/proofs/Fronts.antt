@@ -1,6 +1,7 @@
 -- Beginnings of one list.
 use Rattle.std.proofs.Common.{◌≡◌, ℕ, zero, suc, ◌≤◌, List, [], ◌∷◌, ◌++◌, length, length-append, slice_get, Some, refl, ap, sym, ◌∙◌, subst, arith, append_assoc}
 use mathlib.Core.List.{IsPrefix}
+use Rattle.sr_seq.proofs.ListLemmas.{get-left}
 
 -- each list begins with itself
 pub prefix_self : {A : Type 0} (xs : List A) → IsPrefix xs xs
@@ -13,14 +14,9 @@ prefix_trans xs ys zs p q = (p.0 ++ q.0, sym (append_assoc xs p.0 q.0) ∙ (ap (
 pub prefix-length : {A : Type 0} (xs zs : List A) → IsPrefix xs zs → length xs ≤ length zs
 prefix-length xs zs p = omega (arith, length-append xs p.0, ap length p.1)
 
-get-more : {A : Type 0} (xs ys : List A) (k : ℕ) (v : A) → slice_get xs k ≡ Some v → slice_get (xs ++ ys) k ≡ Some v
-get-more [] ys k v is = absurd (cc is)
-get-more (x ∷ xs) ys zero v is = is
-get-more (x ∷ xs) ys (suc n) v is = get-more xs ys n v is
-
 -- a place of a list is that place of a longer one
 pub get-prefix : {A : Type 0} (xs zs : List A) (k : ℕ) (v : A) → IsPrefix xs zs → slice_get xs k ≡ Some v → slice_get zs k ≡ Some v
-get-prefix xs zs k v p is = subst (λ w. slice_get w k ≡ Some v) p.1 (get-more xs p.0 k v is)
+get-prefix xs zs k v p is = subst (λ w. slice_get w k ≡ Some v) p.1 (get-left xs p.0 k v is)
 
 -- of two beginnings of one list the shorter begins the longer
 pub prefix_shorter : {A : Type 0} (xs ys zs : List A) → IsPrefix xs zs → IsPrefix ys zs → length xs ≤ length ys → IsPrefix xs ys

@@ -7,7 +7,8 @@ use Rattle.sr_store.specs.Entries.{entries_of, entry_versions}
 use Rattle.sr_store.specs.Fronts.{IsFront}
 use Rattle.sr_store.specs.Histories.{IsNext, NumbersRise}
 use Rattle.sr_store.proofs.Entries.{entries-push, entries-mark, entries-length, versions-append}
-use Rattle.sr_store.proofs.Numbers.{rise-push, rise-bound, get-last}
+use Rattle.sr_store.proofs.Numbers.{rise-push, rise-bound}
+use Rattle.sr_seq.proofs.ListLemmas.{get-last}
 
 module _ {V : Type 0} (number : V → ℕ) where
   pub front-room : (count : ℕ) (log : List (LogEntry V)) → IsFront number count log false → count ≤ 2 ^ 32

@@ -6,7 +6,8 @@ use Rattle.logbook.specs.Pages.{Book}
 use Rattle.sr_store.specs.Histories.{History, Begins, NumbersRise, with_mark, with_version}
 use Rattle.sr_store.specs.Events.{Event, Publish, Grab, Learn, Close, Holder, StoreState, opened_with, with_list, seated, CanHappen, after, after_all, CanAllHappen, IsSoundStore, Grows, HistoriesGrow}
 use Rattle.sr_store.proofs.Fronts.{prefix_self, prefix_trans}
-use Rattle.sr_store.proofs.Numbers.{get-push, rise-push}
+use Rattle.sr_store.proofs.Numbers.{rise-push}
+use Rattle.sr_seq.proofs.ListLemmas.{get-push}
 
 module _ {V : Type 0} where
   pub begins-self : (h : History V) → Begins h h

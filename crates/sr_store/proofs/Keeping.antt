@@ -9,7 +9,7 @@ use Rattle.sr_store.specs.declared.place.View.{View}
 use Rattle.sr_store.specs.Places.{AllOf, Looks, store_name, newcomer, knower}
 use Rattle.sr_store.specs.Histories.{History}
 use Rattle.sr_store.specs.Lists.{EndsWith}
-use Rattle.sr_store.proofs.Numbers.{get-last}
+use Rattle.sr_seq.proofs.ListLemmas.{get-last}
 
 -- a name says which store it is
 pub same_store : (a b : Book) → store_name a ≡ store_name b → a ≡ b

@@ -2,24 +2,8 @@
 use Rattle.std.proofs.Common.{◌≡◌, ℕ, zero, suc, ◌+◌, ◌-◌, ◌<◌, ◌≤◌, List, [], ◌∷◌, ◌++◌, length, Some, slice_get, refl, ap, sym, ◌∙◌, subst, arith, ◌⊎◌, inl, inr, ⊎_elim}
 use Rattle.std.proofs.lemmas.Option.{same_Some}
 use Rattle.sr_store.specs.Histories.{NumbersRise, IsNext}
-
-get-bound : {V : Type 0} (xs : List V) (k : ℕ) (y : V) → slice_get xs k ≡ Some y → k < length xs
-get-bound [] k y e = absurd (cc e)
-get-bound (x ∷ xs) zero y e = omega arith
-get-bound (x ∷ xs) (suc k) y e = let rest = get-bound xs k y e in omega (arith, rest)
-
-pub get-push : {V : Type 0} (xs : List V) (x : V) (k : ℕ) (y : V) → slice_get (xs ++ x ∷ []) k ≡ Some y
-    → (slice_get xs k ≡ Some y) ⊎ ((k ≡ length xs) × (x ≡ y))
-get-push [] x zero y e = inr (refl, same_Some x y e)
-get-push [] x (suc k) y e = absurd (cc e)
-get-push (z ∷ xs) x zero y e = inl e
-get-push (z ∷ xs) x (suc k) y e =
-    ⊎_elim (λ old. inl old) (λ (new : (k ≡ length xs) × (x ≡ y)). inr (omega (arith, new.0), new.1)) (get-push xs x k y e)
-
--- what was added last stands last
-pub get-last : {V : Type 0} (xs : List V) (x : V) → slice_get (xs ++ x ∷ []) (length xs) ≡ Some x
-get-last [] x = refl
-get-last (y ∷ xs) x = get-last xs x
+use Rattle.std.proofs.lemmas.Option.{slice_get_within}
+use Rattle.sr_seq.proofs.ListLemmas.{get-push}
 
 get-before : {V : Type 0} (xs : List V) (k : ℕ) (y : V) → slice_get xs (suc k) ≡ Some y → (x : V) × (slice_get xs k ≡ Some x)
 get-before [] k y e = absurd (cc e)
@@ -32,7 +16,7 @@ module _ {V : Type 0} (number : V → ℕ) where
       ⊎_elim
       (λ (old : slice_get vs (k + 1) ≡ Some after). ⊎_elim
       (λ (here : slice_get vs k ≡ Some before). rise k before after here old)
-      (λ (end : (k ≡ length vs) × (v ≡ before)). let far = get-bound vs (k + 1) after old in absurd (omega (arith, far, end.0)))
+      (λ (end : (k ≡ length vs) × (v ≡ before)). let far = slice_get_within vs (k + 1) after old in absurd (omega (arith, far, end.0)))
       (get-push vs v k before at))
       (λ (new : (k + 1 ≡ length vs) × (v ≡ after)). ⊎_elim
       (λ (here : slice_get vs k ≡ Some before).

@@ -5,6 +5,8 @@ use Rattle.std.proofs.Common.{eq-eqb}
 use Rattle.std.proofs.lemmas.Bool.{cond_both, eqb-true, not-true}
 use Rattle.sr_model.specs.Graph.{Graph, IsGraph, carries, has, head, is_overloaded, link_count, metric, node_count, tail}
 use Rattle.sr_model.specs.Walk.{IsWalk, Passes, cost}
+use Rattle.std.proofs.lemmas.List.Elements.{All-nil, All-cons, All-head, All-tail}
+use Rattle.sr_model.specs.Space.{Avoids}
 
 -- the test of a node beside an end
 pub carries-cases : (g : Graph) (u w : ℕ) → carries g u w ≡ true → (w ≡ u) ⊎ (is_overloaded g w ≡ false)
@@ -123,3 +125,8 @@ pub stable-near : (g : Graph) (x : List Bool) (s : ℕ) (cells : List ℕ) (far 
 stable-near g x s cells far near u [] v a b h = subst (λ w. slice_index cells w < far) a h
 stable-near g x s cells far near u (l ∷ p) v a b h =
     stable-near g x s cells far near (head g l) p v a.3 (begins-passes g s (head g l) p a.4) (near l a.0 a.1 (rw a.2 b) (subst (λ w. slice_index cells w < far) (sym a.2) h))
+
+-- the beginning of what avoids x does too
+pub avoids-left : (x : List Bool) (p q : List ℕ) → Avoids x (p ++ q) → Avoids x p
+avoids-left x [] q a = All-nil (λ k. has x k ≡ false)
+avoids-left x (l ∷ p) q a = All-cons (λ k. has x k ≡ false) l p (All-head (λ k. has x k ≡ false) l (p ++ q) a) (avoids-left x p q (All-tail (λ k. has x k ≡ false) l (p ++ q) a))

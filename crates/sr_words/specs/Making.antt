@@ -6,7 +6,7 @@ use Rattle.clap.specs.Simple.{App, Shape, matches_of, new_app, new_rule, on_top,
 use Rattle.clap.specs.Faults.{fault_of}
 use Rattle.clap.specs.declared.builder.action.ArgAction.TheVariants.{Set}
 use Rattle.clap.specs.declared.builder.value_parser.ValueParser.TheVariants.{Signed}
-use Rattle.sr_make.specs.declared.making.TheConstants.{FEWEST_NODES, MOST_NODES}
+use Rattle.sr_make.specs.declared.making.TheConstants.{FEWEST_NODES, MOST_MADE_NODES}
 use Rattle.sr_words.specs.declared.making.TheConstants.{MOST_START}
 
 -- the name of an option, and the range of its number
@@ -17,7 +17,7 @@ pub record Ranged : Type 0 where
 
 -- the count of nodes
 abbrev pub nodes_range : Ranged
-nodes_range = record { name = codes "nodes"; least = FEWEST_NODES; most = MOST_NODES }
+nodes_range = record { name = codes "nodes"; least = FEWEST_NODES; most = MOST_MADE_NODES }
 
 -- the number that the script is made from
 abbrev pub start_range : Ranged

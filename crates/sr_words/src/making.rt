@@ -6,7 +6,7 @@ ghost use Rattle.sr_words.specs.Making.{make_command as make_app, number_option 
 
 use clap::error::ErrorKind;
 use clap::{Arg, ArgAction, ArgMatches, Command};
-use sr_make::{FEWEST_NODES, MOST_NODES};
+use sr_make::{FEWEST_NODES, MOST_MADE_NODES};
 use std::alloc::{AllocError, Global};
 
 /// The greatest number that `make` starts from.
@@ -31,7 +31,7 @@ fn make_command<'a>(alloc: Global) -> Result<Command<'a>, AllocError>
     Command::new(alloc, "make")
         .no_binary_name(true)
         .disable_help_flag(true)
-        .arg(number_option(alloc, "nodes", FEWEST_NODES as u32, MOST_NODES as u32))?
+        .arg(number_option(alloc, "nodes", FEWEST_NODES as u32, MOST_MADE_NODES as u32))?
         .arg(number_option(alloc, "start", 0, MOST_START))
 }
 
@@ -52,7 +52,12 @@ fn number_shown(matches: &ArgMatches<'_>, name: &str, least: u32, most: u32) -> 
 fn shown_numbers(matches: &ArgMatches<'_>) -> Option<(u16, u32)>
     ensures { ShowNumbers (rows_of (found_of matches.now)) result }
 {
-    match number_shown(matches, "nodes", FEWEST_NODES as u32, MOST_NODES as u32) {
+    match number_shown(
+        matches,
+        "nodes",
+        FEWEST_NODES as u32,
+        MOST_MADE_NODES as u32,
+    ) {
         Some(nodes) => match number_shown(matches, "start", 0, MOST_START) {
             Some(start) => Some((nodes as u16, start)),
             None => None,

@@ -15,7 +15,7 @@ use Rattle.sr_watch.specs.declared.seated.Seated.{Seated}
 use Rattle.sr_watch.specs.Starts.{Plans, task_of, next_task, SeatedFrom}
 use Rattle.sr_watch.specs.Joins.{Back, SeatedRounds, AllRounds}
 use Rattle.sr_work.specs.declared.counting.Counting.{Counting}
-use Rattle.sr_work.specs.declared.watched.TheConstants.{MOST_ROUNDS}
+use Rattle.sr_model.specs.declared.limits.TheConstants.{MOST_ROUNDS}
 use Rattle.sr_work.specs.Watched.{Watched}
 use Rattle.sr_work.specs.Started.{WasStarted, IsPlaced}
 use Rattle.sr_work.proofs.Made.{counting, seated-length, back-length}

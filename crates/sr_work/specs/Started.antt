@@ -8,7 +8,7 @@ use Rattle.sr_store.specs.Seats.{SeatsFrom}
 use Rattle.sr_watch.specs.declared.task.Rota.{Rota}
 use Rattle.sr_watch.specs.Starts.{Plans, Started, Holds}
 use Rattle.sr_work.specs.declared.counting.Counting.{Counting}
-use Rattle.sr_work.specs.declared.watched.TheConstants.{MOST_ROUNDS}
+use Rattle.sr_model.specs.declared.limits.TheConstants.{MOST_ROUNDS}
 use Rattle.sr_work.specs.Watched.{Watched, AreNumberedFrom}
 
 -- its watchers, and the rounds of each

@@ -10,5 +10,5 @@ mod work;
 
 pub use counting::Counting;
 pub use hold::RunningHold;
-pub use watched::{MOST_ROUNDS, MOST_WATCHERS, RunningWatch};
+pub use watched::RunningWatch;
 pub use work::Work;

@@ -7,7 +7,7 @@ ghost use Rattle.sr_store.specs.Counts.{opened, spread, usage_turned};
 ghost use Rattle.sr_store.specs.Histories.{with_mark};
 ghost use Rattle.sr_store.specs.Seats.{SeatsFrom};
 ghost use Rattle.sr_work.specs.Reports.{AreReports};
-ghost use Rattle.sr_work.specs.declared.watched.TheConstants.{MOST_ROUNDS, MOST_WATCHERS};
+ghost use Rattle.sr_model.specs.declared.limits.TheConstants.{MOST_ROUNDS, MOST_WATCHERS};
 ghost use Rattle.sr_work.specs.Watched.{watched_from, with_next, IsNumberedNext};
 
 use crate::counting::Counting;
@@ -21,12 +21,6 @@ use std::alloc::{AllocError, Global};
 use std::marker::Model;
 use std::sync::{Arc, Wait};
 use std::thread::Threads;
-
-/// A watch has at most this many watchers.
-pub const MOST_WATCHERS: u32 = 8;
-
-/// Each of its watchers makes at most this many rounds.
-pub const MOST_ROUNDS: u32 = 16;
 
 /// A watch: watchers that audit what is published, each in a thread where there is one. Contracts see it as its watchers
 /// and rounds, how many of the watchers have a reader, and the versions that they could meet so far.

@@ -2,7 +2,7 @@
 ghost use Rattle.std.specs.Prelude.{◌≡◌, ◌<◌, ◌≤◌, IfOk, OnOk, MatchResult};
 ghost use Rattle.std.specs.Arc.{arc_value};
 ghost use Rattle.std.specs.Thread.{IsSync};
-ghost use Rattle.sr_work.specs.declared.watched.TheConstants.{MOST_ROUNDS, MOST_WATCHERS};
+ghost use Rattle.sr_model.specs.declared.limits.TheConstants.{MOST_ROUNDS, MOST_WATCHERS};
 ghost use Rattle.sr_work.specs.Works.{StartsWatch, MayFollow, AreReportsOf};
 ghost use Rattle.sr_work.specs.Works.{after_publishing, usage_published, usage_joined};
 

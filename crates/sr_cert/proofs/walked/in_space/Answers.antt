@@ -1,10 +1,12 @@
 use Rattle.std.proofs.Common.{arith}
 use Rattle.sr_cert.proofs.ToldLemmas.{refused, granted, holds}
-use Rattle.sr_cert.proofs.SpaceLemmas.{one-out, none-in}
+use Rattle.sr_cert.proofs.SpaceLemmas.{none-in}
 use Rattle.sr_cert.proofs.walked.in_space.Goals as goal
+use Rattle.sr_graph.specs.Members.{number_at}
+use Rattle.sr_walks.proofs.Distances.{none-from_InP}
 
 pub returns-then-is_on_shortest : goal.returns-then-is_on_shortest
-returns-then-is_on_shortest c = refused (one-out c.args.graph.now c.args.x.now c.links-link-items.result.now c.args.u.0 c.args.v.0 c.loop-link.link-index c.links-link-items.ensures c.loop-link-test.true (holds c.is_on_shortest.result c.is_on_shortest.ensures c.if-is_on_shortest.true))
+returns-then-is_on_shortest c = refused (λ inside. none-from_InP c.args.graph.now c.args.x.now c.args.u.0 c.args.v.0 (number_at c.links-link-items.result.now c.loop-link.link-index) inside (c.links-link-items.ensures.each c.loop-link.link-index c.loop-link-test.true) (holds c.is_on_shortest.result c.is_on_shortest.ensures c.if-is_on_shortest.true))
 
 pub returns : goal.returns
 returns c =

@@ -1,5 +1,5 @@
 use Rattle.std.proofs.Common.{◌≡◌, ◌<◌, arith, ap, refl, ◌∙◌}
-use Rattle.sr_script.specs.declared.command.TheConstants.{MOST_VERSION}
+use Rattle.sr_model.specs.declared.limits.TheConstants.{MOST_VERSION}
 use Rattle.sr_lsdb.specs.Editing.{with_none_staged}
 use Rattle.sr_run.specs.Domain.{number_of}
 use Rattle.sr_run.specs.State.{State}
