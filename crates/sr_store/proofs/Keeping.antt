@@ -41,6 +41,11 @@ turns h n views seat v same all at =
     let kept : AllOf n.store (set views seat (knower n)) = subst (λ b. AllOf b (set views seat (knower n))) (sym same) (placed h.store views seat (knower n) all (λ _. ap store_name same)) in
     (knower n, kept, ((λ knows. all seat v at knows), refl))
 
+-- the same where both are known only by what they are equal to
+pub turns_to : {V : Type 0} (h before n next : History V) (views : List View) (seat : ℕ) (v : View) → h ≡ before → n ≡ next → next.store ≡ before.store
+    → AllOf h.store views → get_elem? views seat ≡ some v → (w : View) × AllOf n.store (set views seat w) × Looks v h n w
+turns_to {V} h before n next views seat v was now same = turns h n views seat v (ap (λ (s : History V). s.store) now ∙ (same ∙ sym (ap (λ (s : History V). s.store) was)))
+
 pub joined : (b : Book) (views : List View) (w : View) → AllOf b views → (w.knows ≡ true → w.store ≡ store_name b) → AllOf b (views ++ w ∷ [])
 joined b views w h fits seat v at knows =
     ⊎_elim (λ old. h seat v old knows) (λ (new : w ≡ v). subst (λ (u : View). u.store ≡ store_name b) new (fits (ap (λ (u : View). u.knows) new ∙ knows))) (at_snoc views w v seat at)

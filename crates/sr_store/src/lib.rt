@@ -9,6 +9,7 @@ mod opening;
 mod place;
 mod reader;
 mod shown;
+mod side;
 mod usage;
 mod writer;
 

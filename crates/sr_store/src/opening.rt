@@ -7,10 +7,10 @@ ghost use Rattle.sr_store.specs.Seats.{IsSeat, SeatsFrom};
 
 use crate::history::Author;
 use crate::reader::Reader;
-use crate::shown::{Informed, Sees, Shown, Twice};
+use crate::shown::{Informed, Shown, Twice};
+use crate::side::new_side;
 use crate::usage::Usage;
 use crate::writer::Writer;
-use left_right::writer::Writer as Side;
 use sr_base::Numbered;
 use std::alloc::{AllocError, Global};
 use std::sync::{Arc, Wait};
@@ -32,27 +32,18 @@ pub fn open<V: Numbered + Drop, R: Wait>(
     ensures seats { IfOk result
         (λ t. SeatsFrom t.0.list.store 0 t.1.items × (t.0.given ≡ vec_len t.1) × (vec_len t.1 ≤ places)) }
 {
-    let mut readers = Vec::with_capacity(alloc, places as usize)?;
     let mut writer = found(rt, alloc, &first, places)?;
-    for number in 0..places {
-        match seat(&mut writer, &first, number) {
-            Ok(Some(reader)) => match readers.push(reader) {
-                Ok(()) => {}
-                Err(_) => {
-                    writer.end(rt);
-                    return Err(AllocError);
-                }
-            },
-            Ok(None) => break,
-            Err(refused) => {
-                writer.end(rt);
-                return Err(refused);
-            }
+    match seat_all(alloc, &mut writer, &first, places) {
+        Ok(readers) => {
+            writer.gave(readers.len());
+            usage.count_opened(places, readers.len());
+            Ok((writer, readers))
+        }
+        Err(refused) => {
+            writer.end(rt);
+            Err(refused)
         }
     }
-    writer.gave(readers.len());
-    usage.count_opened(places, readers.len());
-    Ok((writer, readers))
 }
 
 // The writer, once it knows its store.
@@ -65,31 +56,48 @@ fn found<V: Numbered + Drop, R: Wait>(
     requires { 0 < places }
     ensures { IfOk result (λ w. (w.list.versions ≡ arc_value first.now ∷ []) × (w.stuck ≡ false)) }
 {
+    let (author, list) = begin(first)?;
+    let side = new_side(rt, alloc, &list, places)?;
+    Ok(Writer::whole(side, author, list, 0))
+}
+
+// The author of a store whose only version is this one, and the history so far.
+fn begin<V: Numbered + Drop>(first: &Arc<V>) -> Result<(Author<V>, Shown<V>), AllocError>
+    ensures list { IfOk result (λ t. (t.1.versions ≡ arc_value first.now ∷ []) × (t.1.closed ≡ false)) }
+    ensures author { IfOk result (λ t. t.0 ≡ t.1) }
+{
+    let last = Arc::try_clone(first)?;
     let mut author = Author::new();
     let version: &V = first;
-    if !author.add(version) {
-        return Err(AllocError);
+    if author.add(version) {
+        let list = author.front();
+        Ok((author, Shown::new(last, list)))
+    } else {
+        Err(AllocError)
     }
-    let one = Shown::new(Arc::try_clone(first)?, author.front());
-    let two = Shown::new(Arc::try_clone(first)?, author.front());
-    let three = Shown::new(Arc::try_clone(first)?, author.front());
-    let last = Arc::try_clone(first)?;
-    let mut inner = Side::new(alloc, one, two, places as usize)?;
-    match inner.append(three) {
-        Ok(()) => {}
-        Err(_) => {
-            drop(inner.take(rt));
-            return Err(AllocError);
+}
+
+// A reader for each place that left_right has.
+fn seat_all<V: Numbered + Drop>(
+    alloc: Global,
+    writer: &mut Writer<V>,
+    last: &Arc<V>,
+    places: u32,
+) -> Result<Vec<Reader<V>>, AllocError>
+    requires { EndsWith writer.old.list.versions (arc_value last.now) }
+    ensures readers { IfOk result (λ rs. All (IsSeat writer.old.list) rs.items) }
+    ensures seats { IfOk result
+        (λ rs. SeatsFrom writer.old.list.store 0 rs.items × (vec_len rs ≤ places)) }
+    ensures kept { (writer.new.list ≡ writer.old.list) × (writer.new.stuck ≡ writer.old.stuck) }
+{
+    let mut readers = Vec::with_capacity(alloc, places as usize)?;
+    for number in 0..places {
+        match seat(writer, last, number)? {
+            Some(reader) => readers.push_reserved(reader),
+            None => break,
         }
     }
-    let (inner, done) = inner.publish_as::<Sees, R>(rt);
-    match done {
-        Ok(()) => Ok(Writer::whole(inner, author, last)),
-        Err(refused) => {
-            drop(inner.take(rt));
-            Err(refused)
-        }
-    }
+    Ok(readers)
 }
 
 // A reader whose list is the writer's, where left_right has a place for it.

@@ -64,6 +64,14 @@ impl<V: Numbered + Drop> Shown<V> {
             Err(refused) => Err(refused),
         }
     }
+
+    /// Two copies, or out of memory.
+    pub(crate) fn two_copies(&self) -> Result<(Shown<V>, Shown<V>), AllocError>
+        ensures { IfOk result (λ t. (t.0 ≡ self.now) × (t.1 ≡ self.now)) }
+    {
+        let one = self.again()?;
+        Ok((one, self.again()?))
+    }
 }
 
 impl<V: Numbered + Drop> Absorb<Shown<V>> for Shown<V> {

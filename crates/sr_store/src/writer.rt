@@ -10,7 +10,8 @@ ghost use Rattle.sr_store.specs.Places.{knower};
 use crate::history::{Author, Front};
 use crate::place::View;
 use crate::reader::Told;
-use crate::shown::{OneStore, Sees, Shown};
+use crate::shown::{OneStore, Shown};
+use crate::side::show_next;
 use crate::usage::Usage;
 use core::mem::replace_with;
 use left_right::Absorb;
@@ -40,24 +41,27 @@ where
 }
 
 impl<V: Numbered + Drop> Writer<V> {
+    // The writer of what its author wrote, all of which is shown. It is stuck where that has the close mark.
     pub(crate) fn whole(
         inner: Side<Shown<V>, Shown<V>, View, OneStore>,
         author: Author<V>,
-        last: Arc<V>,
+        list: Shown<V>,
+        given: usize,
     ) -> Writer<V>
-        requires last { EndsWith author.versions (arc_value last) }
         requires idle { drop inner.behind inner.log.items ≡ [] }
-        requires knows { view inner.desk.place ≡ knower author }
-        requires shown { (inner.desk.shown.value ≡ author) × (author.closed ≡ false) }
-        ensures { (result.list ≡ author) × (result.stuck ≡ false) × (result.given ≡ 0) }
+        requires knows { view inner.desk.place ≡ knower list }
+        requires shown { (inner.desk.shown.value ≡ list) × (author ≡ list) }
+        ensures list { (result.list ≡ list) × (result.stuck ≡ list.closed) }
+        ensures given { result.given ≡ given }
     {
+        let (list, last) = list.parts();
         Writer {
             inner,
-            list: author.front(),
+            stuck: list.closed(),
+            list,
             last,
             author,
-            given: 0,
-            stuck: false,
+            given,
         }
     }
 
@@ -127,36 +131,18 @@ impl<V: Numbered + Drop> Writer<V> {
             (λ _. (result.0.list ≡ self.list) × (result.0.stuck ≡ true)) }
         ensures given { result.0.given ≡ self.given }
     {
-        let newest = match Arc::try_clone(&version) {
-            Ok(newest) => newest,
-            Err(refused) => return (self.locked(), Err(refused)),
-        };
+        let next = Shown::new(version, self.author.front());
         let Writer {
-            mut inner,
+            inner,
             list,
             last,
             author,
             given,
             stuck: _,
         } = self;
-        let next = author.front();
-        match inner.append(Shown::new(version, author.front())) {
-            Ok(()) => {}
-            Err(_) => return (held(inner, list, last, author, given), Err(AllocError)),
-        }
-        let (inner, done) = inner.publish_as::<Sees, R>(rt);
+        let (inner, done) = show_next(rt, inner, &next);
         match done {
-            Ok(()) => {
-                let writer = Writer {
-                    inner,
-                    stuck: next.closed(),
-                    list: next,
-                    last: newest,
-                    author,
-                    given,
-                };
-                (writer, Ok(()))
-            }
+            Ok(()) => (Writer::whole(inner, author, next, given), Ok(())),
             Err(refused) => (held(inner, list, last, author, given), Err(refused)),
         }
     }
