@@ -3,6 +3,9 @@ use Rattle.std.proofs.Common.{◌≡◌, ℕ, ◌+◌, ◌<◌, ◌≤◌, List,
 use Rattle.std.proofs.lemmas.List.{drop_all, length-map}
 use Rattle.sr_script.specs.Words.{word_at}
 use Rattle.sr_script.specs.Says.{Argument, IsGiven, AreGiven}
+use Rattle.sr_script.specs.Answers.{IsListFault, IsValueFault}
+use Rattle.sr_script.specs.declared.line.LineFault.{LineFault}
+use Rattle.sr_script.specs.declared.line.LineFault.TheVariants.{TooLong, UnknownWord, BadForm, BadHex, Memory}
 
 -- a list whose words give values so far, and then one that gives none
 pub none-given : {T : Type 0} (values xs : List T) (rest : List (Option T)) → map Some xs ++ None ∷ rest ≡ map Some values → ⊥
@@ -10,6 +13,16 @@ none-given [] [] rest e = grind arith
 none-given (v ∷ vs) [] rest e = grind arith
 none-given [] (x ∷ xs) rest e = grind arith
 none-given (v ∷ vs) (x ∷ xs) rest e = none-given vs xs rest (grind arith)
+
+-- the fault of one value is that of the list
+pub value-refused : {T : Type 0} (given : Option T) (values : List T) (rest whole : List (Option T)) (most : ℕ) (fault : LineFault)
+    → whole ≡ map Some values ++ given ∷ rest → IsValueFault given fault → IsListFault whole most fault
+value-refused given values rest whole most BadForm e none =
+    λ all is. absurd (none-given all values rest (ap (λ o. map Some values ++ o ∷ rest) (sym none) ∙ sym e ∙ is))
+value-refused given values rest whole most (Memory error) e none = tt
+value-refused given values rest whole most TooLong e none = absurd none
+value-refused given values rest whole most UnknownWord e none = absurd none
+value-refused given values rest whole most BadHex e none = absurd none
 
 -- what gives one list of values gives no other
 pub values-one : {T : Type 0} (xs ys : List T) → map Some xs ≡ map Some ys → xs ≡ ys

@@ -4,7 +4,8 @@ use Rattle.std.specs.declared.result.Result.{Result}
 use Rattle.std.specs.declared.result.Result.TheVariants.{Ok, Err}
 use Rattle.hex.specs.Hex.{decode_of}
 use Rattle.sr_script.specs.Words.{word_at}
-use Rattle.sr_script.specs.Says.{SaysCommand, first_word, is_question, kind_word, grouping_word}
+use Rattle.sr_script.specs.Says.{SaysCommand, is_question, kind_word, grouping_word}
+use Rattle.sr_script.specs.FirstWords.{IsOneOf}
 use Rattle.sr_script.specs.Number.{number_in}
 use Rattle.sr_script.specs.declared.name.TheConstants.{MOST_LINK_NUMBER}
 use Rattle.sr_model.specs.declared.case.Kind.{Kind}
@@ -39,6 +40,11 @@ NamesNoRepair ws i = NamesNoKind (word_at ws i) ⊎ NamesNoLink ws (i + 1) ⊎ (
 abbrev pub IsCommandOf : List (List ℕ) → Option Command → Type 0
 IsCommandOf ws answer = MatchOption answer ((command : Command) → ¬ SaysCommand ws command) (SaysCommand ws)
 
+-- the first word is none of these; or it is one of them, and the answer is the command that the words say, or none
+abbrev pub IsReadAmong : List (List ℕ) → List (List ℕ) → Option (Option Command) → Type 0
+IsReadAmong firsts ws answer = MatchOption answer (¬ IsOneOf (word_at ws 0) firsts)
+    (λ read. IsOneOf (word_at ws 0) firsts × IsCommandOf ws read)
+
 -- the words say this question, or none where they say none
 abbrev pub IsQuestionOf : List (List ℕ) → Option Command → Type 0
 IsQuestionOf ws answer = MatchOption answer
@@ -52,15 +58,17 @@ IsReading ws (Err UnknownWord) = ¬ BeginsCommand (word_at ws 0)
 IsReading ws (Err BadForm) = BeginsCommand (word_at ws 0) × ((command : Command) → ¬ SaysCommand ws command)
 IsReading ws (Err fault) = ⊥
 
--- no other command begins with the word of this one
-abbrev pub IsOnly : Command → Type 0
-IsOnly command = (other : Command) → first_word other ≡ first_word command → other ≡ command
-
 -- the text isn't pairs of hexadecimal digits, or memory ran out
 abbrev pub IsHexFault : List ℕ → LineFault → Type 0
 IsHexFault text BadHex = IsErr (decode_of text)
 IsHexFault text (Memory error) = Unit {0}
 IsHexFault text _ = ⊥
+
+-- the word gives no value, or memory ran out
+abbrev pub IsValueFault : {T : Type 0} → Option T → LineFault → Type 0
+IsValueFault {T} given BadForm = given ≡ None
+IsValueFault given (Memory error) = Unit {0}
+IsValueFault given _ = ⊥
 
 -- the words, which give these values or none, don't give a list of at most that many values; or memory ran out
 abbrev pub IsListFault : {T : Type 0} → List (Option T) → ℕ → LineFault → Type 0

@@ -37,12 +37,11 @@ pub(crate) fn kind_argument(words: &Words<'_>, place: usize) -> Option<Kind>
         (NamesNoKind (word_at words.now place))
         (λ kind. word_at words.now place ≡ kind_word kind) }
 {
-    let word = words.get(place);
-    if word == b"link".as_slice() {
+    if words.has(place, b"link") {
         Some(Kind::Link)
-    } else if word == b"node".as_slice() {
+    } else if words.has(place, b"node") {
         Some(Kind::Node)
-    } else if word == b"risk".as_slice() {
+    } else if words.has(place, b"risk") {
         Some(Kind::Risk)
     } else {
         None
@@ -56,14 +55,13 @@ pub(crate) fn grouping_argument(words: &Words<'_>, place: usize) -> Option<Group
         (NamesNoGrouping (word_at words.now place))
         (λ grouping. word_at words.now place ≡ grouping_word grouping) }
 {
-    let word = words.get(place);
-    if word == b"kind".as_slice() {
+    if words.has(place, b"kind") {
         Some(Grouping::Kind)
-    } else if word == b"node".as_slice() {
+    } else if words.has(place, b"node") {
         Some(Grouping::Node)
-    } else if word == b"link".as_slice() {
+    } else if words.has(place, b"link") {
         Some(Grouping::Link)
-    } else if word == b"destination".as_slice() {
+    } else if words.has(place, b"destination") {
         Some(Grouping::Destination)
     } else {
         None

@@ -35,7 +35,7 @@ fn read_row(alloc: Global, text: &[u8], words: &Words<'_>) -> Result<Command, Li
 fn has_no_labels(words: &Words<'_>) -> bool
     ensures { IsTrue result ↔ (length words.now ≡ 3) × (word_at words.now 2 ≡ codes "none") }
 {
-    words.len() == 3 && words.get(2) == b"none".as_slice()
+    words.len() == 3 && words.has(2, b"none")
 }
 
 /// `proof done X X ..`, or `proof done none`
@@ -119,14 +119,13 @@ fn read_part(words: &Words<'_>) -> Option<Command>
     requires no_end { word_at words.now 1 ≢ codes "done" }
     ensures { IsCommandOf words.now result }
 {
-    let second = words.get(1);
-    if second == b"open".as_slice() {
+    if words.has(1, b"open") {
         read_open(words)
-    } else if second == b"via".as_slice() {
+    } else if words.has(1, b"via") {
         read_via(words)
-    } else if second == b"node".as_slice() {
+    } else if words.has(1, b"node") {
         read_node(words)
-    } else if second == b"adj".as_slice() {
+    } else if words.has(1, b"adj") {
         read_adj(words)
     } else {
         None
@@ -144,11 +143,10 @@ pub(crate) fn read_proof(
     ensures said { IfOk result (SaysCommand words.now) }
     ensures refused { IfErr result (IsFormFault words.now) }
 {
-    let second = words.get(1);
-    if second == b"row".as_slice() {
+    if words.has(1, b"row") {
         return read_row(alloc, text, words);
     }
-    if second == b"done".as_slice() {
+    if words.has(1, b"done") {
         return read_done(alloc, text, words);
     }
     match read_part(words) {

@@ -1,9 +1,9 @@
 //! Words that give the values of a list, one each.
 
-ghost use Rattle.std.specs.Prelude.{◌≡◌, ◌≤◌, ℕ, List, Option, Some, map, length, IfOk, IfErr};
+ghost use Rattle.std.specs.Prelude.{◌≡◌, ◌≤◌, ◌++◌, ◌∷◌, [], ℕ, List, Option, Some, map, length, IfOk, IfErr, OnOk};
 ghost use Rattle.sr_script.specs.Words.{words};
 ghost use Rattle.sr_script.specs.Number.{number_in as number_within, cell_read};
-ghost use Rattle.sr_script.specs.Answers.{IsListFault};
+ghost use Rattle.sr_script.specs.Answers.{IsListFault, IsValueFault};
 ghost use Rattle.sr_script.specs.declared.command.TheConstants.{MOST_LABEL};
 
 use crate::command::MOST_LABEL;
@@ -41,6 +41,20 @@ impl Listed for u32 {
     }
 }
 
+/// Appends the value that the word gives. It gives none, or memory runs out.
+fn push_given<T: Listed + Drop>(values: &mut Vec<T>, word: &[u8]) -> Result<(), LineFault>
+    ensures pushed { OnOk result (map Some values.new.items ≡ map Some values.old.items ++ T.given word.now ∷ []) }
+    ensures err { IfErr result (IsValueFault (T.given word.now)) }
+{
+    match T::read(word) {
+        None => Err(LineFault::BadForm),
+        Some(value) => match values.push(value) {
+            Ok(()) => Ok(()),
+            Err(_) => Err(LineFault::Memory(AllocError)),
+        },
+    }
+}
+
 /// The values that the words of the text give, of which there are at most that many.
 pub(crate) fn read_list<T: Listed + Drop>(
     alloc: Global,
@@ -57,12 +71,9 @@ pub(crate) fn read_list<T: Listed + Drop>(
         match next_word(rest) {
             None => return Ok(Seq::new(values)),
             Some(next) => {
-                match T::read(next.word) {
-                    None => return Err(LineFault::BadForm),
-                    Some(value) => match values.push(value) {
-                        Ok(()) => {}
-                        Err(_) => return Err(LineFault::Memory(AllocError)),
-                    },
+                match push_given(&mut values, next.word) {
+                    Ok(()) => {}
+                    Err(fault) => return Err(fault),
                 }
                 rest = next.rest;
             }

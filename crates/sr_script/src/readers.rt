@@ -1,13 +1,14 @@
 //! The readers of commands: what the words say that begin with each first word, but `lsp` and `proof`.
 //!
-//! A new word has its variant and its limits in `command.rt`, its form and an example in `specs/Says.antt`, and its
-//! reader and its line in `read_command` here. A reader of more than eight words takes them from the text, as
-//! `read_list` does.
+//! A new word has its variant and its limits in `command.rt`, its form in `specs/Says.antt`, its place among the words
+//! of `specs/FirstWords.antt`, and its reader and its line in the function of those words here. A reader of more than
+//! eight words takes them from the text, as `read_list` does.
 
-ghost use Rattle.std.specs.Prelude.{◌≡◌, ◌≢◌, ◌↔◌, IsTrue, [], codes, length};
+ghost use Rattle.std.specs.Prelude.{◌≡◌, ◌≢◌, true, codes, length};
 ghost use Rattle.sr_script.specs.Words.{word_at};
-ghost use Rattle.sr_script.specs.Says.{first_word, arguments};
-ghost use Rattle.sr_script.specs.Answers.{IsCommandOf, IsReading, IsOnly};
+ghost use Rattle.sr_script.specs.Says.{first_word};
+ghost use Rattle.sr_script.specs.FirstWords.{is_lone, edit_words, way_words, table_words, failure_words, work_words, known_words};
+ghost use Rattle.sr_script.specs.Answers.{IsCommandOf, IsReadAmong, IsReading};
 
 use crate::argument::{
     ends_argument, grouping_argument, kind_argument, link_argument, number_argument,
@@ -18,76 +19,133 @@ use crate::line::LineFault;
 use crate::words::Words;
 use sr_model::{MOST_METRIC, MOST_ROUNDS, MOST_VERSION, MOST_WATCHERS};
 
-/// Returns the command of the reader whose word comes first, or that the words have a bad form.
+/// Returns the answer of the reader whose word comes first.
 macro_rules! read_by_word {
     ($words:expr; $($first:literal => $read:expr,)*) => {
         $(
-            if comes_first($words, $first) {
-                return $read.ok_or(LineFault::BadForm);
+            if $words.has(0, $first) {
+                return Some($read);
             }
         )*
     };
 }
 
-/// Whether this is the first word.
-fn comes_first(words: &Words<'_>, word: &[u8]) -> bool
-    ensures { IsTrue result ↔ (word_at words.now 0 ≡ word.now) }
-{
-    words.get(0) == word
-}
-
-/// The command that the words say, by the reader for the first of them: that word may be unknown, or the words have no
-/// form of a command. `lsp` and `proof` are read elsewhere.
-#[tactic(auto, using(crate::proofs::FirstWords::begins))]
-pub(crate) fn read_command(words: &Words<'_>) -> Result<Command, LineFault>
-    requires no_octets { word_at words.now 0 ≢ codes "lsp" }
-    requires no_proof { word_at words.now 0 ≢ codes "proof" }
-    ensures { IsReading words.now result }
-{
-    read_by_word! { words;
-        b"cost" => read_cost(words),
-        b"down" => read_down(words),
-        b"up" => read_up(words),
-        b"depth" => read_depth(words),
-        b"commit" => read_lone(words, Command::Commit),
-        b"drop" => read_lone(words, Command::DropStaged),
-        b"dist" => read_dist(words),
-        b"next" => read_next(words),
-        b"label" => read_label(words),
-        b"spaces" => read_spaces(words),
-        b"repair" => read_repair(words),
-        b"adjrepair" => read_adjrepair(words),
-        b"walk" => read_walk(words),
-        b"load" => read_load(words),
-        b"prove" => read_prove(words),
-        b"audit" => read_audit(words),
-        b"hold" => read_lone(words, Command::Hold),
-        b"watch" => read_watch(words),
-        b"join" => read_lone(words, Command::Join),
-        b"show" => read_lone(words, Command::Show),
-        b"adjbackup" => read_adjbackup(words),
-        b"nodes" => read_lone(words, Command::Nodes),
-        b"links" => read_lone(words, Command::Links),
-        b"aside" => read_lone(words, Command::Aside),
-        b"fails" => read_fails(words),
-        b"why" => read_why(words),
-        b"diff" => read_diff(words),
-        b"check" => read_lone(words, Command::Check),
-    }
-    Err(LineFault::UnknownWord)
-}
-
 /// The command, where its word stands alone. No other command begins with that word.
 fn read_lone(words: &Words<'_>, command: Command) -> Option<Command>
     requires first { word_at words.now 0 ≡ first_word command }
-    requires only { IsOnly command }
-    requires lone { arguments command ≡ [] }
+    requires lone { is_lone command ≡ true }
     ensures { IsCommandOf words.now result }
 {
     if words.len() == 1 {
         Some(command)
     } else {
         None
+    }
+}
+
+/// What the words say that begin an edit, its check, or its end.
+fn read_edit(words: &Words<'_>) -> Option<Option<Command>>
+    ensures { IsReadAmong edit_words words.now result }
+{
+    read_by_word! { words;
+        b"cost" => read_cost(words),
+        b"down" => read_down(words),
+        b"up" => read_up(words),
+        b"depth" => read_depth(words),
+        b"check" => read_lone(words, Command::Check),
+        b"commit" => read_lone(words, Command::Commit),
+        b"drop" => read_lone(words, Command::DropStaged),
+    }
+    None
+}
+
+/// What the words say that begin a question of ways and of what is on them.
+fn read_way(words: &Words<'_>) -> Option<Option<Command>>
+    ensures { IsReadAmong way_words words.now result }
+{
+    read_by_word! { words;
+        b"dist" => read_dist(words),
+        b"next" => read_next(words),
+        b"label" => read_label(words),
+        b"walk" => read_walk(words),
+        b"load" => read_load(words),
+    }
+    None
+}
+
+/// What the words say that begin a question of the domain's tables.
+fn read_table(words: &Words<'_>) -> Option<Option<Command>>
+    ensures { IsReadAmong table_words words.now result }
+{
+    read_by_word! { words;
+        b"show" => read_lone(words, Command::Show),
+        b"nodes" => read_lone(words, Command::Nodes),
+        b"links" => read_lone(words, Command::Links),
+        b"aside" => read_lone(words, Command::Aside),
+    }
+    None
+}
+
+/// What the words say that begin a question of one failure.
+fn read_failure(words: &Words<'_>) -> Option<Option<Command>>
+    ensures { IsReadAmong failure_words words.now result }
+{
+    read_by_word! { words;
+        b"spaces" => read_spaces(words),
+        b"repair" => read_repair(words),
+        b"adjrepair" => read_adjrepair(words),
+        b"adjbackup" => read_adjbackup(words),
+        b"prove" => read_prove(words),
+        b"why" => read_why(words),
+    }
+    None
+}
+
+/// What the words say that begin a question of all cases, or work beside the script.
+fn read_work(words: &Words<'_>) -> Option<Option<Command>>
+    ensures { IsReadAmong work_words words.now result }
+{
+    read_by_word! { words;
+        b"audit" => read_audit(words),
+        b"fails" => read_fails(words),
+        b"diff" => read_diff(words),
+        b"hold" => read_lone(words, Command::Hold),
+        b"watch" => read_watch(words),
+        b"join" => read_lone(words, Command::Join),
+    }
+    None
+}
+
+/// What the words say, if a command begins with the first of them. `lsp` and `proof` are read elsewhere.
+fn read_known(words: &Words<'_>) -> Option<Option<Command>>
+    ensures { IsReadAmong known_words words.now result }
+{
+    if let Some(read) = read_edit(words) {
+        return Some(read);
+    }
+    if let Some(read) = read_way(words) {
+        return Some(read);
+    }
+    if let Some(read) = read_table(words) {
+        return Some(read);
+    }
+    if let Some(read) = read_failure(words) {
+        return Some(read);
+    }
+    read_work(words)
+}
+
+/// The command that the words say, by the reader for the first of them: that word may be unknown, or the words have no
+/// form of a command. `lsp` and `proof` are read elsewhere.
+pub(crate) fn read_command(words: &Words<'_>) -> Result<Command, LineFault>
+    requires no_octets { word_at words.now 0 ≢ codes "lsp" }
+    requires no_proof { word_at words.now 0 ≢ codes "proof" }
+    ensures { IsReading words.now result }
+{
+    match read_known(words) {
+        Some(Some(command)) => Ok(command),
+        Some(None) => Err(LineFault::BadForm),
+        None => Err(LineFault::UnknownWord),
     }
 }
 
@@ -283,7 +341,7 @@ fn read_audit_by(words: &Words<'_>) -> Option<Command>
     requires count { length words.now ≡ 3 }
     ensures { IsCommandOf words.now result }
 {
-    if words.get(1) != b"by".as_slice() {
+    if !words.has(1, b"by") {
         return None;
     }
     let grouping = grouping_argument(words, 2)?;
@@ -297,8 +355,8 @@ fn read_audit(words: &Words<'_>) -> Option<Command>
 {
     match words.len() {
         1 => Some(Command::Audit),
-        2 if words.get(1) == b"full".as_slice() => Some(Command::AuditFull),
-        2 if words.get(1) == b"labels".as_slice() => Some(Command::AuditLabels),
+        2 if words.has(1, b"full") => Some(Command::AuditFull),
+        2 if words.has(1, b"labels") => Some(Command::AuditLabels),
         3 => read_audit_by(words),
         _ => None,
     }
@@ -309,7 +367,7 @@ fn read_fails(words: &Words<'_>) -> Option<Command>
     requires { word_at words.now 0 ≡ codes "fails" }
     ensures { IsCommandOf words.now result }
 {
-    if words.len() != 3 || words.get(1) != b"node".as_slice() {
+    if words.len() != 3 || !words.has(1, b"node") {
         return None;
     }
     let node = system_argument(words, 2)?;

@@ -61,10 +61,10 @@ fn question(command: Command) -> Option<Command>
 fn read_question(words: &Words<'_>) -> Option<Command>
     ensures { IsQuestionOf words.now result }
 {
-    if words.get(0) == b"lsp".as_slice() {
+    if words.has(0, b"lsp") {
         return None;
     }
-    if words.get(0) == b"proof".as_slice() {
+    if words.has(0, b"proof") {
         return None;
     }
     match read_command(words) {
@@ -109,13 +109,13 @@ fn read_words(alloc: Global, text: &[u8], words: &Words<'_>) -> Result<Line, Lin
     if says_nothing(words) {
         return Ok(Line::Nothing);
     }
-    if words.get(0) == b"lsp".as_slice() {
+    if words.has(0, b"lsp") {
         return read_lsp_words(alloc, words);
     }
-    if words.get(0) == b"proof".as_slice() {
+    if words.has(0, b"proof") {
         return read_proof_words(alloc, text, words);
     }
-    if words.get(0) == b"try".as_slice() {
+    if words.has(0, b"try") {
         return read_try_words(text, words);
     }
     match read_command(words) {

@@ -1,6 +1,6 @@
 //! The words of a line.
 
-ghost use Rattle.std.specs.Prelude.{◌≡◌, ℕ, List, [], ◌<◌, min, length, slice_index_or};
+ghost use Rattle.std.specs.Prelude.{◌≡◌, ◌↔◌, ℕ, List, [], ◌<◌, IsTrue, min, length, slice_index_or};
 ghost use Rattle.sr_script.specs.Words.{words as words_in, word_at};
 
 use crate::cursor::next_word;
@@ -74,5 +74,13 @@ impl<'a> Words<'a> {
         } else {
             b"".as_slice()
         }
+    }
+
+    /// Whether this is the word at a place among the first eight.
+    pub fn has(&self, place: usize, word: &[u8]) -> bool
+        requires { place < KEPT }
+        ensures { IsTrue result ↔ (word_at self.now place ≡ word.now) }
+    {
+        self.get(place) == word
     }
 }

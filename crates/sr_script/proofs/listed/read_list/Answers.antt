@@ -1,11 +1,12 @@
-use Rattle.std.proofs.Common.{◌≡◌, ◌++◌, ◌∷◌, map, Some, None, sym, ◌∙◌, ap}
+use Rattle.std.proofs.Common.{◌++◌, ◌∷◌, map, Some, ◌∙◌, ap}
 use Rattle.sr_script.specs.Words.{words}
-use Rattle.sr_script.proofs.ListLemmas.{none-given}
+use Rattle.sr_script.proofs.ListLemmas.{value-refused}
 use Rattle.sr_script.proofs.listed.read_list.Goals as goal
 
-pub returns-in-None-read-clause-err : goal.returns-in-None-read-clause-err
-returns-in-None-read-clause-err g c values e =
+pub returns-in-Err-clause-err : goal.returns-in-Err-clause-err
+returns-in-Err-clause-err g c =
     let given = g.T.Listed.given in
+    let value = given c.in-Some.next.word.now in
     let rest = map given (words c.in-Some.next.rest.now) in
-    let next : map given (words c.loop-count.rest.now) ≡ None ∷ rest = ap (map given) c.in-Some.ensures ∙ ap (λ o. o ∷ rest) (sym c.in-None-read.ensures) in
-    absurd (none-given values c.loop-count.values.items rest (sym (c.loop-count.invariant.given ∙ ap (λ os. map Some c.loop-count.values.items ++ os) next) ∙ e))
+    let whole = c.loop-count.invariant.given ∙ ap (λ next. map Some c.loop-count.values.items ++ map given next) c.in-Some.ensures in
+    value-refused value c.loop-count.values.items rest (map given (words c.args.text.now)) c.args.most c.in-Err.fault whole c.in-Err.ensures.err
