@@ -1,4 +1,7 @@
 //! Tests by calls of the crates that make facts, nets and accounts of octets.
+//!
+//! Editors and nets are given to `drop`: so it is proved once how they are dropped, and not in each
+//! test.
 
 mod accounts;
 mod database;

@@ -1,20 +1,48 @@
 //! Reasons in domains of two routers, of which the second sends a link back to the first.
 
-use super::fixtures::{accepted, changed, sent};
-use sr_account::{Reason, asides_of};
-use std::alloc::Global;
+use super::fixtures::{accept, changed, sent};
+use sr_account::{Aside, Reason, asides_of};
+use sr_lsdb::Editor;
+use std::alloc::{AllocError, Global};
+use std::process::Abort;
 use std::test::Fail;
 
-/// The reasons that are told of a domain in which router 1 sends these octets.
-fn reasons(alloc: Global, first: &[u8]) -> Result<Vec<Reason>, Fail> {
-    let second = changed(alloc, &[(17, 2), (52, 1)])?;
-    let editor = accepted(alloc, first, &second)?;
-    let asides = asides_of(alloc, editor.accepted())?;
+/// The reason of each.
+fn reasons(alloc: Global, asides: &[Aside]) -> Result<Vec<Reason>, AllocError> {
     let mut reasons = Vec::new(alloc);
-    for aside in &asides {
+    for aside in asides {
         reasons.push(aside.reason)?;
     }
     Ok(reasons)
+}
+
+/// What is told of a domain whose facts an editor accepts, in which router 1 sends these octets.
+fn told_in(alloc: Global, editor: &mut Editor, first: &[u8]) -> Result<Vec<Aside>, Fail> {
+    let second = changed(alloc, &[(17, 2), (52, 1)])?;
+    accept(alloc, editor, first, &second)?;
+    Ok(asides_of(alloc, editor.accepted())?)
+}
+
+/// What is told of a domain in which router 1 sends these octets.
+fn told(alloc: Global, first: &[u8]) -> Result<Vec<Aside>, Fail> {
+    let mut editor = Editor::new(alloc);
+    let asides = told_in(alloc, &mut editor, first);
+    drop(editor);
+    asides
+}
+
+/// These reasons are told of a domain in which router 1 sends these octets.
+fn check_reasons(
+    rt: &impl Abort,
+    alloc: Global,
+    first: &[u8],
+    wanted: &[Reason],
+    name: &str,
+) -> Result<(), Fail> {
+    let asides = told(alloc, first)?;
+    let reasons = reasons(alloc, &asides)?;
+    assert_eq!(rt; reasons.as_slice(), wanted, "{name}");
+    Ok(())
 }
 
 /// Changed octets of what router 1 sends, and the reasons that are then told.
@@ -66,8 +94,7 @@ const CHANGES: [Change; 7] = [
 fn parts_are_told_with_the_first_reason(rt: HostRuntime) -> Result<(), Fail> {
     for case in &CHANGES {
         let first = changed(rt.alloc(), case.changes)?;
-        let told = reasons(rt.alloc(), &first)?;
-        assert_eq!(rt; told.as_slice(), case.reasons, "{}", case.name);
+        check_reasons(&rt, rt.alloc(), &first, case.reasons, case.name)?;
     }
     Ok(())
 }
@@ -99,7 +126,6 @@ const PREFIX_SIDS: [u8; 59] = [
 #[test]
 fn an_adjacency_sid_is_told_with_the_first_reason(rt: HostRuntime) -> Result<(), Fail> {
     let first = sent(rt.alloc(), 1, &ADJ_SIDS)?;
-    let told = reasons(rt.alloc(), &first)?;
     let wanted = [
         Reason::NotLeast,
         Reason::NotFirst,
@@ -107,14 +133,12 @@ fn an_adjacency_sid_is_told_with_the_first_reason(rt: HostRuntime) -> Result<(),
         Reason::Flags,
         Reason::WrongForm,
     ];
-    assert_eq!(rt; told.as_slice(), wanted.as_slice());
-    Ok(())
+    check_reasons(&rt, rt.alloc(), &first, &wanted, "adjacency SIDs")
 }
 
 #[test]
 fn a_prefix_sid_is_told_with_the_first_reason(rt: HostRuntime) -> Result<(), Fail> {
     let first = sent(rt.alloc(), 1, &PREFIX_SIDS)?;
-    let told = reasons(rt.alloc(), &first)?;
     // Router 2's link is told last: router 1 announces none to it.
     let wanted = [
         Reason::NotLeast,
@@ -124,6 +148,5 @@ fn a_prefix_sid_is_told_with_the_first_reason(rt: HostRuntime) -> Result<(), Fai
         Reason::WrongForm,
         Reason::OneWay,
     ];
-    assert_eq!(rt; told.as_slice(), wanted.as_slice());
-    Ok(())
+    check_reasons(&rt, rt.alloc(), &first, &wanted, "Prefix-SIDs")
 }

@@ -5,6 +5,7 @@ use sr_lsdb::{Editor, StageFault};
 use sr_lsp::read_lsp;
 use sr_model::{Ident, LinkKey};
 use std::alloc::{AllocError, Global};
+use std::process::Abort;
 
 /// The PDU with these changes is staged, or memory ran out before.
 fn stage(alloc: Global, editor: &mut Editor, changes: &[(usize, u8)]) -> Result<u32, StageFault> {
@@ -85,38 +86,60 @@ const STEPS: [Step; 7] = [
     },
 ];
 
-#[test]
-fn a_stale_pdu_is_refused_and_a_purge_leaves_its_number(rt: HostRuntime) {
-    let alloc = rt.alloc();
-    let mut editor = Editor::new(alloc);
+/// What the staging of each step answers.
+fn check_steps(rt: &impl Abort, alloc: Global, editor: &mut Editor) {
     for step in &STEPS {
-        let answer = stage(alloc, &mut editor, step.changes);
+        let answer = stage(alloc, editor, step.changes);
         assert_eq!(rt; (count(&answer), stale(&answer)), (step.count, step.stale));
     }
-    assert_eq!(rt; editor.drop_staged(), 3);
-    assert_eq!(rt; editor.tentative().database.as_map().len(), 0);
 }
 
 #[test]
-fn edits_are_staged_up_to_4096(rt: HostRuntime) {
+fn a_stale_pdu_is_refused_and_a_purge_leaves_its_number(rt: HostRuntime) {
     let mut editor = Editor::new(rt.alloc());
+    check_steps(&rt, rt.alloc(), &mut editor);
+    assert_eq!(rt; editor.drop_staged(), 3);
+    assert_eq!(rt; editor.tentative().database.as_map().len(), 0);
+    drop(editor);
+}
+
+/// Depths are staged until 4096 edits are.
+fn fill(rt: &impl Abort, editor: &mut Editor) {
     for staged in 0..4096 {
         assert_eq!(rt; count(&editor.stage_depth(5)), Some(staged + 1));
     }
+}
+
+/// No further edit is staged, and all are dropped.
+fn check_full(rt: &impl Abort, editor: &mut Editor) {
     assert!(rt; is_full(&editor.stage_depth(6)));
     assert_eq!(rt; editor.drop_staged(), 4096);
     assert_eq!(rt; editor.tentative().depth, 3);
 }
 
 #[test]
-fn a_pdu_of_an_accepted_batch_is_stale_in_the_next(rt: HostRuntime) {
-    let alloc = rt.alloc();
-    let mut editor = Editor::new(alloc);
-    let first = stage(alloc, &mut editor, &[]);
+fn edits_are_staged_up_to_4096(rt: HostRuntime) {
+    let mut editor = Editor::new(rt.alloc());
+    fill(&rt, &mut editor);
+    check_full(&rt, &mut editor);
+    drop(editor);
+}
+
+/// What the staging of a PDU answers, and its staging once more after the first is accepted.
+fn stage_twice(alloc: Global, editor: &mut Editor) -> (Option<u32>, Option<(u32, u32)>) {
+    let first = count(&stage(alloc, editor, &[]));
     editor.accept();
-    let second = stage(alloc, &mut editor, &[]);
-    assert_eq!(rt; (count(&first), stale(&second)), (Some(1), Some((1, 1))));
+    let second = stale(&stage(alloc, editor, &[]));
+    (first, second)
+}
+
+#[test]
+fn a_pdu_of_an_accepted_batch_is_stale_in_the_next(rt: HostRuntime) {
+    let mut editor = Editor::new(rt.alloc());
+    let staged = stage_twice(rt.alloc(), &mut editor);
+    assert_eq!(rt; staged, (Some(1), Some((1, 1))));
     assert_eq!(rt; editor.staged(), 0);
+    drop(editor);
 }
 
 /// The tentative metric of a link, and whether its pair is down.
@@ -128,23 +151,39 @@ fn facts(editor: &Editor, key: &LinkKey) -> (Option<u32>, bool) {
     )
 }
 
+/// A metric and a pair that is down are staged.
+fn stage_first(rt: &impl Abort, editor: &mut Editor, key: &LinkKey) {
+    let first = (
+        count(&editor.stage_cost(key, 10)),
+        count(&editor.stage_down(key.pair())),
+    );
+    assert_eq!(rt; first, (Some(1), Some(2)));
+}
+
+/// Another metric and a pair that is up are staged.
+fn stage_second(rt: &impl Abort, editor: &mut Editor, key: &LinkKey) {
+    let second = (
+        count(&editor.stage_cost(key, 20)),
+        count(&editor.stage_up(key.pair())),
+    );
+    assert_eq!(rt; second, (Some(1), Some(2)));
+    assert_eq!(rt; facts(editor, key), (Some(20), false));
+}
+
+/// The staged edits are dropped, and the next batch begins with what was accepted.
+fn stage_third(rt: &impl Abort, editor: &mut Editor, key: &LinkKey) {
+    assert_eq!(rt; editor.drop_staged(), 2);
+    assert_eq!(rt; count(&editor.stage_depth(4)), Some(1));
+    assert_eq!(rt; facts(editor, key), (Some(10), true));
+}
+
 #[test]
 fn dropped_edits_of_a_link_are_not_in_the_next_batch(rt: HostRuntime) {
     let mut editor = Editor::new(rt.alloc());
     let key = key(1, 2, Ident::None);
-    let first = (
-        count(&editor.stage_cost(&key, 10)),
-        count(&editor.stage_down(key.pair())),
-    );
-    assert_eq!(rt; first, (Some(1), Some(2)));
+    stage_first(&rt, &mut editor, &key);
     editor.accept();
-    let second = (
-        count(&editor.stage_cost(&key, 20)),
-        count(&editor.stage_up(key.pair())),
-    );
-    assert_eq!(rt; second, (Some(1), Some(2)));
-    assert_eq!(rt; facts(&editor, &key), (Some(20), false));
-    assert_eq!(rt; editor.drop_staged(), 2);
-    assert_eq!(rt; count(&editor.stage_depth(4)), Some(1));
-    assert_eq!(rt; facts(&editor, &key), (Some(10), true));
+    stage_second(&rt, &mut editor, &key);
+    stage_third(&rt, &mut editor, &key);
+    drop(editor);
 }

@@ -2,7 +2,7 @@
 ghost use Rattle.std.specs.Prelude.{◌≡◌, ◌<◌};
 
 use sr_lsdb::Editor;
-use sr_lsp::read_lsp;
+use sr_lsp::{Lsp, ReadFault, read_lsp};
 use sr_model::{Ident, LinkKey, SystemId};
 use sr_subtlv::{AdjSid, LinkIds, PrefixSid, Sid};
 use std::alloc::{AllocError, Global};
@@ -21,7 +21,7 @@ pub const PDU: [u8; 58] = [
 ];
 
 /// What a router writes around the parts of the profile.
-pub const AS_A_ROUTER_WRITES: [u8; 124] = [
+const AS_A_ROUTER_WRITES: [u8; 124] = [
     0x83, 0x1b, 0x01, 0x00, 0x14, 0x01, 0x00, 0x00, 0x00, 0x7c, 0x04, 0xb0, // to the lifetime
     0x00, 0x00, 0x00, 0x00, 0x00, 0x01, 0x00, 0x00, 0x00, 0x00, 0x00, 0x01, 0x00, 0x00, 0x03, //
     0x01, 0x04, 0x03, 0x49, 0x00, 0x01, // areas
@@ -38,6 +38,11 @@ pub const AS_A_ROUTER_WRITES: [u8; 124] = [
     0x87, 0x12, 0x00, 0x00, 0x00, 0x00, 0x60, 0x0a, 0x00, 0x00, 0x01, // a prefix
     0x08, 0x03, 0x06, 0x40, 0x00, 0x00, 0x00, 0x00, 0x01, // its Prefix-SID
 ];
+
+/// The PDU that a router writes.
+pub fn as_a_router_writes(alloc: Global) -> Result<Lsp, ReadFault> {
+    read_lsp(alloc, &AS_A_ROUTER_WRITES)
+}
 
 /// An Adj-SID that is a label.
 pub const ADJ_LABEL: AdjSid = AdjSid {
@@ -89,13 +94,18 @@ pub fn sent(alloc: Global, router: u8, tlvs: &[u8]) -> Result<Vec<u8>, Fail> {
     Ok(octets)
 }
 
-/// The facts that two PDUs announce, accepted.
-pub fn accepted(alloc: Global, first: &[u8], second: &[u8]) -> Result<Editor, Fail> {
-    let mut editor = Editor::new(alloc);
-    editor.stage_lsp(read_lsp(alloc, first)?)?;
-    editor.stage_lsp(read_lsp(alloc, second)?)?;
+/// The PDU of these octets is staged.
+fn stage(alloc: Global, editor: &mut Editor, octets: &[u8]) -> Result<(), Fail> {
+    editor.stage_lsp(read_lsp(alloc, octets)?)?;
+    Ok(())
+}
+
+/// The facts that two PDUs announce are accepted.
+pub fn accept(alloc: Global, editor: &mut Editor, first: &[u8], second: &[u8]) -> Result<(), Fail> {
+    stage(alloc, editor, first)?;
+    stage(alloc, editor, second)?;
     editor.accept();
-    Ok(editor)
+    Ok(())
 }
 
 /// The system id of a small number.

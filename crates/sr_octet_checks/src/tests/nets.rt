@@ -1,27 +1,54 @@
 //! Nets of two routers.
 
-use super::fixtures::{PDU, accepted, changed, id, key, sent};
+use super::fixtures::{PDU, accept, changed, id, key, sent};
 use sr_domain::{Announcement, RiskName, net_of, unnumbered_name};
 use sr_labels::Net;
-use sr_model::{Ident, LinkNo};
+use sr_lsdb::Editor;
+use sr_model::{Ident, LinkKey, LinkNo};
 use sr_subtlv::LinkIds;
 use std::alloc::Global;
+use std::process::Abort;
 use std::test::Fail;
+
+/// The net of the facts that two PDUs announce, which an editor accepts.
+fn net_in(alloc: Global, editor: &mut Editor, first: &[u8], second: &[u8]) -> Result<Net, Fail> {
+    accept(alloc, editor, first, second)?;
+    Ok(net_of(alloc, editor.accepted())?)
+}
 
 /// The net of the facts that two PDUs announce.
 fn net(alloc: Global, first: &[u8], second: &[u8]) -> Result<Net, Fail> {
-    let editor = accepted(alloc, first, second)?;
-    Ok(net_of(alloc, editor.accepted())?)
+    let mut editor = Editor::new(alloc);
+    let net = net_in(alloc, &mut editor, first, second);
+    drop(editor);
+    net
+}
+
+/// The net of two routers that announce each other.
+fn plain(alloc: Global) -> Result<Net, Fail> {
+    let other = changed(alloc, &[(17, 2), (52, 1)])?;
+    net(alloc, &PDU, &other)
+}
+
+/// There are two routers, and two links.
+fn check_counts(rt: &impl Abort, net: &Net) {
+    let graph = net.graph();
+    assert_eq!(rt; graph.node_count(), 2);
+    assert_eq!(rt; graph.link_count(), 2);
+}
+
+/// One link leads from router 1 to router 2.
+fn check_names(rt: &impl Abort, net: &Net) {
+    assert!(rt; net.named(id(1), id(2), 1) == Some(key(1, 2, Ident::None)));
+    assert!(rt; net.named(id(1), id(2), 2) == None);
 }
 
 #[test]
 fn routers_that_announce_each_other_make_a_net(rt: HostRuntime) -> Result<(), Fail> {
-    let other = changed(rt.alloc(), &[(17, 2), (52, 1)])?;
-    let net = net(rt.alloc(), &PDU, &other)?;
-    assert_eq!(rt; net.graph().node_count(), 2);
-    assert_eq!(rt; net.graph().link_count(), 2);
-    assert!(rt; net.named(id(1), id(2), 1) == Some(key(1, 2, Ident::None)));
-    assert!(rt; net.named(id(1), id(2), 2) == None);
+    let net = plain(rt.alloc())?;
+    check_counts(&rt, &net);
+    check_names(&rt, &net);
+    drop(net);
     Ok(())
 }
 
@@ -57,30 +84,40 @@ fn numbered(alloc: Global) -> Result<Net, Fail> {
     net(alloc, &first, &second)
 }
 
-#[test]
-fn a_link_wants_the_mirrored_identity_from_its_other_end(rt: HostRuntime) -> Result<(), Fail> {
-    let net = numbered(rt.alloc())?;
+/// The two links have mirrored identities, and the metric 10.
+fn check_links(rt: &impl Abort, net: &Net) {
     let graph = net.graph();
     assert_eq!(rt; graph.link_count(), 2);
     let (there, back) = (graph.link(LinkNo(0)), graph.link(LinkNo(1)));
     assert!(rt; there.key == key(1, 2, Ident::Addr(10, 20)));
     assert!(rt; back.key == key(2, 1, Ident::Addr(20, 10)));
     assert_eq!(rt; (there.metric, back.metric), (10, 10));
+}
+
+#[test]
+fn a_link_wants_the_mirrored_identity_from_its_other_end(rt: HostRuntime) -> Result<(), Fail> {
+    let net = numbered(rt.alloc())?;
+    check_links(&rt, &net);
+    drop(net);
     Ok(())
+}
+
+/// The link has the groups 7 and 9.
+fn check_groups(rt: &impl Abort, net: &Net, link: &LinkKey, name: &str) {
+    let graph = net.graph();
+    match graph.find(link) {
+        Some(number) => assert_eq!(rt; graph.groups(number), [7, 9].as_slice(), "{name}"),
+        None => assert!(rt; false, "the link {name} isn't in use"),
+    }
 }
 
 #[test]
 fn a_pair_has_the_groups_that_either_end_gives_it(rt: HostRuntime) -> Result<(), Fail> {
     let net = numbered(rt.alloc())?;
     let there = key(1, 2, Ident::Addr(10, 20));
-    for link in [there, there.mirrored()] {
-        match net.graph().find(&link) {
-            Some(number) => {
-                assert_eq!(rt; net.graph().groups(number), [7, 9].as_slice());
-            }
-            None => assert!(rt; false, "the link isn't in use"),
-        }
-    }
+    check_groups(&rt, &net, &there, "there");
+    check_groups(&rt, &net, &there.mirrored(), "back");
+    drop(net);
     Ok(())
 }
 

@@ -1,9 +1,9 @@
 //! What is read of PDUs, and what is refused.
 
-use super::fixtures::{ADJ_LABEL, AS_A_ROUTER_WRITES, PDU, PREFIX_INDEX, changed};
-use sr_lsp::{Check, Malformed, PartRef, Prefix, Reach, ReadFault, read_lsp};
+use super::fixtures::{ADJ_LABEL, PDU, PREFIX_INDEX, as_a_router_writes, changed};
+use sr_lsp::{Capability, Check, Lsp, Malformed, PartRef, Prefix, Reach, ReadFault, read_lsp};
 use sr_subtlv::Msd;
-use std::alloc::Global;
+use std::alloc::{AllocError, Global};
 use std::process::Abort;
 use std::test::Fail;
 
@@ -64,17 +64,25 @@ fn octets_cut_off(rt: HostRuntime) {
     }
 }
 
+/// The check that a changed PDU with more octets behind it fails, if it fails one.
+fn fault_behind(
+    alloc: Global,
+    changes: &[(usize, u8)],
+    behind: &[u8],
+) -> Result<Option<(usize, u8)>, AllocError> {
+    let mut octets = changed(alloc, changes)?;
+    octets.extend_from_slice(behind)?;
+    Ok(fault(alloc, &octets))
+}
+
 #[test]
 fn octets_behind(rt: HostRuntime) -> Result<(), Fail> {
     let alloc = rt.alloc();
     // Octets past the PDU length are left unread, whatever they are.
-    let mut unread = changed(alloc, &[])?;
-    unread.extend_from_slice(&[0xff, 0xff])?;
-    assert_eq!(rt; fault(alloc, &unread), None);
+    let unread = fault_behind(alloc, &[], &[0xff, 0xff])?;
     // An unknown TLV is stepped over.
-    let mut unknown = changed(alloc, &[(9, 0x3e)])?;
-    unknown.extend_from_slice(&[0xc8, 0x02, 0xff, 0xff])?;
-    assert_eq!(rt; fault(alloc, &unknown), None);
+    let unknown = fault_behind(alloc, &[(9, 0x3e)], &[0xc8, 0x02, 0xff, 0xff])?;
+    assert_eq!(rt; (unread, unknown), (None, None));
     Ok(())
 }
 
@@ -89,11 +97,21 @@ fn a_fault_is_told(rt: HostRuntime) -> Result<(), Fail> {
     Ok(())
 }
 
-/// The entry names the neighbour, both addresses, and the Adj-SID.
-fn check_reach(rt: &impl Abort, reach: &Reach) {
-    assert_eq!(rt; reach.neighbour.value(), 2);
-    assert_eq!(rt; reach.metric, 10);
+/// The capability names the router and its depth.
+fn check_capability(rt: &impl Abort, capability: &Capability) {
+    assert_eq!(rt; capability.router, 0x0a00_0001);
+    let msds = [Msd { kind: 1, value: 10 }];
+    assert_eq!(rt; capability.msd.as_slice(), msds.as_slice());
+}
+
+/// The entry names the neighbour, with a metric and without identifiers.
+fn check_neighbour(rt: &impl Abort, reach: &Reach) {
+    assert_eq!(rt; (reach.neighbour.value(), reach.metric), (2, 10));
     assert_eq!(rt; reach.ids, None);
+}
+
+/// The entry names both addresses, and the Adj-SID.
+fn check_addresses(rt: &impl Abort, reach: &Reach) {
     assert_eq!(rt;
         (reach.local, reach.remote),
         (Some(0x0a01_0001), Some(0x0a01_0002))
@@ -110,20 +128,23 @@ fn check_prefix(rt: &impl Abort, prefix: &Prefix) {
     assert_eq!(rt; prefix.sids.as_slice(), [PREFIX_INDEX].as_slice());
 }
 
-#[test]
-fn parts_as_a_router_writes_them(rt: HostRuntime) -> Result<(), Fail> {
-    let lsp = read_lsp(rt.alloc(), &AS_A_ROUTER_WRITES)?;
-    assert_eq!(rt; lsp.lifetime, 1200);
-    assert_eq!(rt; lsp.parts.count(), 3);
+/// The PDU is live, and has a capability, an entry and a prefix.
+fn check_parts(rt: &impl Abort, lsp: &Lsp) {
+    assert_eq!(rt; (lsp.lifetime, lsp.parts.count()), (1200, 3));
     match (lsp.parts.at(0), lsp.parts.at(1), lsp.parts.at(2)) {
         (PartRef::Capability(capability), PartRef::Reach(reach), PartRef::Prefix(prefix)) => {
-            assert_eq!(rt; capability.router, 0x0a00_0001);
-            let msds = [Msd { kind: 1, value: 10 }];
-            assert_eq!(rt; capability.msd.as_slice(), msds.as_slice());
-            check_reach(&rt, reach);
-            check_prefix(&rt, prefix);
+            check_capability(rt, capability);
+            check_neighbour(rt, reach);
+            check_addresses(rt, reach);
+            check_prefix(rt, prefix);
         }
         _ => assert!(rt; false, "other parts"),
     }
+}
+
+#[test]
+fn parts_as_a_router_writes_them(rt: HostRuntime) -> Result<(), Fail> {
+    let lsp = as_a_router_writes(rt.alloc())?;
+    check_parts(&rt, &lsp);
     Ok(())
 }

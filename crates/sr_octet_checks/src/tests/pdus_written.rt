@@ -1,14 +1,14 @@
 //! What is written of PDUs, and what has no spelling.
 
-use super::fixtures::{ADJ_LABEL, AS_A_ROUTER_WRITES, PREFIX_INDEX, id};
+use super::fixtures::{ADJ_LABEL, PREFIX_INDEX, as_a_router_writes, id};
 use sr_lsp::{
-    Capability, Lsp, LspId, Part, Parts, Prefix, Reach, Risk, WriteFault, in_range, read_lsp,
-    write_lsp,
+    Capability, Lsp, LspId, Part, Parts, Prefix, Reach, Risk, WriteFault, in_range, write_lsp,
 };
 use sr_model::Range;
 use sr_seq::{Few, Seq};
 use sr_subtlv::{AdjSid, LinkIds, Sid, SrCap};
 use std::alloc::{AllocError, Global};
+use std::process::Abort;
 use std::test::Fail;
 
 /// The first PDU of system 1, with these parts.
@@ -101,13 +101,18 @@ fn ring(alloc: Global) -> Result<Lsp, AllocError> {
     first_of(alloc, parts)
 }
 
+/// The PDU is written as these octets.
+fn check_written(rt: &impl Abort, alloc: Global, lsp: &Lsp, wanted: &[u8]) -> Result<(), Fail> {
+    assert!(rt; in_range(lsp));
+    let octets = write_lsp(alloc, lsp)?;
+    assert_eq!(rt; octets.as_slice(), wanted);
+    Ok(())
+}
+
 #[test]
 fn parts_in_their_order(rt: HostRuntime) -> Result<(), Fail> {
     let lsp = ring(rt.alloc())?;
-    assert!(rt; in_range(&lsp));
-    let octets = write_lsp(rt.alloc(), &lsp)?;
-    assert_eq!(rt; octets.as_slice(), WRITTEN.as_slice());
-    Ok(())
+    check_written(&rt, rt.alloc(), &lsp, &WRITTEN)
 }
 
 /// What a router wrote, in its one spelling: without the parts outside the profile.
@@ -126,23 +131,30 @@ const WRITTEN_AGAIN: [u8; 101] = [
 
 #[test]
 fn written_again(rt: HostRuntime) -> Result<(), Fail> {
-    let lsp = read_lsp(rt.alloc(), &AS_A_ROUTER_WRITES)?;
-    assert!(rt; in_range(&lsp));
-    let octets = write_lsp(rt.alloc(), &lsp)?;
-    assert_eq!(rt; octets.as_slice(), WRITTEN_AGAIN.as_slice());
-    Ok(())
+    let lsp = as_a_router_writes(rt.alloc())?;
+    check_written(&rt, rt.alloc(), &lsp, &WRITTEN_AGAIN)
+}
+
+/// The part that is too long, or the length that is.
+fn refusal(rt: &impl Abort, alloc: Global, lsp: &Lsp) -> (Option<usize>, Option<u128>) {
+    assert!(rt; in_range(lsp));
+    match write_lsp(alloc, lsp) {
+        Err(WriteFault::PartTooLong { part }) => (Some(part), None),
+        Err(WriteFault::PduTooLong { length }) => (None, Some(length)),
+        _ => (None, None),
+    }
+}
+
+/// A PDU with one part, a link with 40 Adj-SIDs.
+fn wide(alloc: Global) -> Result<Lsp, AllocError> {
+    let link = reach(2, 1, vec![in alloc; ADJ_LABEL; 40]?);
+    first_of(alloc, vec![in alloc; link]?)
 }
 
 #[test]
 fn a_part_is_too_long(rt: HostRuntime) -> Result<(), Fail> {
-    let alloc = rt.alloc();
-    let wide = reach(2, 1, vec![in alloc; ADJ_LABEL; 40]?);
-    let lsp = first_of(alloc, vec![in alloc; wide]?)?;
-    assert!(rt; in_range(&lsp));
-    match write_lsp(alloc, &lsp) {
-        Err(WriteFault::PartTooLong { part }) => assert_eq!(rt; part, 0),
-        _ => assert!(rt; false, "another answer"),
-    }
+    let lsp = wide(rt.alloc())?;
+    assert_eq!(rt; refusal(&rt, rt.alloc(), &lsp), (Some(0), None));
     Ok(())
 }
 
@@ -165,10 +177,6 @@ fn long(alloc: Global) -> Result<Lsp, AllocError> {
 #[test]
 fn a_pdu_is_too_long(rt: HostRuntime) -> Result<(), Fail> {
     let lsp = long(rt.alloc())?;
-    assert!(rt; in_range(&lsp));
-    match write_lsp(rt.alloc(), &lsp) {
-        Err(WriteFault::PduTooLong { length }) => assert_eq!(rt; length, 65559),
-        _ => assert!(rt; false, "another answer"),
-    }
+    assert_eq!(rt; refusal(&rt, rt.alloc(), &lsp), (None, Some(65559)));
     Ok(())
 }
