@@ -1,9 +1,12 @@
 //! The adapters over a reader and a writer that fail in between.
+ghost use Rattle.std.specs.Prelude.{◌<◌, length};
+
 use sr_base::{Sink, SinkFault, Source, StdSink, StdSource};
-use std::alloc::AllocError;
+use std::alloc::Global;
 use std::cell::Cell;
 use std::io;
 use std::io::{Read, Write};
+use std::process::Abort;
 
 /// Gives the digits 0 to 9, three a call, and fails at its second call.
 #[derive(Drop)]
@@ -72,26 +75,43 @@ impl<'a> Write for Writer<'a> {
     }
 }
 
+/// A read gives that many bytes, which begin thus, or fails.
+fn expect_read(
+    rt: &impl Abort,
+    source: &mut StdSource<Reader>,
+    buf: &mut [u8],
+    count: Option<usize>,
+    bytes: &[u8],
+)
+    requires { 0 < length buf.old }
+{
+    assert_eq!(rt; source.read(buf).ok(), count);
+    assert!(rt; buf.starts_with(bytes));
+}
+
 #[test]
 fn a_source_passes_a_reader_on(rt: HostRuntime) {
     let mut source = StdSource::new(Reader { at: 0, calls: 0 });
     let mut buf = [0u8; 8];
-    assert_eq!(rt; source.read(&mut buf).ok(), Some(3));
-    assert_eq!(rt; &buf[..3], b"012".as_slice());
-    assert_eq!(rt; source.read(&mut buf).ok(), None);
-    assert_eq!(rt; source.read(&mut buf).ok(), Some(3));
-    assert_eq!(rt; &buf[..3], b"345".as_slice());
-    assert_eq!(rt; source.read(&mut buf[..2]).ok(), Some(2));
-    assert_eq!(rt; &buf[..2], b"67".as_slice());
-    assert_eq!(rt; source.read(&mut buf).ok(), Some(2));
-    assert_eq!(rt; source.read(&mut buf).ok(), Some(0));
+    expect_read(&rt, &mut source, &mut buf, Some(3), b"012");
+    expect_read(&rt, &mut source, &mut buf, None, b"");
+    expect_read(&rt, &mut source, &mut buf, Some(3), b"345");
+    expect_read(&rt, &mut source, &mut buf[..2], Some(2), b"67");
+    expect_read(&rt, &mut source, &mut buf, Some(2), b"89");
+    expect_read(&rt, &mut source, &mut buf, Some(0), b"");
 }
 
-#[test]
-fn a_sink_passes_pieces_to_a_writer(rt: HostRuntime) -> Result<(), AllocError> {
-    let flushes = Cell::new(0u8);
-    let mut writer = Writer {
-        held: Vec::new(rt.alloc()),
+/// A write takes that many bytes.
+fn expect_write(rt: &impl Abort, sink: &mut impl Sink, piece: &[u8], count: usize)
+    requires { 0 < length piece.now }
+{
+    assert_eq!(rt; sink.write(piece).ok(), Some(count));
+}
+
+/// A writer that holds nothing, takes pieces at two turns, and then fails in each way.
+fn writer_with_turns<'a>(alloc: Global, flushes: &'a Cell<u8>) -> Writer<'a> {
+    Writer {
+        held: Vec::new(alloc),
         turns: [
             Turn::Takes(9),
             Turn::Takes(2),
@@ -100,16 +120,27 @@ fn a_sink_passes_pieces_to_a_writer(rt: HostRuntime) -> Result<(), AllocError> {
             Turn::TakesUnflushed(1),
         ],
         at: 0,
-        flushes: &flushes,
+        flushes,
         stuck: false,
-    };
-    let mut sink = StdSink::new(&mut writer);
-    assert_eq!(rt; sink.write(b"abc").ok(), Some(3));
-    assert_eq!(rt; sink.write(b"defg").ok(), Some(2));
+    }
+}
+
+/// Two writes are flushed, and three that come after them fail.
+fn check_writes(rt: &impl Abort, sink: &mut impl Sink, flushes: &Cell<u8>) {
+    expect_write(rt, sink, b"abc", 3);
+    expect_write(rt, sink, b"defg", 2);
     assert_eq!(rt; flushes.get(), 2);
     for _ in 1..4u64 {
         assert!(rt; matches!(sink.write(b"xyz"), Err(SinkFault::Failed)));
     }
+}
+
+#[test]
+fn a_sink_passes_pieces_to_a_writer(rt: HostRuntime) {
+    let flushes = Cell::new(0u8);
+    let mut writer = writer_with_turns(rt.alloc(), &flushes);
+    let mut sink = StdSink::new(&mut writer);
+    check_writes(&rt, &mut sink, &flushes);
     assert_eq!(rt; writer.held.as_slice(), b"abcdex".as_slice());
-    Ok(())
+    drop(writer);
 }

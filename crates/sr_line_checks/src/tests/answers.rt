@@ -1,5 +1,5 @@
 //! Lines that are printed of numbers and answers alone.
-use super::fixtures::id;
+use super::fixtures::{expect_text, id};
 use sr_cert::{Clause, Verdict};
 use sr_insight::StackCount;
 use sr_model::{Answer, Counts, DomainRule, Kind, RoundReport, WatchRound};
@@ -8,20 +8,40 @@ use sr_print::{
     put_repair_counts, put_report, put_show, put_stacks, put_staged, put_summary, put_unproved,
     put_verdict, put_version, put_walk_uncovered, put_watch,
 };
-use std::alloc::AllocError;
+use std::alloc::{AllocError, Global};
+use std::process::Abort;
+
+/// Appends the lines of edits and distances, and what `show` says.
+fn put_lines(out: &mut Vec<u8>) -> Result<(), AllocError> {
+    put_staged(4_096, out)?;
+    put_dropped(0, out)?;
+    put_version(65_535, 256, 2_048, out)?;
+    put_dist(Some(4_278_189_570), out)?;
+    put_dist(None, out)?;
+    put_show(3, 4, 8, 3, 0, out)
+}
 
 #[test]
 fn lines_are_printed(rt: HostRuntime) -> Result<(), AllocError> {
     let mut out = Vec::new(rt.alloc());
-    put_staged(4_096, &mut out)?;
-    put_dropped(0, &mut out)?;
-    put_version(65_535, 256, 2_048, &mut out)?;
-    put_dist(Some(4_278_189_570), &mut out)?;
-    put_dist(None, &mut out)?;
-    put_show(3, 4, 8, 3, 0, &mut out)?;
+    put_lines(&mut out)?;
     let text =
         "staged 4096\ndropped 0\nversion 65535 nodes 256 links 2048\ndist 4278189570\ndist none\nshow version 3 nodes 4 links 8 depth 3 staged 0\n";
-    assert_eq!(rt; out.as_slice(), text.as_bytes());
+    expect_text(&rt, &out, text);
+    Ok(())
+}
+
+/// The refusal of this line has this text.
+fn check_refusal(
+    rt: &impl Abort,
+    alloc: Global,
+    line: u32,
+    refusal: &Refusal,
+    text: &str,
+) -> Result<(), AllocError> {
+    let mut out = Vec::new(alloc);
+    put_refused(line, refusal, &mut out)?;
+    expect_text(rt, &out, text);
     Ok(())
 }
 
@@ -51,9 +71,7 @@ fn refusals_are_printed(rt: HostRuntime) -> Result<(), AllocError> {
             "refused 8 32 NoSuchVersion 65535\n",
         ),
     ] {
-        let mut out = Vec::new(rt.alloc());
-        put_refused(line, &refusal, &mut out)?;
-        assert_eq!(rt; out.as_slice(), text.as_bytes());
+        check_refusal(&rt, rt.alloc(), line, &refusal, text)?;
     }
     Ok(())
 }
@@ -80,9 +98,7 @@ fn broken_rules_are_printed(rt: HostRuntime) -> Result<(), AllocError> {
         (4, outside, "refused 4 14 IndexOutside 300 0000.0000.0003\n"),
         (6, many, "refused 6 19 TooManyLinks 2070\n"),
     ] {
-        let mut out = Vec::new(rt.alloc());
-        put_refused(line, &Refusal::Rule(rule), &mut out)?;
-        assert_eq!(rt; out.as_slice(), text.as_bytes());
+        check_refusal(&rt, rt.alloc(), line, &Refusal::Rule(rule), text)?;
     }
     Ok(())
 }
@@ -103,7 +119,7 @@ fn counts_of_audits_are_printed(rt: HostRuntime) -> Result<(), AllocError> {
     ] {
         let mut out = Vec::new(rt.alloc());
         put_summary(version, covered, nopath, nolist, toodeep, &mut out)?;
-        assert_eq!(rt; out.as_slice(), line.as_bytes());
+        expect_text(&rt, &out, line);
     }
     Ok(())
 }
@@ -117,7 +133,7 @@ fn uncovered_walks_are_printed(rt: HostRuntime) -> Result<(), AllocError> {
     ] {
         let mut out = Vec::new(rt.alloc());
         put_walk_uncovered(&answer, &mut out)?;
-        assert_eq!(rt; out.as_slice(), line.as_bytes());
+        expect_text(&rt, &out, line);
     }
     Ok(())
 }
@@ -130,15 +146,38 @@ const COUNTS: Counts = Counts {
     toodeep: 2,
 };
 
+/// Appends the words of background work.
+fn put_background(out: &mut Vec<u8>) -> Result<(), AllocError> {
+    put_hold(65_535, out)?;
+    put_watch(8, 16, 3, out)?;
+    put_joined(128, out)?;
+    put_joined(0, out)
+}
+
 #[test]
 fn words_of_background_work_are_printed(rt: HostRuntime) -> Result<(), AllocError> {
     let mut out = Vec::new(rt.alloc());
-    put_hold(65_535, &mut out)?;
-    put_watch(8, 16, 3, &mut out)?;
-    put_joined(128, &mut out)?;
-    put_joined(0, &mut out)?;
+    put_background(&mut out)?;
     let text = "hold version 65535\nwatch 8 16 from version 3\njoined 128\njoined 0\n";
-    assert_eq!(rt; out.as_slice(), text.as_bytes());
+    expect_text(&rt, &out, text);
+    Ok(())
+}
+
+/// The report of this round has this line.
+fn check_report(
+    rt: &impl Abort,
+    alloc: Global,
+    round: Option<WatchRound>,
+    line: &str,
+) -> Result<(), AllocError> {
+    let mut out = Vec::new(alloc);
+    let report = RoundReport {
+        round,
+        version: 3,
+        counts: COUNTS,
+    };
+    put_report(&report, &mut out)?;
+    expect_text(rt, &out, line);
     Ok(())
 }
 
@@ -158,30 +197,28 @@ fn reports_are_printed(rt: HostRuntime) -> Result<(), AllocError> {
             "report watch 8 16 version 3 covered 40 nopath 0 nolist 1 toodeep 2\n",
         ),
     ] {
-        let mut out = Vec::new(rt.alloc());
-        let report = RoundReport {
-            round,
-            version: 3,
-            counts: COUNTS,
-        };
-        put_report(&report, &mut out)?;
-        assert_eq!(rt; out.as_slice(), line.as_bytes());
+        check_report(&rt, rt.alloc(), round, line)?;
     }
     Ok(())
+}
+
+/// Appends the lines of certificates that are tested or asked for.
+fn put_verdicts(out: &mut Vec<u8>) -> Result<(), AllocError> {
+    put_proof(1, out)?;
+    put_proof(4_096, out)?;
+    put_verdict(Verdict::Accepted { cost: 3 }, out)?;
+    put_verdict(Verdict::Rejected(Clause::FirstRow), out)?;
+    put_unproved(&Answer::NoPath, out)?;
+    put_unproved(&Answer::TooDeep { needed: 4 }, out)
 }
 
 #[test]
 fn verdicts_are_printed(rt: HostRuntime) -> Result<(), AllocError> {
     let mut out = Vec::new(rt.alloc());
-    put_proof(1, &mut out)?;
-    put_proof(4_096, &mut out)?;
-    put_verdict(Verdict::Accepted { cost: 3 }, &mut out)?;
-    put_verdict(Verdict::Rejected(Clause::FirstRow), &mut out)?;
-    put_unproved(&Answer::NoPath, &mut out)?;
-    put_unproved(&Answer::TooDeep { needed: 4 }, &mut out)?;
+    put_verdicts(&mut out)?;
     let text =
         "proof 1\nproof 4096\naccepted cost 3\nrejected 3\nprove uncovered nopath\nprove uncovered toodeep 4\n";
-    assert_eq!(rt; out.as_slice(), text.as_bytes());
+    expect_text(&rt, &out, text);
     Ok(())
 }
 
@@ -204,6 +241,6 @@ fn stacks_and_counts_are_printed(rt: HostRuntime) -> Result<(), AllocError> {
     put_repair_counts(COUNTS, &mut out)?;
     let text =
         "labels link 0 repairs 12\nlabels risk 3 repairs 1\nrepairs covered 40 nopath 0 nolist 1 toodeep 2\n";
-    assert_eq!(rt; out.as_slice(), text.as_bytes());
+    expect_text(&rt, &out, text);
     Ok(())
 }

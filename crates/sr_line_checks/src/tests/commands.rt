@@ -1,17 +1,30 @@
 //! Lines that are commands, with their fields as they are printed.
-use sr_script::{Line, read_line};
+use sr_script::{Line, LineFault, read_line};
 use std::alloc::Global;
 use std::process::Abort;
 use std::test::Fail;
 
+/// The command that a line is, as its fields are printed, or nothing.
+fn printed(alloc: Global, read: &Result<Line, LineFault>) -> Result<String, Fail> {
+    match read {
+        Ok(Line::Word(command)) => Ok(format!(in alloc; "{command:?}")?),
+        _ => Ok(String::new(alloc)),
+    }
+}
+
 /// The line is this command, as its fields are printed.
 fn expect_command(rt: &impl Abort, alloc: Global, line: &str, expected: &str) -> Result<(), Fail> {
-    match &read_line(alloc, line.as_bytes()) {
-        Ok(Line::Word(command)) => {
-            let printed = format!(in alloc; "{command:?}")?;
-            assert_eq!(rt; printed.as_str(), expected, "{line:?}");
-        }
-        _ => assert!(rt; false, "{line:?}"),
+    let read = read_line(alloc, line.as_bytes());
+    let printed = printed(alloc, &read);
+    drop(read);
+    assert_eq!(rt; printed?.as_str(), expected, "{line:?}");
+    Ok(())
+}
+
+/// The lines are these commands.
+fn expect_commands(rt: &impl Abort, alloc: Global, table: &[(&str, &str)]) -> Result<(), Fail> {
+    for (line, expected) in table {
+        expect_command(rt, alloc, line, expected)?;
     }
     Ok(())
 }
@@ -181,20 +194,27 @@ const BLOCKS: (&str, &str) = (
      1, 35, 69, 103, 137, 171, 205, 239, 254, 220, 186, 152, 118, 84, 50, 16, 127, 128] } }",
 );
 
+/// Edits and questions are read.
+fn check_questions(rt: &impl Abort, alloc: Global) -> Result<(), Fail> {
+    expect_commands(rt, alloc, &EDITS)?;
+    expect_commands(rt, alloc, &QUESTIONS)
+}
+
+/// The other words are read.
+fn check_others(rt: &impl Abort, alloc: Global) -> Result<(), Fail> {
+    expect_commands(rt, alloc, &OTHERS)
+}
+
+/// The lines of a certificate are read.
+fn check_certificates(rt: &impl Abort, alloc: Global) -> Result<(), Fail> {
+    expect_commands(rt, alloc, &CERTIFICATES)?;
+    expect_commands(rt, alloc, &ROWS)
+}
+
 #[test]
 fn commands_are_read(rt: HostRuntime) -> Result<(), Fail> {
-    let tables: [&[(&str, &str)]; 6] = [
-        &EDITS,
-        &QUESTIONS,
-        &OTHERS,
-        &CERTIFICATES,
-        &ROWS,
-        &[BLOCKS],
-    ];
-    for table in tables {
-        for (line, expected) in table {
-            expect_command(&rt, rt.alloc(), line, expected)?;
-        }
-    }
-    Ok(())
+    check_questions(&rt, rt.alloc())?;
+    check_others(&rt, rt.alloc())?;
+    check_certificates(&rt, rt.alloc())?;
+    expect_commands(&rt, rt.alloc(), &[BLOCKS])
 }

@@ -1,6 +1,7 @@
 //! Lines that say nothing, and lines that are refused.
 use sr_script::{Line, LineFault, read_line};
 use std::alloc::{AllocError, Global};
+use std::process::Abort;
 use std::test::Fail;
 
 /// What came of a line, in a word.
@@ -15,6 +16,14 @@ fn outcome(read: &Result<Line, LineFault>) -> &'static str {
         Err(LineFault::BadHex) => "bad hex",
         Err(LineFault::Memory(_)) => "memory",
     }
+}
+
+/// What comes of reading this line.
+fn outcome_of(alloc: Global, line: &[u8]) -> &'static str {
+    let read = read_line(alloc, line);
+    let outcome = outcome(&read);
+    drop(read);
+    outcome
 }
 
 /// Lines without words, and remarks.
@@ -174,22 +183,41 @@ const DIGITS: [&str; 11] = [
     "lsp 00112233445566778899aAbBcCdDeEfF0123456789abcdefFEDCBA98765432107g",
 ];
 
+/// This comes of each of the lines.
+fn expect_each(rt: &impl Abort, alloc: Global, expected: &str, lines: &[&str]) {
+    for line in lines {
+        assert_eq!(rt; outcome_of(alloc, line.as_bytes()), expected, "{line:?}");
+    }
+}
+
+/// Lines that say nothing, and lines of unknown words.
+fn check_first_words(rt: &impl Abort, alloc: Global) {
+    expect_each(rt, alloc, "nothing", &NOTHING);
+    expect_each(rt, alloc, "unknown word", &UNKNOWN);
+}
+
+/// Lines with numbers out of their ranges.
+fn check_ranges(rt: &impl Abort, alloc: Global) {
+    expect_each(rt, alloc, "bad form", &RANGES);
+}
+
+/// Lines with other names, or another count of words.
+fn check_counts(rt: &impl Abort, alloc: Global) {
+    expect_each(rt, alloc, "bad form", &COUNTS);
+}
+
+/// Lines of certificates in another form.
+fn check_proofs(rt: &impl Abort, alloc: Global) {
+    expect_each(rt, alloc, "bad form", &PROOFS);
+}
+
 #[test]
 fn other_lines_are_no_commands(rt: HostRuntime) {
-    let tables: [(&str, &[&str]); 6] = [
-        ("nothing", &NOTHING),
-        ("unknown word", &UNKNOWN),
-        ("bad form", &RANGES),
-        ("bad form", &COUNTS),
-        ("bad form", &PROOFS),
-        ("bad hex", &DIGITS),
-    ];
-    for (expected, lines) in tables {
-        for line in lines {
-            let read = read_line(rt.alloc(), line.as_bytes());
-            assert_eq!(rt; outcome(&read), expected, "{line:?}");
-        }
-    }
+    check_first_words(&rt, rt.alloc());
+    check_ranges(&rt, rt.alloc());
+    check_counts(&rt, rt.alloc());
+    check_proofs(&rt, rt.alloc());
+    expect_each(&rt, rt.alloc(), "bad hex", &DIGITS);
 }
 
 /// A line that ends with that many times the same word of one letter.
@@ -203,32 +231,58 @@ fn repeated(alloc: Global, begin: &str, letter: u8, count: usize) -> Result<Vec<
     Ok(line)
 }
 
+/// This comes of a line that ends with that many times the letter.
+fn expect_repeated(
+    rt: &impl Abort,
+    alloc: Global,
+    begin: &str,
+    letter: u8,
+    count: usize,
+    expected: &str,
+) -> Result<(), AllocError> {
+    let line = repeated(alloc, begin, letter, count)?;
+    assert_eq!(rt; outcome_of(alloc, &line), expected);
+    Ok(())
+}
+
 #[test]
 fn rows_and_labels_have_limits(rt: HostRuntime) -> Result<(), Fail> {
-    let alloc = rt.alloc();
     for (begin, letter, count, expected) in [
         ("proof row", b'-', 256, "command"),
         ("proof row", b'-', 257, "bad form"),
         ("proof done", b'7', 257, "command"),
         ("proof done", b'7', 258, "bad form"),
     ] {
-        let line = repeated(alloc, begin, letter, count)?;
-        assert_eq!(rt; outcome(&read_line(alloc, &line)), expected);
+        expect_repeated(&rt, rt.alloc(), begin, letter, count, expected)?;
     }
+    Ok(())
+}
+
+/// This comes of a line of that many of the letter, and this end.
+fn expect_long(
+    rt: &impl Abort,
+    alloc: Global,
+    letter: u8,
+    count: usize,
+    end: &[u8],
+    expected: &str,
+) -> Result<(), AllocError> {
+    let mut line = vec![in alloc; letter; count]?;
+    line.extend_from_slice(end)?;
+    assert_eq!(rt; outcome_of(alloc, &line), expected);
     Ok(())
 }
 
 #[test]
 fn long_lines_are_refused_first(rt: HostRuntime) -> Result<(), Fail> {
-    let alloc = rt.alloc();
-    let letters = vec![in alloc; b'x'; 140_000]?;
-    assert_eq!(rt; outcome(&read_line(alloc, &letters)), "unknown word");
-    let blanks = vec![in alloc; b' '; 140_000]?;
-    assert_eq!(rt; outcome(&read_line(alloc, &blanks)), "nothing");
-    let more = vec![in alloc; b' '; 140_001]?;
-    assert_eq!(rt; outcome(&read_line(alloc, &more)), "too long");
-    let mut returned = vec![in alloc; b' '; 140_000]?;
-    returned.push(b'\r')?;
-    assert_eq!(rt; outcome(&read_line(alloc, &returned)), "too long");
+    let lines: [(u8, usize, &[u8], &str); 4] = [
+        (b'x', 140_000, b"", "unknown word"),
+        (b' ', 140_000, b"", "nothing"),
+        (b' ', 140_001, b"", "too long"),
+        (b' ', 140_000, b"\r", "too long"),
+    ];
+    for (letter, count, end, expected) in lines {
+        expect_long(&rt, rt.alloc(), letter, count, end, expected)?;
+    }
     Ok(())
 }

@@ -10,6 +10,7 @@ use sr_labels::{Net, NodeLabels, Srgb, first_clash};
 use sr_model::{Ident, LinkKey, LinkNo, Range, SystemId};
 use sr_seq::Seq;
 use std::alloc::{AllocError, Global};
+use std::process::Abort;
 use std::test::Fail;
 
 /// The system id of a number of two octets.
@@ -154,4 +155,14 @@ pub fn net_of(alloc: Global, graph: Graph) -> Result<Net, Fail> {
             Ok(Net::new(graph, nodes, adj, announced, 3))
         }
     }
+}
+
+/// The net of the ring, with no adjacency label.
+pub fn ring_net(alloc: Global) -> Result<Net, Fail> {
+    net_of(alloc, ring_graph(alloc)?)
+}
+
+/// What was printed is this text.
+pub fn expect_text(rt: &impl Abort, printed: &[u8], text: &str) {
+    assert_eq!(rt; printed, text.as_bytes());
 }

@@ -2,12 +2,12 @@
 ghost use Rattle.std.specs.Prelude.{◌<◌};
 ghost use Rattle.sr_insight.specs.Groups.{group_count};
 
-use super::fixtures::{net_of, ring_graph};
+use super::fixtures::{expect_text, ring_net};
 use sr_insight::{Group, Grouping};
 use sr_labels::Net;
 use sr_model::Counts;
 use sr_print::put_coverage;
-use std::alloc::AllocError;
+use std::alloc::{AllocError, Global};
 use std::test::Fail;
 
 /// Appends how much is covered of groups 1 and 0, for each way to group but kinds: of the first two thirds, of the other
@@ -51,12 +51,15 @@ fn put_all_groups(net: &Net, out: &mut Vec<u8>) -> Result<(), AllocError> {
     Ok(())
 }
 
+/// The lines of the groups of the net.
+fn group_lines(alloc: Global, net: &Net) -> Result<Vec<u8>, AllocError> {
+    let mut out = Vec::new(alloc);
+    put_all_groups(net, &mut out)?;
+    Ok(out)
+}
+
 #[test]
 fn groups_are_printed(rt: HostRuntime) -> Result<(), Fail> {
-    let alloc = rt.alloc();
-    let net = net_of(alloc, ring_graph(alloc)?)?;
-    let mut out = Vec::new(alloc);
-    put_all_groups(&net, &mut out)?;
     let text = "coverage kind node 6666 covered 2 nopath 0 nolist 1 toodeep 0\n\
         coverage kind link 10000 covered 0 nopath 0 nolist 0 toodeep 0\n\
         coverage node 0000.0000.0002 6666 covered 2 nopath 0 nolist 1 toodeep 0\n\
@@ -65,6 +68,9 @@ fn groups_are_printed(rt: HostRuntime) -> Result<(), Fail> {
         coverage link 0000.0000.0001>0000.0000.0002#1 10000 covered 0 nopath 0 nolist 0 toodeep 0\n\
         coverage destination 0000.0000.0002 6666 covered 2 nopath 0 nolist 1 toodeep 0\n\
         coverage destination 0000.0000.0001 10000 covered 0 nopath 0 nolist 0 toodeep 0\n";
-    assert_eq!(rt; out.as_slice(), text.as_bytes());
+    let net = ring_net(rt.alloc())?;
+    let lines = group_lines(rt.alloc(), &net);
+    drop(net);
+    expect_text(&rt, &lines?, text);
     Ok(())
 }

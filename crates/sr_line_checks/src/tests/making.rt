@@ -1,9 +1,10 @@
 //! Made scripts, against values from outside.
 use sr_base::{MemorySink, SteadySink};
 use sr_engine::End;
-use sr_lsp::{PartRef, read_lsp};
+use sr_lsp::{Lsp, PartRef, read_lsp};
 use sr_make::make;
 use std::alloc::{AllocError, Global};
+use std::process::Abort;
 use std::test::Fail;
 
 /// The script of three nodes by draws from 0. The first draws are 15470, 18256, 53708, 43769, 25170 and 40750, so that
@@ -46,10 +47,14 @@ struct Told {
     pair: u32,
 }
 
-/// Appends the links that the PDU of a line announces.
-fn push_links(alloc: Global, digits: &str, told: &mut Vec<Told>) -> Result<(), Fail> {
+/// The PDU of a line.
+fn lsp_of(alloc: Global, digits: &str) -> Result<Lsp, Fail> {
     let octets = hex::decode(alloc, digits.as_bytes())?;
-    let lsp = read_lsp(alloc, &octets)?;
+    Ok(read_lsp(alloc, &octets)?)
+}
+
+/// Appends the links that the PDU announces.
+fn push_links(lsp: &Lsp, told: &mut Vec<Told>) -> Result<(), Fail> {
     for at in 0..lsp.parts.count() {
         if let PartRef::Reach(reach) = lsp.parts.at(at) {
             told.push(Told {
@@ -63,23 +68,37 @@ fn push_links(alloc: Global, digits: &str, told: &mut Vec<Told>) -> Result<(), F
 }
 
 /// The links of a script.
-fn links_of(alloc: Global, script: &str) -> Result<Vec<Told>, Fail> {
+fn links_of(alloc: Global, script: &[u8]) -> Result<Vec<Told>, Fail> {
     let mut told = Vec::new(alloc);
-    for line in script.lines() {
+    for line in str::from_utf8(script)?.lines() {
         if let Some(digits) = line.strip_prefix("lsp ") {
-            push_links(alloc, digits, &mut told)?;
+            let lsp = lsp_of(alloc, digits)?;
+            let pushed = push_links(&lsp, &mut told);
+            drop(lsp);
+            pushed?;
         }
     }
     Ok(told)
 }
 
+/// The links of the script of eight nodes by draws from 0.
+fn links_of_eight(rt: &impl Abort, alloc: Global) -> Result<Vec<Told>, Fail> {
+    let mut sink = SteadySink::new(alloc);
+    assert!(rt; matches!(make(alloc, 8, 0, &mut sink), End::Done(false)));
+    let told = links_of(alloc, sink.bytes());
+    drop(sink);
+    told
+}
+
+/// The link is told.
+fn expect_told(rt: &impl Abort, told: &[Told], from: u64, to: u64, pair: u32) {
+    assert!(rt; told.contains(&Told { from, to, pair }), "pair {pair}");
+}
+
 // Each pair is told by both of its nodes, with its number among the pairs.
 #[test]
 fn chords_of_eight_nodes(rt: HostRuntime) -> Result<(), Fail> {
-    let alloc = rt.alloc();
-    let mut sink = SteadySink::new(alloc);
-    assert!(rt; matches!(make(alloc, 8, 0, &mut sink), End::Done(false)));
-    let told = links_of(alloc, str::from_utf8(sink.bytes())?)?;
+    let told = links_of_eight(&rt, rt.alloc())?;
     let expected = [
         (1, 2),
         (2, 3),
@@ -93,15 +112,8 @@ fn chords_of_eight_nodes(rt: HostRuntime) -> Result<(), Fail> {
         (4, 8),
     ];
     for ((from, to), pair) in expected.into_iter().zip(1..) {
-        assert!(rt; told.contains(&Told { from, to, pair }), "pair {pair}");
-        assert!(rt;
-            told.contains(&Told {
-                from: to,
-                to: from,
-                pair
-            }),
-            "pair {pair}"
-        );
+        expect_told(&rt, &told, from, to, pair);
+        expect_told(&rt, &told, to, from, pair);
     }
     assert_eq!(rt; told.len(), 20);
     Ok(())

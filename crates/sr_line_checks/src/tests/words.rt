@@ -1,15 +1,35 @@
 //! The words after the program's name, and the tasks that they ask for.
 use sr_words::{AskedTask, task_of};
 use std::alloc::{AllocError, Global};
+use std::process::Abort;
 use std::test::Fail;
 
-/// The task that these words ask for.
-fn asked(alloc: Global, texts: &[&str]) -> Result<Option<AskedTask>, AllocError> {
+/// The words of these texts.
+fn words_of(alloc: Global, texts: &[&str]) -> Result<Vec<String>, AllocError> {
     let mut words = Vec::new(alloc);
     for text in texts {
         words.push(String::from_str(alloc, text)?)?;
     }
-    task_of(alloc, words.as_slice())
+    Ok(words)
+}
+
+/// The task that these words ask for.
+fn asked(alloc: Global, texts: &[&str]) -> Result<Option<AskedTask>, AllocError> {
+    let words = words_of(alloc, texts)?;
+    let task = task_of(alloc, words.as_slice());
+    drop(words);
+    task
+}
+
+/// These words ask for this task.
+fn expect_task(
+    rt: &impl Abort,
+    alloc: Global,
+    line: &[&str],
+    task: Option<AskedTask>,
+) -> Result<(), AllocError> {
+    assert_eq!(rt; asked(alloc, line)?, task, "{line:?}");
+    Ok(())
 }
 
 /// The least numbers of a made script.
@@ -31,7 +51,7 @@ fn words_that_ask_for_a_task(rt: HostRuntime) -> Result<(), Fail> {
         (&["make", "--nodes=256", "--start=4294967295"], MOST),
     ];
     for (line, task) in lines {
-        assert_eq!(rt; asked(rt.alloc(), line)?, Some(task), "{line:?}");
+        expect_task(&rt, rt.alloc(), line, Some(task))?;
     }
     Ok(())
 }
@@ -62,7 +82,7 @@ fn words_that_ask_for_none(rt: HostRuntime) -> Result<(), Fail> {
         &["--nodes", "3", "--start", "0"],
     ];
     for line in lines {
-        assert_eq!(rt; asked(rt.alloc(), line)?, None, "{line:?}");
+        expect_task(&rt, rt.alloc(), line, None)?;
     }
     Ok(())
 }
