@@ -5,6 +5,7 @@ pub mod LookLemmas
 pub mod MarkLemmas
 pub mod StopLemmas
 pub mod ServeLemmas
+pub mod OfferLemmas
 pub mod AnswerLemmas
 pub mod KeptHops
 pub mod CollectLemmas

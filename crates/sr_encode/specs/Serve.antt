@@ -1,5 +1,5 @@
 -- Which waypoints serve which destinations.
-use Rattle.std.specs.Prelude.{◌≡◌, ℕ, ◌+◌, ◌<◌, ◌≤◌, ◌⊎◌, Bool, true, false, List, length, [], Option, Some, None, is_some, slice_index, slice_index_or, All}
+use Rattle.std.specs.Prelude.{◌≡◌, ◌≢◌, ℕ, ◌+◌, ◌<◌, ◌≤◌, ◌⊎◌, Bool, true, false, List, length, [], Option, Some, None, is_some, slice_index, slice_index_or, All}
 use Rattle.sr_lanes.specs.declared.words.NodeBits.{NodeBits}
 use Rattle.sr_lanes.specs.Bits.{is_in}
 use Rattle.sr_model.specs.declared.link.TheConstants.{FAR}
@@ -28,6 +28,18 @@ pub record EndsAt (after : Aftermath) (w d : ℕ) : Type 0 where
 abbrev pub NoneEnds : Aftermath → List Waypoint → ℕ → ℕ → Type 0
 NoneEnds after queue d k = (j : ℕ) → j < k → EndsAt after (waypoint_node queue j) d → ⊥
 
+-- at none of the waypoints from place k on, before place m, lists can end towards d
+abbrev pub NoneEndsFrom : Aftermath → List Waypoint → ℕ → ℕ → ℕ → Type 0
+NoneEndsFrom after queue d k m =
+    (j : ℕ) → k ≤ j → j < m → EndsAt after (waypoint_node queue j) d → ⊥
+
+-- place p is the first from place k on at which lists can end towards d
+pub record IsFirstEnd (after : Aftermath) (queue : List Waypoint) (d k p : ℕ) : Type 0 where
+  pub from : k ≤ p
+  pub within : p < length queue
+  pub none : NoneEndsFrom after queue d k p
+  pub ends : EndsAt after (waypoint_node queue p) d
+
 -- the list to the waypoint at place k is the least sound one to each node towards which lists can end there and can't
 -- end at an earlier place
 abbrev pub IsLeastThere : Aftermath → List Waypoint → ℕ → Type 0
@@ -35,10 +47,14 @@ IsLeastThere after queue k =
     (d : ℕ) → d < node_count after.net.graph → NoneEnds after queue d k → EndsAt after (waypoint_node queue k) d
     → IsLeast after.net after.failed after.source d (path_to queue k)
 
+-- each waypoint of the queue is a node
+abbrev pub AreNodes : Aftermath → List Waypoint → Type 0
+AreNodes after queue = (j : ℕ) → j < length queue → waypoint_node queue j < node_count after.net.graph
+
 -- the queue has no more waypoints than there are nodes, each of them is one, and so it is at each place from k on
 pub record AreLeastFrom (after : Aftermath) (queue : List Waypoint) (k : ℕ) : Type 0 where
   pub short : length queue ≤ node_count after.net.graph
-  pub nodes : (j : ℕ) → j < length queue → waypoint_node queue j < node_count after.net.graph
+  pub nodes : AreNodes after queue
   pub each : (j : ℕ) → k ≤ j → j < length queue → IsLeastThere after queue j
 
 -- the place in the queue that is kept for node j, if one is
@@ -83,6 +99,12 @@ pub record IsLater (before served : Served) : Type 0 where
   pub pending : (d : ℕ) → is_in before.pending d ≡ true → IsTended served d
   pub places : (d : ℕ) → is_some (place_at before.places.items d) ≡ true
       → is_some (place_at served.places.items d) ≡ true
+
+-- all waypoints were offered to d, and what is pending of the others is as it was
+pub record IsTried (after : Aftermath) (queue : List Waypoint) (d : ℕ) (before served : Served) : Type 0 where
+  pub none : is_in served.pending d ≡ true → NoneEnds after queue d (length queue)
+  pub others : (e : ℕ) → e ≢ d → is_in served.pending e ≡ is_in before.pending e
+  pub later : IsLater before served
 
 -- these nodes have place k, and the others what they had
 pub record ArePlaced (before : List (Option ℕ)) (nodes : NodeBits) (k : ℕ) (places : List (Option ℕ)) : Type 0 where

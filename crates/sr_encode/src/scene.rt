@@ -111,6 +111,20 @@ impl<'a> Scene<'a> {
         ends
     }
 
+    /// Whether lists to waypoint w can end there towards d.
+    pub(crate) fn ends_at(&self, w: NodeNo, d: NodeNo) -> bool
+        requires w { w.0 < node_count self.now.net.graph }
+        requires d { d.0 < node_count self.now.net.graph }
+        ensures { IsTrue result ↔ EndsAt self.now w.0 d.0 }
+    {
+        let rest = self.spaces.row(w)[d.0 as usize];
+        if self.cells[w.0 as usize] + rest != self.cells[d.0 as usize] {
+            return false;
+        }
+        // P is asked last, since failed links may have to be gone through.
+        self.net.graph().carries(d, w) && self.spaces.in_p(w, d)
+    }
+
     /// Those of the nodes to which a node segment leads on from waypoint w, which isn't overloaded, and keeps to the
     /// distances from the source.
     pub(crate) fn steps(&self, w: NodeNo, among: NodeBits) -> NodeBits

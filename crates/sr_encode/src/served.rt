@@ -1,16 +1,20 @@
 //! Which waypoint serves which destination.
-ghost use Rattle.std.specs.Prelude.{◌≡◌, ℕ, ◌+◌, ◌<◌, ◌≤◌, ◌↔◌, true, false, length, IsTrue, IfOk, IfSome};
+ghost use Rattle.std.specs.Prelude.{◌≡◌, ℕ, ◌+◌, ◌<◌, ◌≤◌, ◌↔◌, true, false, length, IsTrue, IfOk, IfSome, MatchOption};
 ghost use Rattle.sr_lanes.specs.Bits.{is_in};
 ghost use Rattle.sr_model.specs.Graph.{node_count};
 ghost use Rattle.sr_encode.specs.Aftermath.{AreInside};
-ghost use Rattle.sr_encode.specs.Serve.{AreLeastFrom, AreOffered, AreTended, ArePlaced, IsLater, IsMetBy, IsHopOf, AreHopsOf};
+ghost use Rattle.sr_encode.specs.Serve.{AreNodes, AreLeastFrom, AreOffered, AreTended, ArePlaced, IsLater, IsMetBy, IsHopOf, AreHopsOf, IsTried, IsFirstEnd, NoneEndsFrom};
 
 use crate::scene::Scene;
 use crate::waypoint::Waypoint;
 use sr_lanes::NodeBits;
-use sr_model::LinkNo;
+use sr_model::{LinkNo, NodeNo};
 use sr_post::{HopNodes, Post};
 use std::alloc::{AllocError, Global};
+
+/// How many destinations are few: each of them is asked of one waypoint after the other until one serves it, which takes
+/// less for them than a pass over all of them for each waypoint (this project's choice).
+const FEW: usize = 16;
 
 /// The place in the queue of the waypoint that serves each destination, by the number of its node, and the destinations
 /// that are pending: a walk leads there, and no waypoint serves them so far.
@@ -43,6 +47,21 @@ fn place_over(queue: &[Waypoint], link: LinkNo) -> Option<usize>
         return None;
     }
     Some(place)
+}
+
+/// The first place from k on of a waypoint at which lists can end towards d, if there is one.
+fn first_end(scene: &Scene, queue: &[Waypoint], k: usize, d: NodeNo) -> Option<usize>
+    requires nodes { AreNodes scene.now queue.now }
+    requires d { d.0 < node_count scene.now.net.graph }
+    ensures { MatchOption result (NoneEndsFrom scene.now queue.now d.0 k (length queue.now))
+        (λ p. IsFirstEnd scene.now queue.now d.0 k p) }
+{
+    for at in k..queue.len() {
+        if scene.ends_at(queue[at].node, d) {
+            return Some(at);
+        }
+    }
+    None
 }
 
 impl Served {
@@ -119,7 +138,38 @@ impl Served {
         mark(&mut self.places, found, k as u16);
     }
 
-    /// Offers the waypoints from place k on to the destinations that are pending.
+    /// Offers the waypoints from place k on to a destination that is pending.
+    fn offer_to(&mut self, scene: &Scene, queue: &[Waypoint], k: usize, d: NodeNo)
+        requires least { AreLeastFrom scene.now queue.now k }
+        requires pending { is_in self.old.pending d.0 ≡ true }
+        requires offered { AreOffered scene.now queue.now k self.old }
+        ensures offered { AreOffered scene.now queue.now k self.new }
+        ensures tried { IsTried scene.now queue.now d.0 self.old self.new }
+    {
+        let _graph = scene.graph();
+        if let Some(first) = first_end(scene, queue, k, d) {
+            let found = NodeBits::none().with(d.0 as usize);
+            self.pending = self.pending.and_not(found);
+            mark(&mut self.places, found, first as u16);
+        }
+    }
+
+    /// Offers the waypoints from place k on to the destinations that are pending, one after the other.
+    fn offer_to_each(&mut self, scene: &Scene, queue: &[Waypoint], k: usize)
+        requires least { AreLeastFrom scene.now queue.now k }
+        requires offered { AreOffered scene.now queue.now k self.old }
+        ensures offered { AreOffered scene.now queue.now (length queue.now) self.new }
+        ensures later { IsLater self.old self.new }
+    {
+        let _graph = scene.graph();
+        let mut left = self.pending;
+        'left: while let Some(node) = left.take_first() {
+            self.offer_to(scene, queue, k, NodeNo(node as u16));
+        }
+    }
+
+    /// Offers the waypoints from place k on to the destinations that are pending. A waypoint is offered to all of them at
+    /// once, until few are left.
     pub(crate) fn offer_from(&mut self, scene: &Scene, queue: &[Waypoint], k: usize)
         requires least { AreLeastFrom scene.now queue.now k }
         requires k { k ≤ length queue.now }
@@ -128,7 +178,8 @@ impl Served {
         ensures later { IsLater self.old self.new }
     {
         for at in k..queue.len() {
-            if self.pending.is_empty() {
+            if self.pending.count() <= FEW {
+                self.offer_to_each(scene, queue, at);
                 return;
             }
             self.offer(scene, queue, at);

@@ -1,0 +1,5 @@
+use Rattle.sr_lanes.proofs.SizeLemmas.{size-less}
+use Rattle.sr_encode.proofs.served.Served.offer_to_each.Goals as goal
+
+pub left-smaller : goal.left-smaller
+left-smaller c = size-less c.left.left c.take_first.new.self c.in-Some.node c.in-Some.ensures.first c.in-Some.ensures.left
