@@ -7,10 +7,10 @@ use Rattle.sr_lanes.specs.Bits.{is_in, IsWithout}
 use Rattle.sr_lanes.specs.Passes.{has_distance}
 use Rattle.sr_lanes.proofs.SizeLemmas.{without-other, without-inside}
 use Rattle.sr_model.specs.declared.link.TheConstants.{FAR}
-use Rattle.sr_model.specs.Graph.{Graph, IsGraph, IsLink, has, link_at, metric, node_count, tail}
+use Rattle.sr_model.specs.declared.link.LinkNo.{LinkNo}
+use Rattle.sr_model.specs.Graph.{Graph, IsGraph, IsLink, has, link_at, metric, node_count}
 use Rattle.sr_model.specs.Walk.{IsDistance, IsNextHop, IsRow, IsWalk, cost}
-use Rattle.sr_graph.specs.Ranges.{HoldsLinks}
-use Rattle.sr_spf.specs.Carried.{IsCarried}
+use Rattle.sr_graph.specs.Members.{AreMembers, number_at}
 use Rattle.sr_walks.proofs.Walks.{walk-within}
 use Rattle.sr_walks.proofs.Distances.{IsShortest-from_cost}
 use Rattle.sr_post.specs.Kept.{AreDoubtful, AreEndangered, LeadsTo, LosesHop}
@@ -35,54 +35,42 @@ hop-of g s v c ne d (h ∷ more) walk costs = (h, record { more = more; shortest
 pub first-hop : (g : Graph) (s v c : ℕ) → v ≢ s → IsDistance g [] s v c → (h : ℕ) × IsNextHop g [] s v h
 first-hop g s v c ne d = hop-of g s v c ne d d.reached.0 d.reached.1 d.reached.2
 
--- the set has the nodes towards which one of the failed links below l is a next hop of s
-pub record AreLosingUpTo (g : Graph) (x : List Bool) (s l : ℕ) (set : NodeBits) : Type 0 where
+-- the set has the nodes towards which one of the first k links of the list, which fail, is a next hop of s
+pub record AreLosingAmong (g : Graph) (x : List Bool) (s : ℕ) (links : List LinkNo) (k : ℕ) (set : NodeBits) : Type 0 where
   pub each : (v : ℕ) → is_in set v ≡ true → LosesHop g x s v
-  pub all : (v h : ℕ) → h < l → IsNextHop g [] s v h → has x h ≡ true → is_in set v ≡ true
+  pub all : (v i : ℕ) → i < k → IsNextHop g [] s v (number_at links i) → is_in set v ≡ true
 
-module _ (g : Graph) (x : List Bool) (s : ℕ) where
+module _ (g : Graph) (x : List Bool) (s : ℕ) (links : List LinkNo) where
   -- before the first link
-  pub losing-start : (i j : ℕ) (set : NodeBits) → HoldsLinks g s i j → ((v : ℕ) → is_in set v ≡ false) → AreLosingUpTo g x s i set
-  losing-start i j set links none = record {
+  pub losing-start : (set : NodeBits) → ((v : ℕ) → is_in set v ≡ false) → AreLosingAmong g x s links 0 set
+  losing-start set none = record {
     each = λ v is. absurd (true≢false (sym is ∙ none v));
-    all = λ v h lt hop failed.
-        let up : i ≤ h = (links.to h hop.shortest.0.0 hop.shortest.0.2).0 in
-        absurd (omega (arith, up, lt));
+    all = λ v i lt hop. absurd (omega (arith, lt));
   }
 
-  -- one link more, which hasn't failed
-  pub losing-pass : (l : ℕ) (set : NodeBits) → AreLosingUpTo g x s l set → has x l ≡ false → AreLosingUpTo g x s (l + 1) set
-  losing-pass l set r stands = record {
-    each = r.each;
-    all = λ v h lt hop failed. ⊎_elim
-        (λ (e : h ≡ l). absurd (true≢false (sym failed ∙ subst (λ k. has x k ≡ false) (sym e) stands)))
-        (λ (ne : h ≢ l). r.all v h (omega arith) hop failed)
-        (cases_eq h l);
-  }
-
-  -- or which has, with the nodes towards which it is a next hop
-  pub losing-put : (l : ℕ) (set towards more : NodeBits) → AreLosingUpTo g x s l set → has x l ≡ true → tail g l ≡ s → IsCarried g l towards → ((v : ℕ) → is_in more v ≡ (is_in set v || is_in towards v)) → AreLosingUpTo g x s (l + 1) more
-  losing-put l set towards more r failed begins carried joined = record {
+  -- one link more, with the nodes towards which it is a next hop
+  pub losing-next : (k : ℕ) (set behind more : NodeBits) → AreLosingAmong g x s links k set → has x (number_at links k) ≡ true
+      → ((v : ℕ) → IsTrue (is_in behind v) ↔ IsNextHop g [] s v (number_at links k))
+      → ((v : ℕ) → is_in more v ≡ (is_in set v || is_in behind v)) → AreLosingAmong g x s links (k + 1) more
+  losing-next k set behind more r failed told joined = record {
     each = λ v is. ⊎_elim
         (λ old. r.each v old)
-        (λ now. (l, subst (λ u. IsNextHop g [] u v l) begins ((carried.each v).0 now), failed))
-        (or_cases (is_in set v) (is_in towards v) (sym (joined v) ∙ is));
-    all = λ v h lt hop gone. ⊎_elim
-        (λ (e : h ≡ l).
-        let here : IsNextHop g [] (tail g l) v l = subst (λ u. IsNextHop g [] u v l) (sym begins) (subst (λ k. IsNextHop g [] s v k) e hop) in
-        joined v ∙ or_right (is_in set v) (is_in towards v) ((carried.each v).1 here))
-        (λ (ne : h ≢ l). joined v ∙ or_left (is_in set v) (is_in towards v) (r.all v h (omega arith) hop gone))
-        (cases_eq h l);
+        (λ now. (number_at links k, (told v).0 now, failed))
+        (or_cases (is_in set v) (is_in behind v) (sym (joined v) ∙ is));
+    all = λ v i lt hop. ⊎_elim
+        (λ (e : i ≡ k). joined v ∙ or_right (is_in set v) (is_in behind v) ((told v).1 (subst (λ j. IsNextHop g [] s v (number_at links j)) e hop)))
+        (λ (ne : i ≢ k). joined v ∙ or_left (is_in set v) (is_in behind v) (r.all v i (omega arith) hop))
+        (cases_eq i k);
   }
 
-  -- after the last link
-  pub losing-over : (i j l : ℕ) (set : NodeBits) → HoldsLinks g s i j → j ≤ l → AreLosingUpTo g x s l set → (v : ℕ) → IsTrue (is_in set v) ↔ LosesHop g x s v
-  losing-over i j l set links le r v = (
+  -- after the last link, where the list has the links of x
+  pub losing-over : (k : ℕ) (set : NodeBits) → AreMembers x links → length links ≤ k → AreLosingAmong g x s links k set → (v : ℕ) → IsTrue (is_in set v) ↔ LosesHop g x s v
+  losing-over k set members le r v = (
     λ is. r.each v is,
     λ loses.
-        let hop : IsNextHop g [] s v loses.0 = loses.1 in
-        let low : loses.0 < j = (links.to loses.0 hop.shortest.0.0 hop.shortest.0.2).1 in
-        r.all v loses.0 (omega (arith, low, le)) hop loses.2,
+        let at = members.all loses.0 loses.2 in
+        let low : at.0 < k = omega (arith, at.1, le) in
+        r.all v at.0 low (subst (λ h. IsNextHop g [] s v h) (sym at.2) loses.1),
   )
 
 -- these nodes have a distance, aren't doubtful, and lose no next hop

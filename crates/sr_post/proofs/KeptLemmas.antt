@@ -3,7 +3,7 @@ use Rattle.std.proofs.Common.{◌≡◌, ℕ, ◌+◌, ◌<◌, ◌≤◌, ◌�
 use Rattle.std.specs.Prelude.{All, Contains, slice_index, if◌then◌else◌}
 use Rattle.std.proofs.lemmas.Bool.{cases_eq, cases_lt, cases_Bool}
 use Rattle.std.proofs.lemmas.List.Elements.{Contains-get_or}
-use Rattle.std.proofs.lemmas.List.{length-append, get_or_append_left, get_or_push, get_or_past, get_or_default}
+use Rattle.std.proofs.lemmas.List.{length-append, get_or_push, get_or_past, get_or_default}
 use Rattle.sr_model.specs.Graph.{Graph, IsGraph, IsLink, carries, has, head, is_overloaded, link_at, link_count, metric, node_count, tail}
 use Rattle.sr_model.specs.Walk.{IsDistance, IsRow, IsShortest, IsWalk, Passes, cost}
 use Rattle.sr_model.specs.Space.{InP, Avoids}

@@ -1,7 +1,8 @@
 //! What a failure leaves as it was: distances from the source, and next hops.
-ghost use Rattle.std.specs.Prelude.{◌≡◌, ℕ, ◌<◌, ◌↔◌, true, length, IsTrue, IfOk, OnOk};
+ghost use Rattle.std.specs.Prelude.{◌≡◌, ℕ, ◌<◌, ◌↔◌, [], true, length, IsTrue, IfOk, OnOk};
 ghost use Rattle.sr_lanes.specs.Bits.{is_in};
 ghost use Rattle.sr_model.specs.Graph.{node_count, link_count, tail};
+ghost use Rattle.sr_model.specs.Walk.{IsNextHop};
 ghost use Rattle.sr_spf.specs.Begun.{IsBegun};
 ghost use Rattle.sr_spf.specs.Trees.{AreTrees};
 ghost use Rattle.sr_post.specs.Kept.{AreDoubtful, LeadsTo, LosesHop, AreEndangered, AreKeptHops, AreLost};
@@ -47,18 +48,27 @@ fn led_by(
     sure.or(spaces.p_among(spaces.graph().edge(hop).to, led.and(doubtful)))
 }
 
+/// The nodes towards which the link is a next hop of the source. A set of links knows no graph, so it may list a number past
+/// the graph's links, which is none.
+fn behind(spaces: &Spaces, trees: &Trees, source: NodeNo, link: LinkNo) -> NodeBits
+    requires { AreTrees spaces.now.graph trees.now }
+    ensures { (v : ℕ) → IsTrue (is_in result v) ↔ IsNextHop spaces.now.graph [] source.0 v link.0 }
+{
+    let graph = spaces.graph();
+    if link.0 as u32 >= graph.link_count() || graph.edge(link).from.0 != source.0 {
+        return NodeBits::none();
+    }
+    trees.carried(link)
+}
+
 /// The nodes towards which a failed link is a next hop of the source.
 fn losing(spaces: &Spaces, trees: &Trees, source: NodeNo) -> NodeBits
-    requires trees { AreTrees spaces.now.graph trees.now }
-    requires source { source.0 < node_count spaces.now.graph }
+    requires { AreTrees spaces.now.graph trees.now }
     ensures { (v : ℕ) → IsTrue (is_in result v) ↔ LosesHop spaces.now.graph spaces.now.failed source.0 v }
 {
-    let LinkRange { first, end } = spaces.graph().links_from(source);
     let mut losing = NodeBits::none();
-    for link in first..end {
-        if spaces.failed().has(LinkNo(link)) {
-            losing = losing.or(trees.carried(LinkNo(link)));
-        }
+    for link in spaces.failed().links() {
+        losing = losing.or(behind(spaces, trees, source, *link));
     }
     losing
 }

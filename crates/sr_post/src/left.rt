@@ -55,13 +55,6 @@ impl Post {
         self.row.as_slice()
     }
 
-    /// The distance from the source to each node without the failed links, all else let go.
-    pub fn into_cells(self) -> Seq<u64>
-        ensures { result ≡ self.cells }
-    {
-        self.row
-    }
-
     /// The distance from the source to the node without the failed links. None exactly where there is no walk.
     pub fn dist(&self, v: NodeNo) -> Option<u64>
         requires { v.0 < length self.now.cells }
