@@ -5,3 +5,4 @@ pub mod StayLemmas
 pub mod WorkLemmas
 pub mod StackLemmas
 pub mod DeliveryLemmas
+pub mod RowLemmas

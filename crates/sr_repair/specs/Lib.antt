@@ -7,3 +7,4 @@ pub mod Work
 pub mod Delivery
 pub mod Stack
 pub mod Items
+pub mod Rows

@@ -1,9 +1,10 @@
 //! The version before, from which a case is taken where it is steady.
-ghost use Rattle.std.specs.Prelude.{◌≡◌, true, Some, IfOk, IsTrue, MatchOption};
+ghost use Rattle.std.specs.Prelude.{◌≡◌, ◌<◌, true, Some, IfOk, IsTrue, MatchOption};
 ghost use Rattle.std.specs.Arc.{arc_value};
 ghost use Rattle.sr_graph.specs.Failed.{FailsAsLink};
 ghost use Rattle.sr_model.specs.Case.{IsCase};
 ghost use Rattle.sr_model.specs.Graph.{node_count};
+ghost use Rattle.sr_model.specs.Walk.{IsRow};
 ghost use Rattle.sr_model.specs.Stay.{HaveSameName, IsKeptCase};
 ghost use Rattle.sr_laws.specs.Steady.{IsSteadyCase};
 ghost use Rattle.sr_spf.specs.Trees.{AreTrees};
@@ -17,11 +18,13 @@ ghost use Rattle.sr_repair.specs.Spared.{IsOldCase};
 
 use crate::answers::Found;
 use crate::computed::Computed;
+use crate::row::CaseRow;
 use crate::solved::Solved;
 use sr_delta::{Changes, OldCase, Staying, case_stays, is_steady, may_stay};
+use sr_graph::LinkSet;
 use sr_labels::Net;
 use sr_lanes::NodeBits;
-use sr_model::Case;
+use sr_model::{Case, NodeNo};
 use sr_post::walks_along;
 use sr_spf::{Trees, are_in_place};
 use std::alloc::{AllocError, Global};
@@ -83,14 +86,42 @@ impl<'a> Former<'a> {
         }
     }
 
-    /// What was computed for an old case that is steady, by the new numbers of links.
-    fn moved(&self, alloc: Global, solved: &Arc<Solved>) -> Result<Arc<Solved>, AllocError>
+    /// These distances from the source without links of the old net, kept by what differs from the new trees.
+    fn row_over(
+        &self,
+        alloc: Global,
+        source: NodeNo,
+        failed: &LinkSet,
+        cells: &[u64],
+    ) -> Result<CaseRow, AllocError>
+        requires source { source.0 < node_count self.now.old.graph }
+        requires row { IsRow self.now.old.graph failed.now source.0 cells.now }
+        ensures { IfOk result (λ row. row ≡ cells.now) }
+    {
+        CaseRow::new(alloc, self.trees.held_cells(source)?, cells)
+    }
+
+    /// What was computed for an old case that is steady, by the new numbers of links. Where all is as it was in the whole
+    /// graph too, both versions share it; else the distances, which are these, are kept over the new trees, so that no
+    /// version holds the trees of those before.
+    fn moved(
+        &self,
+        alloc: Global,
+        solved: &Arc<Solved>,
+        source: NodeNo,
+        failed: &LinkSet,
+        cells: &[u64],
+    ) -> Result<Arc<Solved>, AllocError>
+        requires source { source.0 < node_count self.now.old.graph }
+        requires row { IsRow self.now.old.graph failed.now source.0 cells.now }
+        requires cells { cells.now ≡ (arc_value solved.now).cells }
         ensures { IfOk result (λ moved. StaySolved self.now (arc_value solved.now) (arc_value moved)) }
     {
-        if self.in_place {
+        if self.in_place && self.farther[source.0 as usize].is_empty() {
             return Arc::try_clone(solved);
         }
-        solved.renumbered(alloc, self.changes.partners())
+        let row = self.row_over(alloc, source, failed, cells)?;
+        solved.renumbered(alloc, self.changes.partners(), row)
     }
 
     /// Whether the old case is steady. So is one that stays, which mostly costs less to tell.
@@ -128,17 +159,19 @@ impl<'a> Former<'a> {
             × StaySolved self.now (arc_value solved.now) (arc_value moved))) }
     {
         let net = self.computed.net();
-        if !may_stay(self.changes, net, old, solved.cells()) {
+        let cells = solved.cells(alloc)?;
+        if !may_stay(self.changes, net, old, &cells) {
             return Ok(None);
         }
         let trees = self.computed.trees();
         let failed = net.graph().failed(alloc, old)?;
-        let walks = walks_along(net, trees, old, &failed, solved.cells());
-        let was = OldCase::new(net, trees, old, solved.cells(), walks);
+        let walks = walks_along(net, trees, old, &failed, &cells);
+        let was = OldCase::new(net, trees, old, &cells, walks);
         if !self.outlasts(&was) {
             return Ok(None);
         }
-        Ok(Some(self.moved(alloc, solved)?))
+        let source = net.graph().edge(old.link).from;
+        Ok(Some(self.moved(alloc, solved, source, &failed, &cells)?))
     }
 
     /// What was computed for the case, if it is an old case that is steady and affects some destination.

@@ -8,6 +8,7 @@ mod former;
 mod laws;
 mod made;
 mod passes;
+mod row;
 mod setting;
 mod solved;
 mod stack;

@@ -5,6 +5,7 @@ ghost use Rattle.std.specs.Arc.{arc_value};
 ghost use Rattle.sr_model.specs.Case.{IsCase};
 ghost use Rattle.sr_graph.specs.Failed.{FailsAsLink};
 ghost use Rattle.sr_spf.specs.Trees.{AreTrees};
+ghost use Rattle.sr_post.specs.Post.{IsPost};
 ghost use Rattle.sr_encode.specs.Answered.{AreAffected};
 ghost use Rattle.sr_repair.specs.Answers.{case_count, IsPassed, IsPassedIn, AreAllPassed};
 ghost use Rattle.sr_repair.specs.Former.{IsSearched};
@@ -12,13 +13,14 @@ ghost use Rattle.sr_repair.specs.Solutions.{IsSolution};
 ghost use Rattle.sr_repair.specs.Spared.{IsSpared};
 
 use crate::cases::{case_count, case_in};
+use crate::row::CaseRow;
 use crate::setting::Setting;
 use crate::solved::Solved;
 use sr_encode::lists;
 use sr_labels::Net;
 use sr_lanes::NodeBits;
 use sr_model::Case;
-use sr_post::{affected_set, post};
+use sr_post::{Post, affected_set, post};
 use sr_spf::{Searched, Steps, Trees};
 use sr_threads::{Share, made_of_each};
 use std::alloc::{AllocError, Global};
@@ -46,6 +48,23 @@ pub(crate) enum Passed {
     Listed(Arc<Solved>, Searched),
 }
 
+/// The distances that the case leaves, as they are kept.
+fn case_row(
+    alloc: Global,
+    net: &Net,
+    trees: &Trees,
+    post: &Post,
+    case: Case,
+) -> Result<CaseRow, AllocError>
+    requires trees { AreTrees net.now.graph trees.now }
+    requires case { IsCase net.now.graph case }
+    requires post { IsPost net.now case post.now }
+    ensures { IfOk result (λ row. row ≡ post.now.cells) }
+{
+    let source = net.graph().edge(case.link).from;
+    CaseRow::new(alloc, trees.held_cells(source)?, post.cells())
+}
+
 /// What is computed for the case, whose affected destinations these are, counted from nothing: by one search for
 /// distances.
 fn solved_from<L: Ledger>(
@@ -65,10 +84,8 @@ fn solved_from<L: Ledger>(
     let mut steps = Steps::<L>::new(blank);
     let post = post(alloc, net, trees, case, &mut steps)?;
     let answers = lists(alloc, net, trees, &post, case, wanted)?;
-    Ok((
-        Solved::new(alloc, post.into_cells(), answers)?,
-        steps.give_up(),
-    ))
+    let cells = case_row(alloc, net, trees, &post, case)?;
+    Ok((Solved::new(alloc, cells, answers)?, steps.give_up()))
 }
 
 /// What is computed for the case, whose affected destinations these are, by searches.

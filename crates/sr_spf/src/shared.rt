@@ -1,5 +1,6 @@
 //! Lists whose items other lists may hold too.
 ghost use Rattle.std.specs.Prelude.{◌≡◌, ◌<◌, ◌≤◌, ◌++◌, ◌∷◌, [], length, slice_index_or, IfOk, OnOk};
+ghost use Rattle.std.specs.Arc.{arc_value};
 ghost use Rattle.sr_spf.specs.Renewed.{AreRenewed, SharesNext};
 
 use std::alloc::{AllocError, Global};
@@ -44,6 +45,14 @@ impl<T: Drop> Shared<T> {
         ensures { (default : T) → result.now ≡ slice_index_or self.now place default }
     {
         &self.items[place]
+    }
+
+    /// The item at this place, which is held once more then.
+    pub(crate) fn held(&self, place: usize) -> Result<Arc<T>, AllocError>
+        requires { place < length self.now }
+        ensures { (default : T) → IfOk result (λ item. arc_value item ≡ slice_index_or self.now place default) }
+    {
+        Arc::try_clone(&self.items[place])
     }
 
     /// Appends an item that no other list holds.

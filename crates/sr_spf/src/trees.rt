@@ -1,5 +1,6 @@
 //! Distances and next hops from each node in the whole graph.
 ghost use Rattle.std.specs.Prelude.{◌≡◌, ◌+◌, ◌<◌, ◌≤◌, [], length, Some, slice_get, IfOk, OnOk};
+ghost use Rattle.std.specs.Arc.{arc_value};
 ghost use Rattle.sr_model.specs.Graph.{Graph as Topology, node_count, link_count};
 ghost use Rattle.sr_model.specs.Walk.{Distance};
 ghost use Rattle.sr_model.specs.declared.link.TheConstants.{MOST_NODES as MostNodes};
@@ -21,6 +22,7 @@ use sr_seq::Seq;
 use sr_threads::{Share, made_of_each};
 use std::alloc::{AllocError, Global};
 use std::marker::Model;
+use std::sync::Arc;
 use std::sync::ledger::Ledger;
 use std::thread::Threads;
 
@@ -154,6 +156,14 @@ impl Trees {
         ensures long { length result.now ≡ tree_count self.now }
     {
         self.rows.get(from.0 as usize).as_slice()
+    }
+
+    /// The distance from one node to each node, as `cells` has them, for one who keeps them beside the trees.
+    pub fn held_cells(&self, from: NodeNo) -> Result<Arc<Seq<u64>>, AllocError>
+        requires { from.0 < tree_count self.now }
+        ensures { IfOk result (λ cells. arc_value cells ≡ row_at self.now.rows from.0) }
+    {
+        self.rows.held(from.0 as usize)
     }
 
     /// The next hops from a node.

@@ -9,6 +9,6 @@ returns g c =
     let case = c.args.case in
     subst (λ (s : Solution). IsSolution n case s) (sym c.in_ok-new.ensures)
     (record {
-      row = λ x set. rw c.into_cells.ensures (row-from_post n case c.in_ok-post.post c.in_ok-post.ensures.post x set);
+      row = λ x set. rw c.in_ok-cells.ensures (row-from_post n case c.in_ok-post.post c.in_ok-post.ensures.post x set);
       answers = c.in_ok-answers.ensures;
     })

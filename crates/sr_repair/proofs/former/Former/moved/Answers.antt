@@ -7,8 +7,8 @@ use Rattle.sr_repair.specs.Solutions.{Solution, moved_solution}
 use Rattle.sr_repair.proofs.StayLemmas.{moved-stays, same-stays}
 use Rattle.sr_repair.proofs.former.Former.moved.Goals as goal
 
-pub returns-then-self : goal.returns-then-self
-returns-then-self c =
+pub returns-then-is_empty : goal.returns-then-is_empty
+returns-then-is_empty c =
     let f = c.self.inside in
     let p : Passage = record { old = f.computed.now; new = f.net.now } in
     let s : Solution = arc_value c.args.solved.now in
