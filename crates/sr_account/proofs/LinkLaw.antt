@@ -1,5 +1,5 @@
 -- The nodes and the links of a net, and the announcements that they come from.
-use Rattle.std.proofs.Common.{◌≡◌, ℕ, zero, suc, ◌<◌, Bool, true, false, cond, not, List, [], ◌∷◌, ◌++◌, length, get_or, refl, arith, ap, sym, ◌∙◌, subst, ⊎_elim, Option, Some, None}
+use Rattle.std.proofs.Common.{◌≡◌, ℕ, ◌<◌, Bool, true, false, cond, not, List, [], ◌∷◌, ◌++◌, length, get_or, refl, arith, ap, sym, ◌∙◌, subst, Some, None}
 use Rattle.std.specs.Prelude.{Contains, is_some, ◌==◌, ◌&&◌}
 use Rattle.std.specs.List.{filter_map, flat_map}
 use Rattle.std.specs.Cmp.{Equal-is}
@@ -8,11 +8,10 @@ use Rattle.std.proofs.lemmas.List.{get_or-map, get_or_default}
 use Rattle.std.proofs.lemmas.List.Sorted.{IsPermutation-sym, Contains-permutation}
 use Rattle.std.proofs.lemmas.Option.{cond_some, none-some}
 use Rattle.sr_model.specs.declared.name.LinkKey.{LinkKey}
-use Rattle.sr_model.specs.declared.link.Link.{Link}
 use Rattle.sr_model.specs.Key.{mirror}
 use Rattle.sr_model.specs.KeyOrder.{key_cmp, same_key}
 use Rattle.sr_model.proofs.KeyOrderLemmas.{key-from_cmp}
-use Rattle.sr_model.specs.Graph.{no_link, node_count, link_count, link_at, system_at}
+use Rattle.sr_model.specs.Graph.{node_count, link_count, link_at, system_at}
 use Rattle.sr_model.specs.Label.{Labels, Net, adj_at, labels_at, nameless}
 use Rattle.sr_lsp.specs.declared.lsp.LspId.{LspId}
 use Rattle.sr_lsp.specs.declared.reach.Reach.{Reach}
@@ -29,7 +28,7 @@ use Rattle.sr_domain.specs.Links.{is_in_use, labelled, link_by, link_of, links_o
 use Rattle.sr_domain.specs.Net.{IsNetOf}
 use Rattle.sr_domain.proofs.GatheredLemmas.{present-node}
 use Rattle.sr_domain.proofs.KeyLemmas.{any-to}
-use Rattle.sr_domain.proofs.MemberLemmas.{here, later, cases, nowhere, picked-from, picked-to}
+use Rattle.sr_domain.proofs.MemberLemmas.{nowhere, picked-from, picked-to}
 use Rattle.sr_domain.proofs.NetLemmas.{found_as}
 use Rattle.sr_account.specs.Items.{IsPartAt, PartPlace}
 use Rattle.sr_account.specs.Laws.{IsInOrder}

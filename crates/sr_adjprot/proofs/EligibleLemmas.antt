@@ -1,5 +1,5 @@
 -- The labels that may be protected: from announcements in lists to the links of the net.
-use Rattle.std.proofs.Common.{◌≡◌, ℕ, zero, suc, ◌<◌, ⊎_elim, Bool, true, false, cond, not, List, [], ◌∷◌, length, get_or, filter, refl, arith, ap, sym, ◌∙◌, subst, Option, Some, None}
+use Rattle.std.proofs.Common.{◌≡◌, ℕ, ◌<◌, ⊎_elim, Bool, true, false, cond, not, List, [], ◌∷◌, length, refl, arith, ap, sym, ◌∙◌, subst, Option, Some, None}
 use Rattle.std.specs.Prelude.{Contains, MatchOption, slice_get, is_some, ◌&&◌, ◌==◌}
 use Rattle.std.specs.List.{filter_map}
 use Rattle.std.specs.Option.{IsSomeAnd}
@@ -7,11 +7,10 @@ use Rattle.std.proofs.lemmas.Bool.{false≢true}
 use Rattle.std.proofs.lemmas.List.Elements.{Contains-append_left, Contains-append_right, Contains-append_cases}
 use Rattle.std.proofs.lemmas.List.Sorted.{IsPermutation-sym, Contains-permutation}
 use Rattle.std.proofs.lemmas.Option.{same_Some}
-use Rattle.sr_model.specs.declared.link.Link.{Link}
 use Rattle.sr_model.specs.declared.name.LinkKey.{LinkKey}
 use Rattle.sr_model.specs.Key.{mirror}
 use Rattle.sr_model.specs.KeyOrder.{same_key}
-use Rattle.sr_model.specs.Graph.{no_link, link_count, link_at}
+use Rattle.sr_model.specs.Graph.{link_count, link_at}
 use Rattle.sr_model.specs.Case.{key_at}
 use Rattle.sr_model.specs.Label.{Net, adj_at}
 use Rattle.sr_laws.proofs.Keys.{key-one}

@@ -9,7 +9,7 @@ use Rattle.sr_model.specs.Graph.{Graph, IsGraph, IsLink, node_count, link_count,
 use Rattle.sr_model.specs.Walk.{OnShortest, IsRow}
 use Rattle.sr_model.specs.Space.{InP}
 use Rattle.sr_graph.specs.Members.{number_at, AreMembers}
-use Rattle.sr_walks.proofs.Distances.{tight-OnShortest, OnShortest-tight, OnShortest-carries, InP-from_none, none-from_InP}
+use Rattle.sr_walks.proofs.Distances.{tight-OnShortest, OnShortest-tight, OnShortest-carries, InP-from_none}
 use Rattle.sr_cert.specs.Rows.{IsRowTo}
 
 module _ (g : Graph) (graph : IsGraph g) (u v : ℕ) (ends : v < node_count g) (from to : List ℕ) (a : IsRow g [] u from) (b : IsRowTo g [] v to) where

@@ -1,5 +1,5 @@
 -- The items of an audit have one list of groups, and their repairs one list of stack counts.
-use Rattle.std.proofs.Common.{◌≡◌, ◌≢◌, ℕ, zero, suc, ◌+◌, ◌<◌, Bool, true, false, cond, List, [], ◌∷◌, length, refl, arith, ap, sym, ◌∙◌, subst, inl, inr, Some}
+use Rattle.std.proofs.Common.{◌≡◌, ℕ, suc, ◌<◌, Bool, true, false, cond, List, [], ◌∷◌, refl, arith, ap, sym, ◌∙◌, subst, inl, inr, Some}
 use Rattle.std.specs.Prelude.{count_by, slice_get}
 use Rattle.std.proofs.lemmas.List.Sums.{sum_by-cons}
 use Rattle.sr_model.specs.declared.audit.Counts.{Counts}
@@ -12,7 +12,7 @@ use Rattle.sr_laws.proofs.Ascending.{AreAmong, ascending-one}
 use Rattle.sr_insight.specs.declared.group.Group.{Group}
 use Rattle.sr_insight.specs.declared.grouping.Grouping.{Grouping}
 use Rattle.sr_insight.specs.declared.stack_count.StackCount.{StackCount}
-use Rattle.sr_insight.specs.Groups.{AreGroups, GroupBefore, coverage, items_in}
+use Rattle.sr_insight.specs.Groups.{AreGroups, GroupBefore, items_in}
 use Rattle.sr_insight.specs.Stacks.{AreStackCounts, StackBefore, pushes}
 use Rattle.sr_coverage.proofs.PushesLemmas.{pushes-parts}
 

@@ -11,10 +11,10 @@ use Rattle.sr_model.specs.declared.case.Case.{Case}
 use Rattle.sr_model.specs.declared.repair.Answer.{Answer}
 use Rattle.sr_model.specs.declared.repair.Answer.TheVariants.{Least, NoPath, NoList, TooDeep}
 use Rattle.sr_model.specs.declared.repair.Segment.{Segment}
-use Rattle.sr_model.specs.declared.repair.Segment.TheVariants.{Node, Adj}
+use Rattle.sr_model.specs.declared.repair.Segment.TheVariants.{Node}
 use Rattle.sr_model.specs.Audit.{rank_of, is_least, AreLabelsOf, IsAudit}
 use Rattle.sr_model.specs.Case.{IsCase, source_of}
-use Rattle.sr_model.specs.Forward.{IsLabels, IsStack}
+use Rattle.sr_model.specs.Forward.{IsStack}
 use Rattle.sr_model.specs.Graph.{node_count, head}
 use Rattle.sr_model.specs.Label.{Net}
 use Rattle.sr_model.specs.Repair.{IsCaseAnswer}

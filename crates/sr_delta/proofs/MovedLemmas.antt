@@ -1,6 +1,5 @@
 -- The sets of nodes to which it isn't as far as it was.
-use Rattle.std.proofs.Common.{◌≡◌, ℕ, ◌+◌, ◌<◌, ⊎_elim, List, [], ◌∷◌, ◌++◌, length, Some, refl, arith, sym, subst}
-use Rattle.std.specs.Prelude.{slice_get}
+use Rattle.std.proofs.Common.{◌≡◌, ℕ, ◌+◌, ⊎_elim, List, [], ◌∷◌, ◌++◌, refl, arith, sym, subst}
 use Rattle.std.proofs.lemmas.List.{length_push}
 use Rattle.sr_model.specs.Graph.{Graph}
 use Rattle.sr_lanes.specs.declared.words.NodeBits.{NodeBits}

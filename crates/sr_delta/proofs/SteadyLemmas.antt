@@ -1,11 +1,10 @@
 -- What is asked of a steady case gives that it is one.
-use Rattle.std.proofs.Common.{◌≡◌, ◌≢◌, ◌↔◌, ℕ, ◌<◌, ◌⊎◌, ⊎_elim, inl, inr, Bool, List, true, false, length, Some, refl, arith, ap, sym, ◌∙◌, subst}
+use Rattle.std.proofs.Common.{◌≡◌, ◌≢◌, ℕ, ◌<◌, ◌⊎◌, ⊎_elim, inl, inr, Bool, List, true, false, Some, refl, ap, sym, ◌∙◌, subst}
 use Rattle.std.specs.Prelude.{◌&&◌, ◌||◌, ◌==◌, not, slice_get}
 use Rattle.std.proofs.lemmas.Bool.{and_from, and_parts, cases_Bool, cases_eq, eqb-true, true≢false}
 use Rattle.std.proofs.lemmas.Option.{same_Some}
-use Rattle.sr_model.specs.declared.case.Case.{Case}
 use Rattle.sr_model.specs.declared.link.LinkNo.{LinkNo}
-use Rattle.sr_model.specs.Case.{IsAffected, IsFailedSet, IsOnRepairWay, source_of}
+use Rattle.sr_model.specs.Case.{IsOnRepairWay, source_of}
 use Rattle.sr_model.specs.Graph.{IsLink, link_at, node_count}
 use Rattle.sr_walks.proofs.Walks.{walk-within}
 use Rattle.sr_model.specs.Label.{Net}
@@ -24,7 +23,7 @@ use Rattle.sr_delta.specs.Moved.{AreMoved}
 use Rattle.sr_delta.specs.Pairs.{HaveSameFailures}
 use Rattle.sr_delta.specs.Stayers.{AreStaying}
 use Rattle.sr_delta.specs.Steady.{AreAffectedAlike, AreSegmentsKept, AreStepsKept, IsSteadyHere}
-use Rattle.sr_delta.proofs.FailureLemmas.{failed-exists, failed-from_failing, failing-from_failed, same-from_failures}
+use Rattle.sr_delta.proofs.FailureLemmas.{failed-exists, failed-from_failing, same-from_failures}
 use Rattle.sr_delta.proofs.IdleLemmas.{idle-from_change}
 
 -- where none of one set is missing from another, each of it is in that

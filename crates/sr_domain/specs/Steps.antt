@@ -8,7 +8,7 @@ use Rattle.sr_model.specs.Label.{Labels}
 use Rattle.sr_model.specs.Graph.{Graph, link_count, link_at, groups_at, IsGraph, IsNamed, IsGrouped}
 use Rattle.sr_wire.specs.declared.registry.TheConstants.{MAXIMUM_METRIC}
 use Rattle.sr_labels.specs.Rules.{HaveSrgbs}
-use Rattle.sr_lsdb.specs.declared.limits.TheConstants.{MOST_SEGMENTS}
+use Rattle.sr_model.specs.declared.limits.TheConstants.{MOST_DEPTH}
 use Rattle.sr_lsdb.specs.declared.facts.Facts.{Facts}
 use Rattle.sr_domain.specs.declared.groups.RiskTable.{RiskTable}
 use Rattle.sr_model.specs.declared.link.TheConstants.{MOST_LINKS}
@@ -78,7 +78,7 @@ pub record IsGraphOf (facts : Facts) (nodes : List ℕ) (links : List FoundLink)
 
 -- what is gathered of the facts, and what their nodes announce, of facts that keep the first five rules
 pub record AreReady (facts : Facts) (collected : Gathered) (announced : List Labels) : Type 0 where
-  pub depth : facts.depth ≤ MOST_SEGMENTS
+  pub depth : facts.depth ≤ MOST_DEPTH
   pub gathered : AreGathered facts collected
   pub labels : announced ≡ all_labels facts
   pub ranges : HaveSrgbs announced
@@ -86,7 +86,7 @@ pub record AreReady (facts : Facts) (collected : Gathered) (announced : List Lab
 
 -- the parts of a net: the graph, what its nodes announce, and its links in order, of facts that keep all nine rules
 pub record AreParts (facts : Facts) (built : Graph) (announced : List Labels) (found : List FoundLink) : Type 0 where
-  pub depth : facts.depth ≤ MOST_SEGMENTS
+  pub depth : facts.depth ≤ MOST_DEPTH
   pub graph : IsGraphOf facts (nodes_of facts) found built
   pub labels : announced ≡ all_labels facts
   pub ranges : HaveSrgbs announced

@@ -1,16 +1,15 @@
 -- Nets with no adjacency label, whose keys are those of their links, are accepted.
-use Rattle.std.proofs.Common.{◌≡◌, ◌≢◌, ℕ, zero, suc, ◌+◌, ◌<◌, ◌≤◌, ⊎_elim, List, [], ◌∷◌, ◌++◌, length, get_or}
-use Rattle.std.proofs.Common.{refl, arith, ap, sym, ◌∙◌, subst, Some, None, replicate}
+use Rattle.std.proofs.Common.{◌≡◌, ◌≢◌, ℕ, ◌+◌, ◌<◌, ◌≤◌, ⊎_elim, List, [], ◌∷◌, ◌++◌, length, get_or}
+use Rattle.std.proofs.Common.{arith, ap, sym, ◌∙◌, subst, Some, None, replicate}
 use Rattle.std.specs.Prelude.{slice_get}
 use Rattle.std.proofs.lemmas.Bool.{cases_eq}
 use Rattle.std.proofs.lemmas.List.{length-append, length-replicate, get_or_push, get_or_append_left}
 use Rattle.std.proofs.lemmas.Option.{slice_get_within, get_or_from_slice_get, slice_get-get_or}
-use Rattle.sr_model.specs.declared.link.Link.{Link}
 use Rattle.sr_model.specs.declared.name.LinkKey.{LinkKey}
 use Rattle.sr_model.specs.Graph.{Graph, IsGraph, IsGrouped, IsNamed, link_count, node_count, no_link}
 use Rattle.sr_model.specs.Case.{key_at}
 use Rattle.sr_model.specs.Label.{Labels}
-use Rattle.sr_model.specs.Rule.{AreAnnounced, IsAccepted, IsFirstBroken, adj_labels_of}
+use Rattle.sr_model.specs.Rule.{AreAnnounced, IsAccepted, IsFirstBroken}
 use Rattle.sr_labels.specs.Rules.{HaveSrgbs}
 use Rattle.sr_labels.proofs.NetLemmas.{none-listed}
 

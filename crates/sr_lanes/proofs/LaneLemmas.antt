@@ -3,7 +3,6 @@ use Rattle.std.proofs.Common.{◌≡◌, ℕ, ◌+◌, ◌-◌, ◌≤◌, take,
 use Rattle.std.proofs.Math.Nat.{mod-eq_of_lt}
 use Rattle.std.proofs.lemmas.Simd.{tops_compared, mask_l-mod, mask_l-lt, bit_mask_l, length-zip2, get_or-zip2, get_or-replicate, length-chunk, get_or-chunk}
 use Rattle.std.proofs.lemmas.List.{take_all}
-use lib.Dec.{eqb}
 use lib.Lanes.{zip2, mask_l, top, chunk}
 use mir.Syntax.{w64}
 use Rattle.sr_lanes.specs.Tests.{AreBitsOf}

@@ -19,7 +19,6 @@ use Rattle.sr_laws.proofs.Failures.{touches-pair}
 use Rattle.sr_laws.proofs.Keys.{pair-sym}
 use Rattle.sr_laws.proofs.KeptLists.{in_row}
 use Rattle.sr_laws.proofs.Waypoints.{IsWalk-avoiding, space-walk}
-use Rattle.sr_walks.proofs.Walks.{avoids-left}
 
 -- a list of links avoids the set, or one of its links is in it
 split_at : (x : List Bool) (r : List ℕ) → Avoids x r ⊎ ((p : List ℕ) × (q : List ℕ) × (l : ℕ) × (has x l ≡ true) × (r ≡ p ++ l ∷ q))

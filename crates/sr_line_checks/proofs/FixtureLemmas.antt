@@ -9,13 +9,12 @@ use Rattle.std.proofs.lemmas.List.{length-replicate}
 use Rattle.std.proofs.lemmas.List.Elements.{All-nil, All-cons, All-contains, All-map}
 use Rattle.std.proofs.lemmas.Map.Views.{Contains-from_any}
 use Rattle.std.proofs.lemmas.Option.{slice_get-get_or, slice_get_within, get_or_from_slice_get}
-use Rattle.sr_model.specs.declared.link.Link.{Link}
 use Rattle.sr_model.specs.declared.name.LinkKey.{LinkKey}
 use Rattle.sr_model.specs.Key.{KeyLt}
 use Rattle.sr_model.specs.Graph.{Graph, node_count, link_count, no_link, IsGraph, IsNamed, IsGrouped}
 use Rattle.sr_model.specs.Case.{key_at}
 use Rattle.sr_model.specs.Label.{Labels}
-use Rattle.sr_model.specs.Rule.{IsFirstBroken, AreAnnounced, IsAccepted, adj_labels_of}
+use Rattle.sr_model.specs.Rule.{IsFirstBroken, AreAnnounced, IsAccepted}
 use Rattle.sr_graph.specs.declared.draft.DraftLink.{DraftLink}
 use Rattle.sr_graph.specs.Draft.{IsDraft, HasEnds}
 use Rattle.sr_labels.specs.Rules.{HaveSrgbs}

@@ -8,7 +8,7 @@ use Rattle.sr_model.specs.declared.name.PairKey.{PairKey}
 use Rattle.sr_model.specs.KeyOrder.{key_cmp}
 use Rattle.sr_lsp.specs.declared.lsp.Lsp.{Lsp}
 use Rattle.sr_lsp.specs.InRange.{FitsLsp}
-use Rattle.sr_lsdb.specs.declared.limits.TheConstants.{MOST_SEGMENTS}
+use Rattle.sr_model.specs.declared.limits.TheConstants.{MOST_DEPTH}
 use Rattle.sr_lsdb.specs.declared.facts.Facts.{Facts}
 use Rattle.sr_lsdb.specs.Order.{id_cmp, pair_cmp}
 use Rattle.sr_lsdb.specs.Facts.{IsCost, stored_of}
@@ -55,10 +55,10 @@ apply (SetDepth depth) facts = record {
   depth = depth;
 }
 
--- an edit in range: a PDU that fits its layouts, the metric of a link in use, or at most `MOST_SEGMENTS` segments
+-- an edit in range: a PDU that fits its layouts, the metric of a link in use, or at most `MOST_DEPTH` segments
 abbrev pub IsEditInRange : Edit → Type 0
 IsEditInRange (Announce lsp) = FitsLsp lsp
 IsEditInRange (SetCost key metric) = IsCost (key, metric)
 IsEditInRange (TakeDown pair) = Unit {0}
 IsEditInRange (BringUp pair) = Unit {0}
-IsEditInRange (SetDepth depth) = depth ≤ MOST_SEGMENTS
+IsEditInRange (SetDepth depth) = depth ≤ MOST_DEPTH

@@ -7,7 +7,7 @@ use Rattle.sr_lsp.specs.declared.lsp.Lsp.{Lsp}
 use Rattle.sr_lsp.specs.InRange.{FitsLsp}
 use Rattle.sr_lsdb.specs.declared.facts.Stored.{Stored}
 use Rattle.sr_lsdb.specs.declared.facts.Facts.{Facts}
-use Rattle.sr_lsdb.specs.declared.limits.TheConstants.{MOST_SEGMENTS}
+use Rattle.sr_model.specs.declared.limits.TheConstants.{MOST_DEPTH}
 use Rattle.sr_lsdb.specs.Tables.{stored_at}
 
 -- what is stored under an id
@@ -38,8 +38,8 @@ IsStoredWell entry = IfSome entry.1.live (λ lsp. FitsLsp lsp × (lsp.id ≡ ent
 abbrev pub IsCost : (LinkKey × ℕ) → Type 0
 IsCost entry = (0 < entry.1) × (entry.1 < MAXIMUM_METRIC)
 
--- facts in range: the live PDUs, the metrics, and at most `MOST_SEGMENTS` segments
+-- facts in range: the live PDUs, the metrics, and at most `MOST_DEPTH` segments
 pub record AreInRange (facts : Facts) : Type 0 where
   pub database : All IsStoredWell facts.database
   pub costs : All IsCost facts.costs
-  pub depth : facts.depth ≤ MOST_SEGMENTS
+  pub depth : facts.depth ≤ MOST_DEPTH

@@ -2,7 +2,7 @@
 ghost use Rattle.std.specs.Prelude.{◌≡◌, ◌<◌, ◌≤◌};
 ghost use Rattle.sr_wire.specs.declared.registry.TheConstants.{MAXIMUM_METRIC};
 ghost use Rattle.sr_lsp.specs.InRange.{FitsLsp};
-ghost use Rattle.sr_lsdb.specs.declared.limits.TheConstants.{MOST_SEGMENTS};
+ghost use Rattle.sr_model.specs.declared.limits.TheConstants.{MOST_DEPTH};
 ghost use Rattle.sr_lsdb.specs.Edit.Edit.{BringUp, SetCost, SetDepth, TakeDown};
 ghost use Rattle.sr_lsdb.specs.Editing.{IsSteady, opening, with_accepted, with_none_staged};
 ghost use Rattle.sr_lsdb.specs.Facts.{AreInRange};
@@ -138,10 +138,10 @@ impl Editor {
         Ok(self.staged)
     }
 
-    /// Stages how many segments a repair list may have, at most `MOST_SEGMENTS`, and answers how many edits are staged.
+    /// Stages how many segments a repair list may have, at most `MOST_DEPTH`, and answers how many edits are staged.
     /// It is `Full` where 4,096 are. An error changes nothing.
     pub fn stage_depth(&mut self, depth: u8) -> Result<u32, StageFault>
-        requires { depth ≤ MOST_SEGMENTS }
+        requires { depth ≤ MOST_DEPTH }
         ensures { Stages (SetDepth depth) self.old self.new result }
     {
         if self.staged == MOST_STAGED {

@@ -14,7 +14,7 @@ mod touched;
 pub use editor::Editor;
 pub use facts::{Facts, Stored};
 pub use laws::{edits_keep_the_range, ids_are_ordered, pairs_are_ordered};
-pub use limits::{MOST_SEGMENTS, MOST_STAGED};
+pub use limits::MOST_STAGED;
 pub use shared::SharedLsp;
 pub use stage_fault::StageFault;
 pub use tables::{Database, DownPairs, LinkCosts};

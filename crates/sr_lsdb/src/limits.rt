@@ -2,6 +2,3 @@
 
 /// The most edits that are staged at a time (this project's rule).
 pub const MOST_STAGED: u32 = 4096;
-
-/// The most segments that a repair list may be allowed (this project's rule).
-pub const MOST_SEGMENTS: u8 = 12;

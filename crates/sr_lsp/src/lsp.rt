@@ -4,7 +4,7 @@ use crate::parts::Parts;
 use sr_model::SystemId;
 
 /// The name of a link-state PDU: its system, and the pseudonode and the fragment that it is of (ISO 10589, 9.9).
-#[derive(Clone, Copy, Debug, PartialEq, Eq, PartialOrd, Ord, Hash)]
+#[derive(Clone, Copy, Debug, PartialEq, Eq, PartialOrd, Ord)]
 pub struct LspId {
     pub system: SystemId,
     pub pseudonode: u8,

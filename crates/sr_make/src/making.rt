@@ -8,13 +8,14 @@ use crate::pairs::made_pairs;
 use crate::script::{put_audit_lines, put_lsp_lines};
 use sr_base::{Sink, SinkFault};
 use sr_engine::{Answers, End};
+use sr_model::MOST_NODES;
 use std::alloc::Global;
 
 /// The fewest nodes of a made net: as many as make a ring (this project's rule).
 pub const FEWEST_NODES: u16 = 3;
 
-/// The most nodes of a made net (this project's rule); a net may have no more.
-pub const MOST_MADE_NODES: u16 = 256;
+/// The most nodes of a made net: as many as a net may have.
+pub const MOST_MADE_NODES: u16 = MOST_NODES as u16;
 
 /// Puts all lines of the script.
 fn put_script<K: Sink>(

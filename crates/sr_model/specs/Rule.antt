@@ -3,6 +3,7 @@ use Rattle.std.specs.Prelude.{◌≡◌, ◌≢◌, ℕ, ◌<◌, ◌≤◌, ◌
 use Rattle.sr_model.specs.declared.label.AdjLabel.{AdjLabel}
 use Rattle.sr_model.specs.declared.label.LabelRule.{LabelRule}
 use Rattle.sr_model.specs.declared.label.LabelRule.TheVariants.{DuplicateIndex, IndexOutside, AdjLabelClash}
+use Rattle.sr_model.specs.declared.limits.TheConstants.{MOST_DEPTH}
 use Rattle.sr_model.specs.declared.link.Link.{Link}
 use Rattle.sr_model.specs.declared.name.LinkKey.{LinkKey}
 use Rattle.sr_model.specs.Key.{KeyLt}
@@ -93,7 +94,7 @@ pub record AreAnnounced (g : Graph) (keys : List LinkKey) : Type 0 where
   pub holds : (l : ℕ) → l < link_count g → (i : ℕ) × (slice_get keys i ≡ Some (link_at g l).key)
 
 -- an accepted net: a graph within its limits and in order, with its groups; an SRGB for each node, and an entry for
--- each link; no rule on labels is broken; the announced keys ascend and hold each link's; and the depth is at most 12
+-- each link; no rule on labels is broken; the announced keys ascend and hold each link's; and a depth that there may be
 pub record IsAccepted (n : Net) : Type 0 where
   pub graph : IsGraph n.graph
   pub named : IsNamed n.graph
@@ -103,7 +104,7 @@ pub record IsAccepted (n : Net) : Type 0 where
   pub ranges : (v : ℕ) → v < length n.labels → IsSrgb (labels_at n v).srgb
   pub rules : IsFirstBroken n.labels (adj_labels_of n.graph.links n.adj) None
   pub announced : AreAnnounced n.graph n.announced
-  pub depth : n.depth ≤ 12
+  pub depth : n.depth ≤ MOST_DEPTH
 
 -- what an accepted net gives: each index has a label at each node, an index is one node's, a label is one index's at
 -- a node, no label is 0, and the adjacency labels of a node are apart from its ranges and from each other

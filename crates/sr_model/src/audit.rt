@@ -16,7 +16,7 @@ pub struct Item<'a> {
 }
 
 /// How many answers of an audit are of each sort.
-#[derive(Clone, Copy, Debug, PartialEq, Eq, Hash)]
+#[derive(Clone, Copy, Debug, PartialEq, Eq)]
 pub struct Counts {
     pub covered: u32,
     pub nopath: u32,
@@ -25,7 +25,7 @@ pub struct Counts {
 }
 
 /// A round of a watch: which watcher made it, and which of its rounds it is, both from 1.
-#[derive(Clone, Copy, Debug, PartialEq, Eq, Hash)]
+#[derive(Clone, Copy, Debug, PartialEq, Eq)]
 pub struct WatchRound {
     pub watcher: u32,
     pub round: u32,
@@ -33,7 +33,7 @@ pub struct WatchRound {
 
 /// What background work reports of one round: whose round of a watch it was, or None of a hold; the version that was
 /// audited; and how many answers of each sort its audit has.
-#[derive(Clone, Copy, Debug, PartialEq, Eq, Hash)]
+#[derive(Clone, Copy, Debug, PartialEq, Eq)]
 pub struct RoundReport {
     pub round: Option<WatchRound>,
     pub version: u32,

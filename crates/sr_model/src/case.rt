@@ -3,7 +3,7 @@
 use crate::link::LinkNo;
 
 /// What fails together with the protected link of a case.
-#[derive(Clone, Copy, Debug, PartialEq, Eq, PartialOrd, Ord, Hash)]
+#[derive(Clone, Copy, Debug, PartialEq, Eq, PartialOrd, Ord)]
 pub enum Kind {
     /// A link case: the pair of the protected link fails.
     Link,
@@ -15,7 +15,7 @@ pub enum Kind {
 }
 
 /// A failure that repairs are computed for: its kind, and the protected link, at whose beginning the repair is made.
-#[derive(Clone, Copy, Debug, PartialEq, Eq, PartialOrd, Ord, Hash)]
+#[derive(Clone, Copy, Debug, PartialEq, Eq, PartialOrd, Ord)]
 pub struct Case {
     pub kind: Kind,
     pub link: LinkNo,

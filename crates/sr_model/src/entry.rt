@@ -3,14 +3,14 @@ use crate::link::{LinkNo, NodeNo};
 use sr_seq::Seq;
 
 /// One step of a packet: the label on top was popped, or a link was crossed.
-#[derive(Clone, Copy, Debug, PartialEq, Eq, Hash)]
+#[derive(Clone, Copy, Debug, PartialEq, Eq)]
 pub enum Move {
     Popped,
     Crossed(LinkNo),
 }
 
 /// What becomes of the label on top when a link is crossed (RFC 8660, 2.10 and 2.11).
-#[derive(Clone, Copy, Debug, PartialEq, Eq, Hash)]
+#[derive(Clone, Copy, Debug, PartialEq, Eq)]
 pub enum Out {
     /// It is popped.
     Pop,

@@ -1,14 +1,14 @@
 //! Labels and the rules on them.
 
 /// A range of labels that a node announces in its SRGB (RFC 8667, 3.1): the first label, and how many there are.
-#[derive(Clone, Copy, Debug, PartialEq, Eq, Hash)]
+#[derive(Clone, Copy, Debug, PartialEq, Eq)]
 pub struct Range {
     pub first: u32,
     pub size: u32,
 }
 
 /// The label of an adjacency segment (RFC 8667, 2.2), with the place of the node at which its link begins.
-#[derive(Clone, Copy, Debug, PartialEq, Eq, Hash)]
+#[derive(Clone, Copy, Debug, PartialEq, Eq)]
 pub struct AdjLabel {
     pub node: usize,
     pub label: u32,

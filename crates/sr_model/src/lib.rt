@@ -16,7 +16,7 @@ pub use audit::{Counts, Item, RoundReport, WatchRound};
 pub use case::{Case, Kind};
 pub use entry::{Entry, Move, Out};
 pub use label::{AdjLabel, LabelRule, Range};
-pub use limits::{MOST_ROUNDS, MOST_VERSION, MOST_WATCHERS};
+pub use limits::{MOST_DEPTH, MOST_ROUNDS, MOST_VERSION, MOST_WATCHERS};
 pub use link::{FAR, Link, LinkNo, MOST_LINKS, MOST_METRIC, MOST_NODES, NodeNo};
 pub use name::{Ident, LinkKey, PairKey, SystemId};
 pub use repair::{Answer, RepairList, Segment, Segments};

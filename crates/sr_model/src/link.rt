@@ -3,11 +3,11 @@
 use crate::name::LinkKey;
 
 /// A node of a graph, counted from 0 in order of system id.
-#[derive(Clone, Copy, Debug, PartialEq, Eq, PartialOrd, Ord, Hash)]
+#[derive(Clone, Copy, Debug, PartialEq, Eq, PartialOrd, Ord)]
 pub struct NodeNo(pub u16);
 
 /// A directed link of a graph, counted from 0 in order of its key.
-#[derive(Clone, Copy, Debug, PartialEq, Eq, PartialOrd, Ord, Hash)]
+#[derive(Clone, Copy, Debug, PartialEq, Eq, PartialOrd, Ord)]
 pub struct LinkNo(pub u16);
 
 /// A directed link: its name, the nodes at its ends, and its metric.

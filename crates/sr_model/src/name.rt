@@ -4,7 +4,7 @@ ghost use Rattle.std.specs.Prelude.{◌≡◌, ℕ, ◌<◌, ◌≤◌, ◌^◌,
 use std::marker::Model;
 
 /// The system id of a router (ISO 10589, 7.1.1): a number below 2^48. Contracts see it as that number.
-#[derive(Clone, Copy, Debug, PartialEq, Eq, PartialOrd, Ord, Hash)]
+#[derive(Clone, Copy, Debug, PartialEq, Eq, PartialOrd, Ord)]
 pub struct SystemId {
     value: u64,
 }
@@ -43,7 +43,7 @@ impl SystemId {
 
 /// What tells the links between two nodes apart: nothing, the addresses of both interfaces (RFC 5305, 3.2 and 3.3), or
 /// the link identifiers of both ends (RFC 5307, 1.1). The announcing end's own number comes first.
-#[derive(Clone, Copy, Debug, PartialEq, Eq, PartialOrd, Ord, Hash)]
+#[derive(Clone, Copy, Debug, PartialEq, Eq, PartialOrd, Ord)]
 pub enum Ident {
     None,
     Addr(u32, u32),
@@ -66,7 +66,7 @@ impl Ident {
 }
 
 /// The name of a directed link. Keys are in order of beginning, end and identity.
-#[derive(Clone, Copy, Debug, PartialEq, Eq, PartialOrd, Ord, Hash)]
+#[derive(Clone, Copy, Debug, PartialEq, Eq, PartialOrd, Ord)]
 pub struct LinkKey {
     pub from: SystemId,
     pub to: SystemId,
@@ -74,7 +74,7 @@ pub struct LinkKey {
 }
 
 /// The name of a pair of opposite links: its two nodes, and the identity as the lower one announces it.
-#[derive(Clone, Copy, Debug, PartialEq, Eq, PartialOrd, Ord, Hash)]
+#[derive(Clone, Copy, Debug, PartialEq, Eq, PartialOrd, Ord)]
 pub struct PairKey {
     pub low: SystemId,
     pub high: SystemId,

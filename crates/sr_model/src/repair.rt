@@ -5,7 +5,7 @@ use crate::link::{LinkNo, NodeNo};
 use std::marker::Model;
 
 /// A segment (RFC 8402, 3.2 and 3.4): a node, reached by shortest paths, or a link that the packet is to cross.
-#[derive(Clone, Copy, Debug, PartialEq, Eq, Hash)]
+#[derive(Clone, Copy, Debug, PartialEq, Eq)]
 pub enum Segment {
     Node(NodeNo),
     Adj(LinkNo),

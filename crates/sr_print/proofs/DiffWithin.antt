@@ -1,19 +1,16 @@
 -- What differs between two nets is told by nodes and links of their graphs.
-use Rattle.std.proofs.Common.{◌≡◌, ℕ, ◌<◌, List, [], ◌∷◌, length, get_or, map, All, Contains, inl, inr, subst, sym, refl, ap, ◌∙◌}
-use Rattle.std.specs.Prelude.{slice_get}
+use Rattle.std.proofs.Common.{ℕ, ◌<◌, List, [], ◌∷◌, get_or, map, All, inl, inr, subst, sym}
 use Rattle.std.proofs.lemmas.List.{get_or-map, length-map}
 use Rattle.std.proofs.lemmas.List.Elements.{All-nil, All-cons, All-head, All-tail}
 use Rattle.std.proofs.lemmas.Option.{slice_get-get_or}
 use Rattle.sr_model.specs.declared.audit.Item.{Item}
 use Rattle.sr_model.specs.Audit.{IsAudit, IsItem}
-use Rattle.sr_model.specs.Graph.{node_count}
 use Rattle.sr_model.specs.Label.{Net}
 use Rattle.sr_model.specs.Rule.{IsNet}
 use Rattle.sr_encode.proofs.AnswerLemmas.{affected-within}
-use Rattle.sr_diff.specs.declared.differences.Changed.{Changed}
 use Rattle.sr_diff.specs.declared.differences.Diff.{Diff}
 use Rattle.sr_diff.specs.Diff.{AreSuch, IsDiff, IsLost, IsOther, after_of}
-use Rattle.sr_print.specs.Differences.{IsChangedWithin, IsDiffWithin, IsItemWithin}
+use Rattle.sr_print.specs.Differences.{IsDiffWithin, IsItemWithin}
 use Rattle.sr_print.proofs.Within.{answer-within}
 
 -- an item of the net

@@ -1,5 +1,5 @@
 -- What differs between two versions is told alike.
-use Rattle.std.proofs.Common.{◌≡◌, ℕ, List, [], ◌∷◌, All, Option, Some, None, IfSome, ap}
+use Rattle.std.proofs.Common.{ℕ, List, [], ◌∷◌, All, Option, Some, None, IfSome, ap}
 use Rattle.std.specs.Prelude.{◌==◌, if◌then◌else◌}
 use Rattle.std.proofs.lemmas.Bool.{cond_both}
 use Rattle.std.proofs.lemmas.List.Elements.{All-head, All-tail}

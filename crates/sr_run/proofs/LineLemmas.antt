@@ -17,8 +17,8 @@ use Rattle.sr_script.specs.LineSays.{LineSays, SaysTry, IsLineFault}
 use Rattle.sr_script.specs.Number.{number_in, number_read, within}
 use Rattle.sr_script.specs.Words.{word_at, words_of}
 use Rattle.sr_model.specs.declared.link.TheConstants.{MOST_METRIC}
-use Rattle.sr_script.specs.declared.command.TheConstants.{MOST_DEPTH, MOST_WORKERS, MOST_EACH}
-use Rattle.sr_model.specs.declared.limits.TheConstants.{MOST_WATCHERS, MOST_ROUNDS}
+use Rattle.sr_script.specs.declared.command.TheConstants.{MOST_WORKERS, MOST_EACH}
+use Rattle.sr_model.specs.declared.limits.TheConstants.{MOST_DEPTH, MOST_WATCHERS, MOST_ROUNDS}
 use Rattle.sr_engine.specs.Lines.{head_of}
 use Rattle.sr_engine.specs.Replies.{Gave, Broke, Gives, AtEnd, ToHead, ToLast}
 use Rattle.sr_engine.specs.Written.{Written}

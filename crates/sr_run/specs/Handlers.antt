@@ -19,8 +19,8 @@ use Rattle.sr_script.specs.declared.name.LinkName.{LinkName}
 use Rattle.sr_script.specs.declared.name.RepairName.{RepairName}
 use Rattle.sr_script.specs.declared.command.Command.{Command}
 use Rattle.sr_model.specs.declared.link.TheConstants.{MOST_METRIC}
-use Rattle.sr_script.specs.declared.command.TheConstants.{MOST_DEPTH, MOST_WORKERS, MOST_EACH}
-use Rattle.sr_model.specs.declared.limits.TheConstants.{MOST_WATCHERS, MOST_ROUNDS, MOST_VERSION}
+use Rattle.sr_script.specs.declared.command.TheConstants.{MOST_WORKERS, MOST_EACH}
+use Rattle.sr_model.specs.declared.limits.TheConstants.{MOST_DEPTH, MOST_WATCHERS, MOST_ROUNDS, MOST_VERSION}
 use Rattle.sr_script.specs.declared.command.Command.TheVariants.{Cost, Depth, Load, Prove, ProofOpen, ProofVia, ProofNode, ProofAdj, ProofRow, ProofDone, Commit, AuditFull, Aside as AsideWord, Hold, Watch, Join, Why}
 use Rattle.sr_script.specs.Says.{is_question}
 use Rattle.sr_print.specs.declared.refusal.Refusal.{Refusal}

@@ -2,7 +2,7 @@
 ghost use Rattle.std.specs.Prelude.{◌≡◌, ◌≤◌, List, ℕ};
 ghost use Rattle.sr_lsdb.specs.Staging.{Stages};
 ghost use Rattle.sr_script.specs.declared.command.Command.TheVariants.{Lsp as LspWord, Depth, DropStaged};
-ghost use Rattle.sr_script.specs.declared.command.TheConstants.{MOST_DEPTH};
+ghost use Rattle.sr_model.specs.declared.limits.TheConstants.{MOST_DEPTH};
 ghost use Rattle.sr_run.specs.Edits.{EditsLink, malformed_pdu};
 ghost use Rattle.sr_run.specs.Handlers.{Carries, CarriesOut, IsLinkEdit, Moves, TellsStaged, edit_of};
 

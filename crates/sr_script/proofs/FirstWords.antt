@@ -1,8 +1,8 @@
 -- The words with which commands begin, told by an example for each.
-use Rattle.std.proofs.Common.{◌≡◌, ℕ, List, [], ◌∷◌, map, ⊎_elim}
+use Rattle.std.proofs.Common.{ℕ, List, [], ◌∷◌, map, ⊎_elim}
 use Rattle.sr_script.specs.LineSays.{BeginsCommand}
 use Rattle.sr_script.specs.Says.{first_word}
-use Rattle.sr_script.specs.FirstWords.{IsOneOf, known_words}
+use Rattle.sr_script.specs.FirstWords.{IsWordAmong}
 use Rattle.sr_model.specs.declared.case.Kind.TheVariants.{Link}
 use Rattle.sr_script.specs.declared.name.EndNames.{EndNames}
 use Rattle.sr_script.specs.declared.name.LinkName.{LinkName}
@@ -22,7 +22,7 @@ example_link = record { from = 0; to = 0; n = 1 }
 abbrev example_repair : RepairName
 example_repair = record { kind = Link; link = example_link; dest = 0 }
 
--- an example of a command for each of the known words, in their order
+-- an example of a command for each of the words, topic by topic and in their order
 abbrev known_examples : List Command
 known_examples =
     Cost example_link 1
@@ -55,10 +55,10 @@ known_examples =
     ∷ Join
     ∷ []
 
-begins-one : (commands : List Command) (word : List ℕ) → IsOneOf word (map first_word commands) → BeginsCommand word
+begins-one : (commands : List Command) (word : List ℕ) → IsWordAmong word (map first_word commands) → BeginsCommand word
 begins-one [] word = λ one. absurd one
 begins-one (command ∷ commands) word = ⊎_elim (λ first. (command, first)) (begins-one commands word)
 
--- a known word begins a command
-pub known-begins : (word : List ℕ) → IsOneOf word known_words → BeginsCommand word
-known-begins word one = begins-one known_examples word one
+-- each of the words begins a command
+pub known_begins : (word : List ℕ) → IsWordAmong word (map first_word known_examples) → BeginsCommand word
+known_begins word one = begins-one known_examples word one

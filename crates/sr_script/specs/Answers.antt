@@ -5,7 +5,7 @@ use Rattle.std.specs.declared.result.Result.TheVariants.{Ok, Err}
 use Rattle.hex.specs.Hex.{decode_of}
 use Rattle.sr_script.specs.Words.{word_at}
 use Rattle.sr_script.specs.Says.{SaysCommand, is_question, kind_word, grouping_word}
-use Rattle.sr_script.specs.FirstWords.{IsOneOf}
+use Rattle.sr_script.specs.FirstWords.{IsWordAmong}
 use Rattle.sr_script.specs.Number.{number_in}
 use Rattle.sr_script.specs.declared.name.TheConstants.{MOST_LINK_NUMBER}
 use Rattle.sr_model.specs.declared.case.Kind.{Kind}
@@ -40,10 +40,13 @@ NamesNoRepair ws i = NamesNoKind (word_at ws i) ⊎ NamesNoLink ws (i + 1) ⊎ (
 abbrev pub IsCommandOf : List (List ℕ) → Option Command → Type 0
 IsCommandOf ws answer = MatchOption answer ((command : Command) → ¬ SaysCommand ws command) (SaysCommand ws)
 
--- the first word is none of these; or it is one of them, and the answer is the command that the words say, or none
-abbrev pub IsReadAmong : List (List ℕ) → List (List ℕ) → Option (Option Command) → Type 0
-IsReadAmong firsts ws answer = MatchOption answer (¬ IsOneOf (word_at ws 0) firsts)
-    (λ read. IsOneOf (word_at ws 0) firsts × IsCommandOf ws read)
+-- the first word is one of these, and the words say the command; or it is none of these, or it is one and they say none
+abbrev pub IsReadAmong : List (List ℕ) → List (List ℕ) → Result Command LineFault → Type 0
+IsReadAmong firsts ws (Ok command) = IsWordAmong (word_at ws 0) firsts × SaysCommand ws command
+IsReadAmong firsts ws (Err UnknownWord) = ¬ IsWordAmong (word_at ws 0) firsts
+IsReadAmong firsts ws (Err BadForm) =
+    IsWordAmong (word_at ws 0) firsts × ((command : Command) → ¬ SaysCommand ws command)
+IsReadAmong firsts ws (Err fault) = ⊥
 
 -- the words say this question, or none where they say none
 abbrev pub IsQuestionOf : List (List ℕ) → Option Command → Type 0

@@ -1,5 +1,5 @@
 -- The first words of commands, by what these ask for. Those of link-state PDUs and certificates are not among them.
-use Rattle.std.specs.Prelude.{◌≡◌, ◌⊎◌, ℕ, Bool, true, false, List, [], ◌∷◌, ◌++◌, codes}
+use Rattle.std.specs.Prelude.{◌≡◌, ◌⊎◌, ℕ, Bool, true, false, List, [], ◌∷◌, codes}
 use Rattle.sr_script.specs.declared.command.Command.{Command}
 use Rattle.sr_script.specs.declared.command.Command.TheVariants.{Commit, DropStaged, Check, Hold, Join, Show, Nodes, Links, Aside}
 
@@ -39,11 +39,7 @@ abbrev pub work_words : List (List ℕ)
 work_words =
     codes "audit" ∷ codes "fails" ∷ codes "diff" ∷ codes "hold" ∷ codes "watch" ∷ codes "join" ∷ []
 
--- any of these
-abbrev pub known_words : List (List ℕ)
-known_words = edit_words ++ way_words ++ table_words ++ failure_words ++ work_words
-
 -- the word is one of these
-abbrev pub IsOneOf : List ℕ → List (List ℕ) → Type 0
-IsOneOf word [] = ⊥
-IsOneOf word (first ∷ others) = (word ≡ first) ⊎ IsOneOf word others
+abbrev pub IsWordAmong : List ℕ → List (List ℕ) → Type 0
+IsWordAmong word [] = ⊥
+IsWordAmong word (first ∷ others) = (word ≡ first) ⊎ IsWordAmong word others

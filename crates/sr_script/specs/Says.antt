@@ -9,8 +9,8 @@ use Rattle.sr_model.specs.SystemText.{system_read}
 use Rattle.sr_script.specs.Number.{number_in, cell_read}
 use Rattle.sr_script.specs.Words.{word_at}
 use Rattle.sr_model.specs.declared.link.TheConstants.{MOST_METRIC}
-use Rattle.sr_script.specs.declared.command.TheConstants.{MOST_DEPTH, MOST_LABEL, MOST_CHOICE, MOST_WORKERS, MOST_EACH, MOST_CELLS, MOST_LABELS}
-use Rattle.sr_model.specs.declared.limits.TheConstants.{MOST_VERSION, MOST_WATCHERS, MOST_ROUNDS}
+use Rattle.sr_script.specs.declared.command.TheConstants.{MOST_LABEL, MOST_CHOICE, MOST_WORKERS, MOST_EACH, MOST_CELLS, MOST_LABELS}
+use Rattle.sr_model.specs.declared.limits.TheConstants.{MOST_DEPTH, MOST_VERSION, MOST_WATCHERS, MOST_ROUNDS}
 use Rattle.sr_script.specs.declared.name.TheConstants.{MOST_LINK_NUMBER}
 use Rattle.sr_script.specs.declared.name.EndNames.{EndNames}
 use Rattle.sr_script.specs.declared.name.LinkName.{LinkName}

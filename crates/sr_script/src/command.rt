@@ -8,9 +8,6 @@ use sr_insight::Grouping;
 use sr_model::{Kind, MOST_NODES, SystemId};
 use sr_seq::Seq;
 
-/// The greatest depth: how many segments a repair list may have at most.
-pub const MOST_DEPTH: u32 = 12;
-
 /// The greatest label: labels have 20 bits (RFC 3032, 2.1).
 pub const MOST_LABEL: u32 = 1_048_575;
 

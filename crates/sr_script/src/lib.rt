@@ -19,8 +19,8 @@ mod reading;
 mod words;
 
 pub use command::{
-    Command, MOST_CELLS, MOST_CHOICE, MOST_DEPTH, MOST_DISTANCE, MOST_EACH, MOST_LABEL,
-    MOST_LABELS, MOST_WORKERS,
+    Command, MOST_CELLS, MOST_CHOICE, MOST_DISTANCE, MOST_EACH, MOST_LABEL, MOST_LABELS,
+    MOST_WORKERS,
 };
 pub use law::{fault_is_unique, line_says_one_thing, said_is_not_refused};
 pub use line::{Line, LineFault};

@@ -7,24 +7,36 @@
 ghost use Rattle.std.specs.Prelude.{◌≡◌, ◌≢◌, true, codes, length};
 ghost use Rattle.sr_script.specs.Words.{word_at};
 ghost use Rattle.sr_script.specs.Says.{first_word};
-ghost use Rattle.sr_script.specs.FirstWords.{is_lone, edit_words, way_words, table_words, failure_words, work_words, known_words};
+ghost use Rattle.sr_script.specs.FirstWords.{is_lone, edit_words, way_words, table_words, failure_words, work_words};
 ghost use Rattle.sr_script.specs.Answers.{IsCommandOf, IsReadAmong, IsReading};
 
 use crate::argument::{
     ends_argument, grouping_argument, kind_argument, link_argument, number_argument,
     repair_argument, system_argument,
 };
-use crate::command::{Command, MOST_CHOICE, MOST_DEPTH, MOST_EACH, MOST_LABEL, MOST_WORKERS};
+use crate::command::{Command, MOST_CHOICE, MOST_EACH, MOST_LABEL, MOST_WORKERS};
 use crate::line::LineFault;
 use crate::words::Words;
-use sr_model::{MOST_METRIC, MOST_ROUNDS, MOST_VERSION, MOST_WATCHERS};
+use sr_model::{MOST_DEPTH, MOST_METRIC, MOST_ROUNDS, MOST_VERSION, MOST_WATCHERS};
 
-/// Returns the answer of the reader whose word comes first.
+/// Returns the answer of the reader whose word comes first: the words have a bad form where it reads no command.
 macro_rules! read_by_word {
     ($words:expr; $($first:literal => $read:expr,)*) => {
         $(
             if $words.has(0, $first) {
-                return Some($read);
+                return $read.ok_or(LineFault::BadForm);
+            }
+        )*
+    };
+}
+
+/// Returns the answer of the first of these readers that knows the first word.
+macro_rules! read_by_topic {
+    ($words:expr; $($read:ident,)*) => {
+        $(
+            match $read($words) {
+                Err(LineFault::UnknownWord) => {}
+                answer => return answer,
             }
         )*
     };
@@ -44,7 +56,7 @@ fn read_lone(words: &Words<'_>, command: Command) -> Option<Command>
 }
 
 /// What the words say that begin an edit, its check, or its end.
-fn read_edit(words: &Words<'_>) -> Option<Option<Command>>
+fn read_edit(words: &Words<'_>) -> Result<Command, LineFault>
     ensures { IsReadAmong edit_words words.now result }
 {
     read_by_word! { words;
@@ -56,11 +68,11 @@ fn read_edit(words: &Words<'_>) -> Option<Option<Command>>
         b"commit" => read_lone(words, Command::Commit),
         b"drop" => read_lone(words, Command::DropStaged),
     }
-    None
+    Err(LineFault::UnknownWord)
 }
 
 /// What the words say that begin a question of ways and of what is on them.
-fn read_way(words: &Words<'_>) -> Option<Option<Command>>
+fn read_way(words: &Words<'_>) -> Result<Command, LineFault>
     ensures { IsReadAmong way_words words.now result }
 {
     read_by_word! { words;
@@ -70,11 +82,11 @@ fn read_way(words: &Words<'_>) -> Option<Option<Command>>
         b"walk" => read_walk(words),
         b"load" => read_load(words),
     }
-    None
+    Err(LineFault::UnknownWord)
 }
 
 /// What the words say that begin a question of the domain's tables.
-fn read_table(words: &Words<'_>) -> Option<Option<Command>>
+fn read_table(words: &Words<'_>) -> Result<Command, LineFault>
     ensures { IsReadAmong table_words words.now result }
 {
     read_by_word! { words;
@@ -83,11 +95,11 @@ fn read_table(words: &Words<'_>) -> Option<Option<Command>>
         b"links" => read_lone(words, Command::Links),
         b"aside" => read_lone(words, Command::Aside),
     }
-    None
+    Err(LineFault::UnknownWord)
 }
 
 /// What the words say that begin a question of one failure.
-fn read_failure(words: &Words<'_>) -> Option<Option<Command>>
+fn read_failure(words: &Words<'_>) -> Result<Command, LineFault>
     ensures { IsReadAmong failure_words words.now result }
 {
     read_by_word! { words;
@@ -98,11 +110,11 @@ fn read_failure(words: &Words<'_>) -> Option<Option<Command>>
         b"prove" => read_prove(words),
         b"why" => read_why(words),
     }
-    None
+    Err(LineFault::UnknownWord)
 }
 
 /// What the words say that begin a question of all cases, or work beside the script.
-fn read_work(words: &Words<'_>) -> Option<Option<Command>>
+fn read_work(words: &Words<'_>) -> Result<Command, LineFault>
     ensures { IsReadAmong work_words words.now result }
 {
     read_by_word! { words;
@@ -113,40 +125,19 @@ fn read_work(words: &Words<'_>) -> Option<Option<Command>>
         b"watch" => read_watch(words),
         b"join" => read_lone(words, Command::Join),
     }
-    None
+    Err(LineFault::UnknownWord)
 }
 
-/// What the words say, if a command begins with the first of them. `lsp` and `proof` are read elsewhere.
-fn read_known(words: &Words<'_>) -> Option<Option<Command>>
-    ensures { IsReadAmong known_words words.now result }
-{
-    if let Some(read) = read_edit(words) {
-        return Some(read);
-    }
-    if let Some(read) = read_way(words) {
-        return Some(read);
-    }
-    if let Some(read) = read_table(words) {
-        return Some(read);
-    }
-    if let Some(read) = read_failure(words) {
-        return Some(read);
-    }
-    read_work(words)
-}
-
-/// The command that the words say, by the reader for the first of them: that word may be unknown, or the words have no
-/// form of a command. `lsp` and `proof` are read elsewhere.
+/// The command that the words say: the first of them may be unknown, or the words have no form of a command. `lsp` and
+/// `proof` are read elsewhere.
+#[tactic(auto, using(crate::proofs::FirstWords::known_begins))]
 pub(crate) fn read_command(words: &Words<'_>) -> Result<Command, LineFault>
     requires no_octets { word_at words.now 0 ≢ codes "lsp" }
     requires no_proof { word_at words.now 0 ≢ codes "proof" }
     ensures { IsReading words.now result }
 {
-    match read_known(words) {
-        Some(Some(command)) => Ok(command),
-        Some(None) => Err(LineFault::BadForm),
-        None => Err(LineFault::UnknownWord),
-    }
+    read_by_topic! { words; read_edit, read_way, read_table, read_failure, }
+    read_work(words)
 }
 
 /// `cost A B n M`
@@ -194,7 +185,7 @@ fn read_depth(words: &Words<'_>) -> Option<Command>
     if words.len() != 2 {
         return None;
     }
-    let depth = number_argument(words, 1, 0, MOST_DEPTH)?;
+    let depth = number_argument(words, 1, 0, MOST_DEPTH as u32)?;
     Some(Command::Depth { depth: depth as u8 })
 }
 

@@ -1,6 +1,5 @@
 -- Numbers that rise by one.
-use Rattle.std.proofs.Common.{◌≡◌, ℕ, zero, suc, ◌+◌, ◌-◌, ◌<◌, ◌≤◌, List, [], ◌∷◌, ◌++◌, length, Some, slice_get, refl, ap, sym, ◌∙◌, subst, arith, ◌⊎◌, inl, inr, ⊎_elim}
-use Rattle.std.proofs.lemmas.Option.{same_Some}
+use Rattle.std.proofs.Common.{◌≡◌, ℕ, zero, suc, ◌+◌, ◌-◌, ◌≤◌, List, [], ◌∷◌, ◌++◌, length, Some, slice_get, refl, ap, sym, ◌∙◌, subst, arith, ◌⊎◌, ⊎_elim}
 use Rattle.sr_store.specs.Histories.{NumbersRise, IsNext}
 use Rattle.std.proofs.lemmas.Option.{slice_get_within}
 use Rattle.sr_seq.proofs.ListLemmas.{get-push}

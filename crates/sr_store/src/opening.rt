@@ -33,7 +33,7 @@ pub fn open<V: Numbered + Drop, R: Wait>(
         (λ t. SeatsFrom t.0.list.store 0 t.1.items × (t.0.given ≡ vec_len t.1) × (vec_len t.1 ≤ places)) }
 {
     let mut writer = found(rt, alloc, &first, places)?;
-    match seat_all(alloc, &mut writer, &first, places) {
+    match seat_readers(alloc, &mut writer, &first, places) {
         Ok(readers) => {
             writer.gave(readers.len());
             usage.count_opened(places, readers.len());
@@ -78,7 +78,7 @@ fn begin<V: Numbered + Drop>(first: &Arc<V>) -> Result<(Author<V>, Shown<V>), Al
 }
 
 // A reader for each place that left_right has.
-fn seat_all<V: Numbered + Drop>(
+fn seat_readers<V: Numbered + Drop>(
     alloc: Global,
     writer: &mut Writer<V>,
     last: &Arc<V>,

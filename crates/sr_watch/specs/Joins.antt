@@ -1,5 +1,5 @@
 -- What the join of a watch hands back.
-use Rattle.std.specs.Prelude.{ℕ, ◌≡◌, List, [], ◌∷◌, ◌++◌, IfOk}
+use Rattle.std.specs.Prelude.{◌≡◌, List, [], ◌∷◌, ◌++◌, IfOk}
 use Rattle.sr_store.specs.declared.reader.Reader.{Reader}
 use Rattle.sr_watch.specs.declared.inspect.Round.{Round}
 use Rattle.sr_watch.specs.declared.joined.Joined.{Joined}

@@ -1,5 +1,5 @@
 -- What all rounds of one watcher leave.
-use Rattle.std.specs.Prelude.{ℕ, ◌≡◌, ◌+◌, List, IfOk, length}
+use Rattle.std.specs.Prelude.{◌≡◌, ◌+◌, List, IfOk, length}
 use Rattle.std.specs.List.Sorted.{IsNonDecreasingBy}
 use Rattle.sr_store.specs.Counts.{counted}
 use Rattle.sr_store.specs.Histories.{Begins}

@@ -8,7 +8,6 @@ use Rattle.sr_watch.specs.declared.task.Task.{Task}
 use Rattle.sr_watch.specs.declared.seated.Seated.{Seated}
 use Rattle.sr_watch.specs.declared.apart.Apart.{Apart}
 use Rattle.sr_watch.specs.declared.stock.Stock.{Stock}
-use Rattle.sr_watch.specs.declared.stock.Outlook.{Outlook}
 use Rattle.sr_watch.specs.Rounds.{Inspection}
 use Rattle.sr_watch.specs.Starts.{SeatedFrom}
 use Rattle.sr_watch.specs.Joins.{Back, SeatedRounds, ApartRounds}

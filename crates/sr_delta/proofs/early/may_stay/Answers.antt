@@ -1,5 +1,4 @@
 use Rattle.std.proofs.Common.{◌≡◌, ◌↔◌, ℕ, IsTrue, List, Bool, length, true, arith}
-use Rattle.sr_model.specs.declared.case.Case.{Case}
 use Rattle.sr_model.specs.Graph.{IsLink, link_at, node_count}
 use Rattle.sr_model.specs.Case.{IsFailedSet, source_of}
 use Rattle.sr_model.specs.Label.{Net}

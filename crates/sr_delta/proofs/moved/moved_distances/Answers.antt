@@ -1,5 +1,4 @@
-use Rattle.std.proofs.Common.{◌≡◌, arith, sym, subst}
-use Rattle.sr_lanes.specs.declared.words.NodeBits.{NodeBits}
+use Rattle.std.proofs.Common.{◌≡◌, arith, subst}
 use Rattle.sr_spf.specs.Trees.{tree_count}
 use Rattle.sr_delta.specs.Moved.{AreMoved}
 use Rattle.sr_delta.proofs.MovedLemmas.{moved-more, moved-none}

@@ -1,4 +1,3 @@
-use Rattle.std.proofs.Common.{◌≡◌}
 use Rattle.sr_model.specs.Graph.{Graph}
 use Rattle.sr_spf.specs.Trees.{AreTrees}
 use Rattle.sr_delta.specs.Moved.{AreMoved}

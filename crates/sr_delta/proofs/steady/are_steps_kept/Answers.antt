@@ -1,11 +1,11 @@
-use Rattle.std.proofs.Common.{◌≡◌, ℕ, ◌<◌, length, Some, refl, get_or, arith}
-use Rattle.std.specs.Prelude.{◌&&◌, ◌==◌, not, slice_get}
+use Rattle.std.proofs.Common.{◌≡◌, ℕ, ◌<◌, length, refl, get_or, arith}
+use Rattle.std.specs.Prelude.{◌&&◌, ◌==◌, not}
 use Rattle.std.proofs.lemmas.Option.{slice_get_read, slice_get-get_or}
 use Rattle.sr_model.specs.Case.{source_of}
 use Rattle.sr_model.specs.Graph.{node_count}
 use Rattle.sr_laws.specs.Steady.{pivot_of}
 use Rattle.sr_lanes.specs.Bits.{is_in}
-use Rattle.sr_delta.specs.Cases.{Computed, IsComputed}
+use Rattle.sr_delta.specs.Cases.{Computed}
 use Rattle.sr_delta.proofs.SteadyLemmas.{left-walked, steps-from_far, steps-from_trees, walked-within}
 use Rattle.sr_delta.proofs.steady.are_steps_kept.Goals as goal
 

@@ -3,7 +3,6 @@ use Rattle.std.specs.Prelude.{◌&&◌, not}
 use Rattle.sr_model.specs.Graph.{IsLink, link_at, node_count}
 use Rattle.sr_model.specs.Label.{Net}
 use Rattle.sr_model.specs.Case.{source_of}
-use Rattle.sr_model.specs.Stay.{HasSameDepth}
 use Rattle.sr_lanes.specs.Bits.{is_in}
 use Rattle.sr_delta.specs.Idle.{AreIdleOrFailed}
 use Rattle.sr_delta.specs.Cases.{Computed, IsComputed}

@@ -1,5 +1,4 @@
 use Rattle.std.proofs.Common.{◌≡◌, ◌++◌, sym, subst}
-use Rattle.std.specs.Prelude.{OnOk}
 use Rattle.sr_why.specs.declared.reason.Cause.{Cause}
 use Rattle.sr_print.specs.Why.{reason_text}
 use Rattle.sr_print.proofs.Appended.{ok_then, two_pieces}

@@ -1,4 +1,4 @@
-use Rattle.std.proofs.Common.{◌++◌, ◌∷◌, map, Some, ◌∙◌, ap}
+use Rattle.std.proofs.Common.{◌++◌, map, Some, ◌∙◌, ap}
 use Rattle.sr_script.specs.Words.{words}
 use Rattle.sr_script.proofs.ListLemmas.{value-refused}
 use Rattle.sr_script.proofs.listed.read_list.Goals as goal

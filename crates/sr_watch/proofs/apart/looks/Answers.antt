@@ -1,4 +1,4 @@
-use Rattle.std.proofs.Common.{◌≡◌, ◌+◌, length, length-append, ◌∷◌, [], ap, sym, ◌∙◌, arith}
+use Rattle.std.proofs.Common.{◌+◌, length, length-append, ◌∷◌, [], ap, sym, ◌∙◌}
 use Rattle.std.specs.Arc.{arc_value}
 use Rattle.sr_watch.specs.Rounds.{inspection_by}
 use Rattle.sr_watch.proofs.Chains.{repeats-more}

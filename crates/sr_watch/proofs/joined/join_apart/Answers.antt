@@ -1,4 +1,4 @@
-use Rattle.std.proofs.Common.{◌≡◌, [], true, subst, arith}
+use Rattle.std.proofs.Common.{arith}
 use Rattle.std.proofs.lemmas.List.{nil_from_length}
 use Rattle.sr_watch.specs.Rounds.{inspection_by}
 use Rattle.sr_watch.proofs.Watchers.{one-apart, apart-step, apart-end}

@@ -1,4 +1,4 @@
-use Rattle.std.proofs.Common.{◌≡◌, [], true, sym, length, ap, subst, arith}
+use Rattle.std.proofs.Common.{arith}
 use Rattle.std.proofs.lemmas.List.{nil_from_length}
 use Rattle.sr_watch.specs.Rounds.{inspection_by}
 use Rattle.sr_watch.proofs.Watchers.{one-back, seated-step, back-end, rounds-end}

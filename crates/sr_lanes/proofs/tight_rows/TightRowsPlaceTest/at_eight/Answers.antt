@@ -1,4 +1,4 @@
-use Rattle.std.proofs.Common.{◌≡◌, ℕ, ◌+◌, ◌≤◌, ◌<◌, length, get_or, arith, ◌∙◌, ap, subst, sym}
+use Rattle.std.proofs.Common.{◌≡◌, ◌+◌, ◌≤◌, length, get_or, arith}
 use lib.Dec.{eqb}
 use Rattle.sr_lanes.proofs.LaneLemmas.{bits-lanes, sums_of, length-sums_of, get_or-sums_of, lanes_at, length-lanes_at, get_or-lanes_at}
 use Rattle.sr_lanes.proofs.tight_rows.TightRowsPlaceTest.at_eight.Goals as goal

@@ -2,7 +2,7 @@ use Rattle.std.proofs.Common.{ap, ◌∙◌, arith}
 use Rattle.std.proofs.lemmas.List.Elements.{All-push}
 use Rattle.sr_store.specs.Seats.{IsSeat}
 use Rattle.sr_store.proofs.Seating.{seats-push}
-use Rattle.sr_store.proofs.opening.seat_all.Goals as goal
+use Rattle.sr_store.proofs.opening.seat_readers.Goals as goal
 
 pub loop-number-preserved : goal.loop-number-preserved
 loop-number-preserved g c =

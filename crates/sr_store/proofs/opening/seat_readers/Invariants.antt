@@ -1,6 +1,6 @@
 use Rattle.std.proofs.Common.{◌≡◌, ◌≤◌, All, vec_len, vec_capacity}
 use Rattle.sr_store.specs.Seats.{IsSeat, SeatsFrom}
-use Rattle.sr_store.proofs.opening.seat_all.Given as goal
+use Rattle.sr_store.proofs.opening.seat_readers.Given as goal
 
 abbrev pub invariant-loop-number : goal.invariant-loop-number
 invariant-loop-number g l = record {
