@@ -48,6 +48,7 @@ use sr_store::Usage;
 use sr_watch::{Gate, OpenGate};
 use std::alloc::{AllocError, AllocGlobal, Global};
 use std::marker::Brand;
+use std::process::Abort;
 use std::sync::Arc;
 use std::sync::ledger::{Blank, Ledger};
 use tries::TRIES;
@@ -82,22 +83,25 @@ fn run_counted<L: Ledger>(
     status
 }
 
-/// Runs the program at this gate with this usage, and gives its status.
+/// Runs the program by this command at this gate with this usage, and gives its status.
 fn run_at<R: AllocGlobal + Runtime + 'static, S: Source, K: Sink, G: Gate + 'static>(
     rt: &R,
-    words: &[String],
+    command: &str,
     source: &mut S,
     sink: &mut K,
     gate: &Arc<G>,
     usage: &mut Usage,
-) -> u8 {
-    run_counted::<Brand>(rt, words, source, sink, gate, usage, Blank::new(1))
+) -> Result<u8, AllocError> {
+    let words = words(rt.alloc(), command)?;
+    let status = run_counted::<Brand>(rt, &words, source, sink, gate, usage, Blank::new(1));
+    drop(words);
+    Ok(status)
 }
 
-/// Runs the program at an open gate, and gives its status.
+/// Runs the program by this command at an open gate, and gives its status.
 fn run<R: AllocGlobal + Runtime + 'static, S: Source, K: Sink>(
     rt: &R,
-    words: &[String],
+    command: &str,
     source: &mut S,
     sink: &mut K,
 ) -> Result<u8, AllocError> {
@@ -106,135 +110,189 @@ fn run<R: AllocGlobal + Runtime + 'static, S: Source, K: Sink>(
         Err(_) => return Err(AllocError),
     };
     let mut usage = Usage::new();
-    Ok(run_at(rt, words, source, sink, &gate, &mut usage))
+    let status = run_at(rt, command, source, sink, &gate, &mut usage);
+    drop(gate);
+    status
 }
 
-/// Whether the script is answered as the case says, with its status.
-fn agrees<R: AllocGlobal + Runtime + 'static>(rt: &R, case: &Case) -> Result<bool, AllocError> {
-    let alloc = rt.alloc();
-    let words = words(alloc, "run")?;
-    let mut source = SteadySource::new(Vec::from_slice(alloc, case.script.as_bytes())?);
-    let mut sink = SteadySink::new(alloc);
-    let status = run(rt, words.as_slice(), &mut source, &mut sink)?;
-    Ok(sink.bytes() == case.answers.as_bytes() && status == case.status)
+/// A run ended with this status, after these answers.
+fn check_end(
+    rt: &impl Abort,
+    ended: Result<u8, AllocError>,
+    answers: &[u8],
+    expected: (u8, &[u8]),
+    name: &str,
+) -> Result<(), AllocError> {
+    assert_eq!(rt; (ended?, answers), expected, "{name}");
+    Ok(())
+}
+
+/// A run ended with this status, and these were its last answers.
+fn check_last(
+    rt: &impl Abort,
+    ended: Result<u8, AllocError>,
+    answers: &[u8],
+    expected: (u8, &[u8]),
+    name: &str,
+) -> Result<(), AllocError> {
+    assert_eq!(rt; ended?, expected.0, "{name}");
+    assert!(rt; answers.ends_with(expected.1), "{name}");
+    Ok(())
+}
+
+/// A run over the source ends with this status, after these answers.
+fn check_run<R: AllocGlobal + Runtime + Abort + 'static>(
+    rt: &R,
+    source: &mut impl Source,
+    expected: (u8, &[u8]),
+    name: &str,
+) -> Result<(), AllocError> {
+    let mut sink = SteadySink::new(rt.alloc());
+    let ended = run(rt, "run", source, &mut sink);
+    let checked = check_end(rt, ended, sink.bytes(), expected, name);
+    drop(sink);
+    checked
+}
+
+/// A run over the script ends with this status, after these answers.
+fn check_script<R: AllocGlobal + Runtime + Abort + 'static>(
+    rt: &R,
+    script: Vec<u8>,
+    expected: (u8, &[u8]),
+    name: &str,
+) -> Result<(), AllocError> {
+    let mut source = SteadySource::new(script);
+    let checked = check_run(rt, &mut source, expected, name);
+    drop(source);
+    checked
+}
+
+/// A run over the script ends with this status, and these are its last answers.
+fn check_last_answers<R: AllocGlobal + Runtime + Abort + 'static>(
+    rt: &R,
+    script: Vec<u8>,
+    expected: (u8, &[u8]),
+    name: &str,
+) -> Result<(), AllocError> {
+    let mut source = SteadySource::new(script);
+    let mut sink = SteadySink::new(rt.alloc());
+    let ended = run(rt, "run", &mut source, &mut sink);
+    drop(source);
+    let checked = check_last(rt, ended, sink.bytes(), expected, name);
+    drop(sink);
+    checked
+}
+
+/// Each script is answered as its case says.
+fn check_cases<R: AllocGlobal + Runtime + Abort + 'static>(
+    rt: &R,
+    cases: &[Case],
+) -> Result<(), AllocError> {
+    for case in cases {
+        let script = Vec::from_slice(rt.alloc(), case.script.as_bytes())?;
+        check_script(
+            rt,
+            script,
+            (case.status, case.answers.as_bytes()),
+            case.name,
+        )?;
+    }
+    Ok(())
 }
 
 #[test]
 fn scripts_are_answered(rt: HostRuntime) -> Result<(), AllocError> {
-    for case in &CASES {
-        assert!(rt; agrees(&rt, case)?, "{}", case.name);
-    }
-    Ok(())
+    check_cases(&rt, &CASES)
 }
 
 #[test]
 fn rings_are_answered(rt: HostRuntime) -> Result<(), AllocError> {
-    for case in &RINGS {
-        assert!(rt; agrees(&rt, case)?, "{}", case.name);
-    }
-    Ok(())
+    check_cases(&rt, &RINGS)
 }
 
 #[test]
 fn pairs_are_answered(rt: HostRuntime) -> Result<(), AllocError> {
-    for case in &PAIRS {
-        assert!(rt; agrees(&rt, case)?, "{}", case.name);
-    }
-    Ok(())
+    check_cases(&rt, &PAIRS)
 }
 
 #[test]
 fn limits_of_nodes_are_answered(rt: HostRuntime) -> Result<(), AllocError> {
-    for case in &NODES {
-        assert!(rt; agrees(&rt, case)?, "{}", case.name);
-    }
-    Ok(())
+    check_cases(&rt, &NODES)
 }
 
 #[test]
 fn edited_domains_are_answered(rt: HostRuntime) -> Result<(), AllocError> {
-    for case in &EDITS {
-        assert!(rt; agrees(&rt, case)?, "{}", case.name);
-    }
-    Ok(())
+    check_cases(&rt, &EDITS)
 }
 
 #[test]
 fn flooded_domains_are_answered(rt: HostRuntime) -> Result<(), AllocError> {
-    for case in &FIELD {
-        assert!(rt; agrees(&rt, case)?, "{}", case.name);
-    }
-    Ok(())
+    check_cases(&rt, &FIELD)
 }
 
 #[test]
 fn adjacency_labels_are_answered(rt: HostRuntime) -> Result<(), AllocError> {
-    for case in &ACTIVE {
-        assert!(rt; agrees(&rt, case)?, "{}", case.name);
-    }
-    Ok(())
+    check_cases(&rt, &ACTIVE)
 }
 
 #[test]
 fn certificates_are_answered(rt: HostRuntime) -> Result<(), AllocError> {
-    for case in &CERTIFICATES {
-        assert!(rt; agrees(&rt, case)?, "{}", case.name);
-    }
-    Ok(())
+    check_cases(&rt, &CERTIFICATES)
 }
 
 #[test]
 fn loads_are_answered(rt: HostRuntime) -> Result<(), AllocError> {
-    for case in &LOADS {
-        assert!(rt; agrees(&rt, case)?, "{}", case.name);
-    }
-    Ok(())
+    check_cases(&rt, &LOADS)
 }
 
 #[test]
 fn accounts_are_answered(rt: HostRuntime) -> Result<(), AllocError> {
-    for case in &ACCOUNTS {
-        assert!(rt; agrees(&rt, case)?, "{}", case.name);
-    }
-    Ok(())
+    check_cases(&rt, &ACCOUNTS)
 }
 
 #[test]
 fn groups_are_answered(rt: HostRuntime) -> Result<(), AllocError> {
-    for case in &GROUPS {
-        assert!(rt; agrees(&rt, case)?, "{}", case.name);
-    }
-    Ok(())
+    check_cases(&rt, &GROUPS)
 }
 
 #[test]
 fn tries_are_answered(rt: HostRuntime) -> Result<(), AllocError> {
-    for case in &TRIES {
-        assert!(rt; agrees(&rt, case)?, "{}", case.name);
-    }
-    Ok(())
+    check_cases(&rt, &TRIES)
 }
 
 #[test]
 fn differences_are_answered(rt: HostRuntime) -> Result<(), AllocError> {
-    for case in &DIFFERENCES {
-        assert!(rt; agrees(&rt, case)?, "{}", case.name);
-    }
-    Ok(())
+    check_cases(&rt, &DIFFERENCES)
 }
 
 #[test]
 fn reasons_are_answered(rt: HostRuntime) -> Result<(), AllocError> {
-    for case in &REASONS {
-        assert!(rt; agrees(&rt, case)?, "{}", case.name);
-    }
-    Ok(())
+    check_cases(&rt, &REASONS)
+}
+
+#[test]
+fn flooded_domains_are_audited(rt: HostRuntime) -> Result<(), AllocError> {
+    check_cases(&rt, &AUDITS)
+}
+
+/// These words are no command: with them nothing is read or written, and the status is 2.
+fn check_no_command<R: AllocGlobal + Runtime + Abort + 'static>(
+    rt: &R,
+    command: &str,
+) -> Result<(), AllocError> {
+    let script = Vec::from_slice(rt.alloc(), b"commit\n")?;
+    let mut source = SteadySource::new(script);
+    let mut sink = SteadySink::new(rt.alloc());
+    let ended = run(rt, command, &mut source, &mut sink);
+    drop(source);
+    let checked = check_end(rt, ended, sink.bytes(), (2, b""), command);
+    drop(sink);
+    checked
 }
 
 #[test]
 fn other_words_are_no_command(rt: HostRuntime) -> Result<(), AllocError> {
-    let alloc = rt.alloc();
-    for text in [
+    for command in [
         "fly",
         "",
         "run run",
@@ -245,20 +303,7 @@ fn other_words_are_no_command(rt: HostRuntime) -> Result<(), AllocError> {
         "make --nodes 2 --start 0",
         "make --nodes 257 --start 0",
     ] {
-        let words = words(alloc, text)?;
-        let mut source = SteadySource::new(Vec::from_slice(alloc, b"commit\n")?);
-        let mut sink = SteadySink::new(alloc);
-        let status = run(&rt, words.as_slice(), &mut source, &mut sink)?;
-        assert_eq!(rt; status, 2, "{text}");
-        assert_eq!(rt; sink.bytes().len(), 0, "{text}");
-    }
-    Ok(())
-}
-
-#[test]
-fn flooded_domains_are_audited(rt: HostRuntime) -> Result<(), AllocError> {
-    for case in &AUDITS {
-        assert!(rt; agrees(&rt, case)?, "{}", case.name);
+        check_no_command(&rt, command)?;
     }
     Ok(())
 }

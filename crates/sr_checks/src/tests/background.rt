@@ -4,11 +4,13 @@ ghost use Rattle.std.specs.Prelude.{ℕ, List, None};
 ghost use Rattle.std.specs.declared.option.Option.{Option};
 
 use super::cases::Case;
-use super::{agrees, run_at, words};
-use sr_base::{Failed, MemorySource, Source, SteadySink, SteadySource};
+use super::devices::bytewise;
+use super::{check_cases, check_last, check_run, run_at};
+use sr_base::{Failed, Runtime, Source, SteadySink, SteadySource};
 use sr_store::Usage;
-use sr_watch::{Gate, OpenGate};
-use std::alloc::{AllocError, Global};
+use sr_watch::Gate;
+use std::alloc::{AllocError, AllocGlobal, Global};
+use std::process::Abort;
 use std::sync::Arc;
 use std::sync::atomic::AtomicU64;
 use std::sync::atomic::Ordering::SeqCst;
@@ -141,10 +143,51 @@ const BACKGROUND: [Case; 4] = [
 
 #[test]
 fn background_work_is_answered(rt: HostRuntime) -> Result<(), AllocError> {
-    for case in &BACKGROUND {
-        assert!(rt; agrees(&rt, case)?, "{}", case.name);
-    }
-    Ok(())
+    check_cases(&rt, &BACKGROUND)
+}
+
+/// How a run is to end: its status, its last answers, and what its usage counts.
+struct Ended {
+    status: u8,
+    answers: &'static [u8],
+    places: u64,
+    given: u64,
+    published: u64,
+    turns: u64,
+}
+
+/// The usage counts thus.
+fn check_usage(rt: &impl Abort, usage: &Usage, expected: &Ended) {
+    assert_eq!(rt;
+        (usage.places(), usage.given()),
+        (expected.places, expected.given)
+    );
+    assert_eq!(rt;
+        (usage.published(), usage.turns()),
+        (expected.published, expected.turns)
+    );
+}
+
+/// A run over the source at this gate ends thus.
+fn check_ended<R: AllocGlobal + Runtime + Abort + 'static, G: Gate + 'static>(
+    rt: &R,
+    source: &mut impl Source,
+    gate: &Arc<G>,
+    expected: &Ended,
+) -> Result<(), AllocError> {
+    let mut sink = SteadySink::new(rt.alloc());
+    let mut usage = Usage::new();
+    let ended = run_at(rt, "run", source, &mut sink, gate, &mut usage);
+    check_usage(rt, &usage, expected);
+    let end = (expected.status, expected.answers);
+    let checked = check_last(rt, ended, sink.bytes(), end, "background work");
+    drop(sink);
+    checked
+}
+
+/// The gate saw what it was to wait for.
+fn check_met(rt: &impl Abort, met: &AtomicU64) {
+    assert_eq!(rt; met.load(SeqCst), 1);
 }
 
 /// Holds watcher 1 in its first round until watcher 2 has passed, and keeps whether it saw that.
@@ -170,33 +213,32 @@ impl Gate for Meeting {
     }
 }
 
+/// Two watchers of one round.
+const TWO_WATCHERS: Ended = Ended {
+    status: 0,
+    answers: b"",
+    places: 2,
+    given: 2,
+    published: 0,
+    turns: 2,
+};
+
 #[test]
 fn watchers_run_beside_each_other(rt: HostRuntime) -> Result<(), Fail> {
-    let alloc = rt.alloc();
-    let words = words(alloc, "run")?;
+    let script = Vec::from_slice(rt.alloc(), b"commit\nwatch 2 1\njoin\n")?;
     let gate = Arc::new(
-        alloc,
+        rt.alloc(),
         Meeting {
             passed: AtomicU64::new(0),
             met: AtomicU64::new(0),
         },
     )?;
-    let mut usage = Usage::new();
-    let mut source = SteadySource::new(Vec::from_slice(alloc, b"commit\nwatch 2 1\njoin\n")?);
-    let mut sink = SteadySink::new(alloc);
-    let status = run_at(
-        &rt,
-        words.as_slice(),
-        &mut source,
-        &mut sink,
-        &gate,
-        &mut usage,
-    );
-    assert_eq!(rt; status, 0);
-    assert_eq!(rt; gate.met.load(SeqCst), 1);
-    assert_eq!(rt; (usage.places(), usage.given()), (2, 2));
-    assert_eq!(rt; (usage.published(), usage.turns()), (0, 2));
-    Ok(())
+    let mut source = SteadySource::new(script);
+    let checked = check_ended(&rt, &mut source, &gate, &TWO_WATCHERS);
+    drop(source);
+    check_met(&rt, &gate.met);
+    drop(gate);
+    Ok(checked?)
 }
 
 /// Gives some bytes, raises a flag when it is asked again, and then gives the rest.
@@ -244,71 +286,63 @@ impl Gate for Flagged {
     }
 }
 
-/// The last of the answers: the report of the second round.
-const SECOND_ROUND: &[u8] =
-    b"report watch 1 2 version 2 covered 0 nopath 30 nolist 0 toodeep 0\njoined 2\n";
+/// A watcher of two rounds, and the version that is published before the second.
+const TWO_ROUNDS: Ended = Ended {
+    status: 0,
+    answers: b"report watch 1 2 version 2 covered 0 nopath 30 nolist 0 toodeep 0\njoined 2\n",
+    places: 1,
+    given: 1,
+    published: 1,
+    turns: 2,
+};
+
+/// The ring, and what is watched.
+fn watched(alloc: Global) -> Result<Vec<u8>, AllocError> {
+    let mut script = Vec::from_slice(alloc, RING.as_bytes())?;
+    script.extend_from_slice(WATCHED.as_bytes())?;
+    Ok(script)
+}
+
+/// What is to hold at a gate that waits until the second version is published.
+fn check_flagged<R: AllocGlobal + Runtime + Abort + 'static>(
+    rt: &R,
+    gate: &Arc<Flagged>,
+) -> Result<(), Fail> {
+    let first = watched(rt.alloc())?;
+    let rest = Vec::from_slice(rt.alloc(), b"join\n")?;
+    let mut source = Flagging {
+        first: SteadySource::new(first),
+        rest: SteadySource::new(rest),
+        flag: Arc::try_clone(gate)?,
+        given: false,
+    };
+    let checked = check_ended(rt, &mut source, gate, &TWO_ROUNDS);
+    drop(source);
+    check_met(rt, &gate.met);
+    Ok(checked?)
+}
 
 #[test]
 fn a_watcher_sees_what_was_published(rt: HostRuntime) -> Result<(), Fail> {
-    let alloc = rt.alloc();
-    let words = words(alloc, "run")?;
     let gate = Arc::new(
-        alloc,
+        rt.alloc(),
         Flagged {
             raised: AtomicU64::new(0),
             met: AtomicU64::new(0),
         },
     )?;
-    let mut first = Vec::from_slice(alloc, RING.as_bytes())?;
-    first.extend_from_slice(WATCHED.as_bytes())?;
-    let mut source = Flagging {
-        first: SteadySource::new(first),
-        rest: SteadySource::new(Vec::from_slice(alloc, b"join\n")?),
-        flag: Arc::try_clone(&gate)?,
-        given: false,
-    };
-    let mut sink = SteadySink::new(alloc);
-    let mut usage = Usage::new();
-    let status = run_at(
-        &rt,
-        words.as_slice(),
-        &mut source,
-        &mut sink,
-        &gate,
-        &mut usage,
-    );
-    assert_eq!(rt; status, 0);
-    assert_eq!(rt; gate.met.load(SeqCst), 1);
-    assert!(rt; sink.bytes().ends_with(SECOND_ROUND));
-    assert_eq!(rt; (usage.places(), usage.given()), (1, 1));
-    assert_eq!(rt; (usage.published(), usage.turns()), (1, 2));
-    Ok(())
+    let checked = check_flagged(&rt, &gate);
+    drop(gate);
+    checked
 }
 
 /// What is answered before the read that fails: of the hold no report.
 const HELD: &[u8] = b"version 1 nodes 0 links 0\nhold version 1\n";
 
 #[test]
-fn a_read_fails_while_a_hold_runs(rt: HostRuntime) -> Result<(), Fail> {
-    let alloc = rt.alloc();
-    let words = words(alloc, "run")?;
-    let gate = Arc::new(alloc, OpenGate)?;
-    let mut usage = Usage::new();
-    let mut source = MemorySource::new(
-        Vec::from_slice(alloc, b"commit\nhold\n")?,
-        Vec::new(alloc),
-        vec![in alloc; 1u64; 1]?,
-    );
-    let mut sink = SteadySink::new(alloc);
-    let status = run_at(
-        &rt,
-        words.as_slice(),
-        &mut source,
-        &mut sink,
-        &gate,
-        &mut usage,
-    );
-    assert_eq!(rt; status, 3);
-    assert_eq!(rt; sink.bytes(), HELD);
-    Ok(())
+fn a_read_fails_while_a_hold_runs(rt: HostRuntime) -> Result<(), AllocError> {
+    let mut source = bytewise(rt.alloc(), b"commit\nhold\n", 0, &[1])?;
+    let checked = check_run(&rt, &mut source, (3, HELD), "a hold");
+    drop(source);
+    checked
 }

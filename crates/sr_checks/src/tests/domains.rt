@@ -1,12 +1,13 @@
 //! Domains at the limits of nodes and links.
 
-use super::{run, words};
+use super::{check_last, check_last_answers, check_script, run};
 use sr_base::{Runtime, SteadySink, SteadySource};
 use sr_lsp::{Capability, Lsp, LspId, Part, Parts, Prefix, Reach, in_range, write_lsp};
 use sr_model::{Range, SystemId};
 use sr_seq::{Few, Seq};
 use sr_subtlv::{LinkIds, PrefixSid, Sid, SrCap};
 use std::alloc::{AllocError, AllocGlobal, Global};
+use std::process::Abort;
 
 /// A bidirectional link between two nodes, numbered from 1, with one metric both ways.
 #[derive(Clone, Copy, Debug)]
@@ -70,11 +71,13 @@ fn prefix(alloc: Global, node: u32) -> Result<Part, AllocError> {
     }))
 }
 
-/// What a node announces: its labels, its prefix, and its links in the order of the pairs.
-fn parts_of(alloc: Global, node: u32, pairs: &[Pair]) -> Result<Vec<Part>, AllocError> {
-    let mut parts = Vec::new(alloc);
-    parts.push(labels(alloc)?)?;
-    parts.push(prefix(alloc, node)?)?;
+/// Appends a node's links, in the order of the pairs.
+fn push_links(
+    alloc: Global,
+    node: u32,
+    pairs: &[Pair],
+    parts: &mut Vec<Part>,
+) -> Result<(), AllocError> {
     let mut number = 0u32;
     for pair in pairs {
         number = number.wrapping_add(1);
@@ -85,17 +88,20 @@ fn parts_of(alloc: Global, node: u32, pairs: &[Pair]) -> Result<Vec<Part>, Alloc
             parts.push(link(alloc, pair.low, number, pair.metric))?;
         }
     }
+    Ok(())
+}
+
+/// What a node announces: its labels, its prefix, and its links in the order of the pairs.
+fn parts_of(alloc: Global, node: u32, pairs: &[Pair]) -> Result<Vec<Part>, AllocError> {
+    let mut parts = vec![in alloc; labels(alloc)?, prefix(alloc, node)?]?;
+    push_links(alloc, node, pairs, &mut parts)?;
     Ok(parts)
 }
 
-/// Appends the line that gives a node's PDU.
-fn put_node(
-    alloc: Global,
-    node: u32,
-    pairs: &[Pair],
-    script: &mut Vec<u8>,
-) -> Result<(), AllocError> {
-    let lsp = Lsp {
+/// A node's PDU.
+fn lsp_of(alloc: Global, node: u32, pairs: &[Pair]) -> Result<Lsp, AllocError> {
+    let parts = parts_of(alloc, node, pairs)?;
+    Ok(Lsp {
         lifetime: 1200,
         id: LspId {
             system: system(node),
@@ -105,64 +111,56 @@ fn put_node(
         sequence: 1,
         checksum: 0,
         flags: 3,
-        parts: Parts::new(alloc, parts_of(alloc, node, pairs)?)?,
-    };
-    if !in_range(&lsp) {
-        return Ok(());
-    }
-    let octets = match write_lsp(alloc, &lsp) {
-        Ok(octets) => octets,
-        Err(_) => return Ok(()),
-    };
+        parts: Parts::new(alloc, parts)?,
+    })
+}
+
+/// Appends the line that gives these octets.
+fn put_octets(alloc: Global, octets: &[u8], script: &mut Vec<u8>) -> Result<(), AllocError> {
     script.extend_from_slice(b"lsp ")?;
-    script.extend_from_slice(hex::encode(alloc, octets.as_slice())?.as_bytes())?;
+    script.extend_from_slice(hex::encode(alloc, octets)?.as_bytes())?;
     script.push(b'\n')?;
     Ok(())
 }
 
-/// The status with which the program ended, and what it answered.
-#[derive(Drop)]
-struct Ran {
-    status: u8,
-    text: Vec<u8>,
+/// Appends the line that gives the PDU.
+fn put_lsp(alloc: Global, lsp: &Lsp, script: &mut Vec<u8>) -> Result<(), AllocError> {
+    if !in_range(lsp) {
+        return Ok(());
+    }
+    match write_lsp(alloc, lsp) {
+        Ok(octets) => put_octets(alloc, &octets, script),
+        Err(_) => Ok(()),
+    }
 }
 
-/// What the program answers to the nodes' PDUs, a commit, and a question, with its status.
-fn answers<R: AllocGlobal + Runtime + 'static>(
-    rt: &R,
+/// Appends the line that gives a node's PDU.
+fn put_node(
+    alloc: Global,
+    node: u32,
+    pairs: &[Pair],
+    script: &mut Vec<u8>,
+) -> Result<(), AllocError> {
+    let lsp = lsp_of(alloc, node, pairs)?;
+    let put = put_lsp(alloc, &lsp, script);
+    drop(lsp);
+    put
+}
+
+/// The script of the nodes' PDUs, a commit, and a question.
+fn script_of(
+    alloc: Global,
     nodes: u32,
     pairs: &[Pair],
     question: &[u8],
-) -> Result<Ran, AllocError> {
-    let alloc = rt.alloc();
+) -> Result<Vec<u8>, AllocError> {
     let mut script = Vec::new(alloc);
     for node in 1..=nodes {
         put_node(alloc, node, pairs, &mut script)?;
     }
     script.extend_from_slice(b"commit\n")?;
     script.extend_from_slice(question)?;
-    let words = words(alloc, "run")?;
-    let mut source = SteadySource::new(script);
-    let mut sink = SteadySink::new(alloc);
-    let status = run(rt, words.as_slice(), &mut source, &mut sink)?;
-    let text = Vec::from_slice(alloc, sink.bytes())?;
-    Ok(Ran { status, text })
-}
-
-/// The last line that the program answers to them, with its status.
-fn last_answer<R: AllocGlobal + Runtime + 'static>(
-    rt: &R,
-    nodes: u32,
-    pairs: &[Pair],
-    question: &[u8],
-) -> Result<Ran, AllocError> {
-    let alloc = rt.alloc();
-    let Ran { status, text } = answers(rt, nodes, pairs, question)?;
-    let last = match text.split(|byte| *byte == b'\n').rev().nth(1) {
-        Some(line) => Vec::from_slice(alloc, line)?,
-        None => Vec::new(alloc),
-    };
-    Ok(Ran { status, text: last })
+    Ok(script)
 }
 
 /// A chain of nodes, each pair at the greatest metric.
@@ -193,42 +191,89 @@ fn complete(alloc: Global, nodes: u32) -> Result<Vec<Pair>, AllocError> {
     Ok(pairs)
 }
 
+/// A domain of these nodes and pairs, and a question, with the status and the last answer.
+fn check_domain<R: AllocGlobal + Runtime + Abort + 'static>(
+    rt: &R,
+    nodes: u32,
+    pairs: Vec<Pair>,
+    question: &[u8],
+    expected: (u8, &[u8]),
+    name: &str,
+) -> Result<(), AllocError> {
+    let script = script_of(rt.alloc(), nodes, &pairs, question);
+    drop(pairs);
+    check_last_answers(rt, script?, expected, name)
+}
+
 #[test]
 fn chains_have_at_most_256_nodes(rt: HostRuntime) -> Result<(), AllocError> {
-    let alloc = rt.alloc();
-    let longest = chain(alloc, 256)?;
-    let far = last_answer(&rt, 256, &longest, b"dist 0000.0000.0001 0000.0000.0100\n")?;
-    assert_eq!(rt; far.text.as_slice(), b"dist 4278189570".as_slice());
-    assert_eq!(rt; far.status, 0);
-    let longer = chain(alloc, 257)?;
-    let refused = last_answer(&rt, 257, &longer, b"")?;
-    assert_eq!(rt;
-        refused.text.as_slice(),
-        b"refused 258 18 TooManyNodes 257".as_slice()
-    );
-    assert_eq!(rt; refused.status, 1);
+    let cases: [(&str, u32, &[u8], u8, &[u8]); 2] = [
+        (
+            "the longest chain",
+            256,
+            b"dist 0000.0000.0001 0000.0000.0100\n",
+            0,
+            b"\ndist 4278189570\n",
+        ),
+        (
+            "a chain of a node more",
+            257,
+            b"",
+            1,
+            b"\nrefused 258 18 TooManyNodes 257\n",
+        ),
+    ];
+    for (name, nodes, question, status, answers) in cases {
+        let pairs = chain(rt.alloc(), nodes)?;
+        check_domain(&rt, nodes, pairs, question, (status, answers), name)?;
+    }
     Ok(())
 }
 
 #[test]
 fn domains_have_at_most_2_048_links(rt: HostRuntime) -> Result<(), AllocError> {
-    let alloc = rt.alloc();
-    let pairs = complete(alloc, 46)?;
-    let refused = last_answer(&rt, 46, &pairs, b"")?;
-    assert_eq!(rt;
-        refused.text.as_slice(),
-        b"refused 47 19 TooManyLinks 2070".as_slice()
-    );
-    assert_eq!(rt; refused.status, 1);
-    Ok(())
+    let pairs = complete(rt.alloc(), 46)?;
+    let answers: &[u8] = b"\nrefused 47 19 TooManyLinks 2070\n";
+    check_domain(
+        &rt,
+        46,
+        pairs,
+        b"",
+        (1, answers),
+        "46 nodes, each with each",
+    )
 }
 
-/// Appends a node's system id.
-fn put_system(node: u32, text: &mut Vec<u8>) -> Result<(), AllocError> {
+/// A node's system id, as it is written.
+fn written(node: u32) -> [u8; 14] {
     const DIGITS: &[u8; 16] = b"0123456789abcdef";
-    text.extend_from_slice(b"0000.0000.00")?;
-    text.push(DIGITS[(node / 16 % 16) as usize])?;
-    text.push(DIGITS[(node % 16) as usize])?;
+    let mut text = *b"0000.0000.0000";
+    text[12] = DIGITS[(node / 16 % 16) as usize];
+    text[13] = DIGITS[(node % 16) as usize];
+    text
+}
+
+/// Appends the line of a node to which no way is left where a link of a chain fails.
+fn put_lost_node(
+    kind: &[u8],
+    from: u32,
+    to: u32,
+    lost: u32,
+    text: &mut Vec<u8>,
+) -> Result<(), AllocError> {
+    for piece in [
+        b"repair ".as_slice(),
+        kind,
+        b" ",
+        &written(from),
+        b">",
+        &written(to),
+        b"#1 to ",
+        &written(lost),
+        b" uncovered nopath\n",
+    ] {
+        text.extend_from_slice(piece)?;
+    }
     Ok(())
 }
 
@@ -243,56 +288,88 @@ fn put_lost(
 ) -> Result<(), AllocError> {
     for lost in 1..=nodes {
         let behind = if to > from { lost > from } else { lost < from };
-        if !behind || kind == b"node".as_slice() && lost == to {
-            continue;
+        let fails = kind == b"node".as_slice() && lost == to;
+        if behind && !fails {
+            put_lost_node(kind, from, to, lost, text)?;
         }
-        text.extend_from_slice(b"repair ")?;
-        text.extend_from_slice(kind)?;
-        text.push(b' ')?;
-        put_system(from, text)?;
-        text.push(b'>')?;
-        put_system(to, text)?;
-        text.extend_from_slice(b"#1 to ")?;
-        put_system(lost, text)?;
-        text.extend_from_slice(b" uncovered nopath\n")?;
     }
     Ok(())
 }
 
-/// The lines of the audit of a chain.
-fn lost_lines(alloc: Global, nodes: u32) -> Result<Vec<u8>, AllocError> {
-    let mut text = Vec::new(alloc);
+/// Appends the lines of the audit of a chain.
+fn put_lost_lines(nodes: u32, text: &mut Vec<u8>) -> Result<(), AllocError> {
     for kind in [b"link".as_slice(), b"node".as_slice(), b"risk".as_slice()] {
         for from in 1..=nodes {
             if from > 1 {
-                put_lost(nodes, kind, from, from.wrapping_sub(1), &mut text)?;
+                put_lost(nodes, kind, from, from.wrapping_sub(1), text)?;
             }
             if from < nodes {
-                put_lost(nodes, kind, from, from.wrapping_add(1), &mut text)?;
+                put_lost(nodes, kind, from, from.wrapping_add(1), text)?;
             }
         }
     }
-    Ok(text)
+    Ok(())
+}
+
+/// Appends what the program answers to the nodes' PDUs and a commit, with status 0.
+fn put_opening<R: AllocGlobal + Runtime + Abort + 'static>(
+    rt: &R,
+    nodes: u32,
+    pairs: &[Pair],
+    text: &mut Vec<u8>,
+) -> Result<(), AllocError> {
+    let mut source = SteadySource::new(script_of(rt.alloc(), nodes, pairs, b"")?);
+    let mut sink = SteadySink::new(rt.alloc());
+    let ended = run(rt, "run", &mut source, &mut sink);
+    drop(source);
+    let checked = check_last(rt, ended, sink.bytes(), (0, b""), "the nodes alone");
+    let put = text.extend_from_slice(sink.bytes());
+    drop(sink);
+    checked?;
+    put
+}
+
+/// The nodes' PDUs, a commit, and the question are answered with this text, and with status 0.
+fn check_question<R: AllocGlobal + Runtime + Abort + 'static>(
+    rt: &R,
+    nodes: u32,
+    pairs: &[Pair],
+    question: &[u8],
+    text: &[u8],
+) -> Result<(), AllocError> {
+    let script = script_of(rt.alloc(), nodes, pairs, question)?;
+    check_script(rt, script, (0, text), "the nodes and a question")
+}
+
+/// The text has more bytes than are answered at once.
+fn check_long(rt: &impl Abort, text: &[u8]) {
+    assert!(rt; text.len() > 8_388_608);
+}
+
+/// The audit of a chain is answered whole, as the last line without a line feed, and before another.
+fn check_audit<R: AllocGlobal + Runtime + Abort + 'static>(
+    rt: &R,
+    nodes: u32,
+    pairs: &[Pair],
+    text: &mut Vec<u8>,
+) -> Result<(), AllocError> {
+    put_opening(rt, nodes, pairs, text)?;
+    put_lost_lines(nodes, text)?;
+    text.extend_from_slice(b"audit version 1 covered 0 nopath 119002 nolist 0 toodeep 0\n")?;
+    check_question(rt, nodes, pairs, b"audit full", text)?;
+    text.extend_from_slice(b"show version 1 nodes 200 links 398 depth 3 staged 0\n")?;
+    check_long(rt, text);
+    check_question(rt, nodes, pairs, b"audit full\nshow\n", text)
 }
 
 /// Such an audit has more than eight million bytes, and is answered in parts; also where it is the last line and has no
 /// line feed.
 #[test]
 fn a_long_audit_is_answered_whole(rt: HostRuntime) -> Result<(), AllocError> {
-    let alloc = rt.alloc();
-    let pairs = chain(alloc, 200)?;
-    let before = answers(&rt, 200, &pairs, b"")?;
-    let whole = answers(&rt, 200, &pairs, b"audit full\nshow\n")?;
-    let last = answers(&rt, 200, &pairs, b"audit full")?;
-    assert_eq!(rt; before.status, 0);
-    assert_eq!(rt; whole.status, 0);
-    assert_eq!(rt; last.status, 0);
-    let mut expected = before.text;
-    expected.append(&mut lost_lines(alloc, 200)?)?;
-    expected.extend_from_slice(b"audit version 1 covered 0 nopath 119002 nolist 0 toodeep 0\n")?;
-    assert_eq!(rt; last.text.as_slice() == expected.as_slice(), true);
-    expected.extend_from_slice(b"show version 1 nodes 200 links 398 depth 3 staged 0\n")?;
-    assert_eq!(rt; whole.text.len() > 8_388_608, true);
-    assert_eq!(rt; whole.text.as_slice() == expected.as_slice(), true);
-    Ok(())
+    let pairs = chain(rt.alloc(), 200)?;
+    let mut text = Vec::new(rt.alloc());
+    let checked = check_audit(&rt, 200, &pairs, &mut text);
+    drop(text);
+    drop(pairs);
+    checked
 }

@@ -1,19 +1,17 @@
 //! The longest line, PDU and script, and as many edits and versions as there may be.
 
-use super::{run, words};
-use sr_base::{SteadySink, SteadySource};
+use super::{check_last_answers, check_script};
 use std::alloc::{AllocError, Global};
+use std::process::Abort;
 
 #[test]
 fn a_script_has_at_most_33_554_432_bytes(rt: HostRuntime) -> Result<(), AllocError> {
-    let alloc = rt.alloc();
-    let words = words(alloc, "run")?;
-    for (bytes, wanted) in [(33_554_432, 0), (33_554_433, 6)] {
-        let mut source = SteadySource::new(vec![in alloc; b'\n'; bytes]?);
-        let mut sink = SteadySink::new(alloc);
-        let status = run(&rt, words.as_slice(), &mut source, &mut sink)?;
-        assert_eq!(rt; status, wanted, "{bytes} bytes");
-        assert_eq!(rt; sink.bytes().len(), 0, "{bytes} bytes");
+    for (name, bytes, status) in [
+        ("the longest script", 33_554_432, 0),
+        ("a script of a byte more", 33_554_433, 6),
+    ] {
+        let script = vec![in rt.alloc(); b'\n'; bytes]?;
+        check_script(&rt, script, (status, b""), name)?;
     }
     Ok(())
 }
@@ -27,19 +25,22 @@ fn letters(alloc: Global, bytes: usize) -> Result<Vec<u8>, AllocError> {
 
 #[test]
 fn a_line_has_at_most_140_000_bytes(rt: HostRuntime) -> Result<(), AllocError> {
-    let alloc = rt.alloc();
-    let words = words(alloc, "run")?;
-    let cases: [(usize, &[u8]); 3] = [
-        (140_000, b"refused 1 1 UnknownWord\n"),
-        (140_001, b"refused 1 27 LineTooLong\n"),
-        (140_002, b"refused 1 27 LineTooLong\n"),
+    let cases: [(&str, usize, &[u8]); 3] = [
+        ("the longest line", 140_000, b"refused 1 1 UnknownWord\n"),
+        (
+            "a line of a byte more",
+            140_001,
+            b"refused 1 27 LineTooLong\n",
+        ),
+        (
+            "a line of two bytes more",
+            140_002,
+            b"refused 1 27 LineTooLong\n",
+        ),
     ];
-    for (bytes, answers) in cases {
-        let mut source = SteadySource::new(letters(alloc, bytes)?);
-        let mut sink = SteadySink::new(alloc);
-        let status = run(&rt, words.as_slice(), &mut source, &mut sink)?;
-        assert_eq!(rt; sink.bytes(), answers, "{bytes} bytes");
-        assert_eq!(rt; status, 1, "{bytes} bytes");
+    for (name, bytes, answers) in cases {
+        let line = letters(rt.alloc(), bytes)?;
+        check_script(&rt, line, (1, answers), name)?;
     }
     Ok(())
 }
@@ -64,56 +65,16 @@ fn longest_pdu(alloc: Global) -> Result<Vec<u8>, AllocError> {
     Ok(line)
 }
 
+/// The line is as long as this.
+fn check_length(rt: &impl Abort, line: &[u8], bytes: usize) {
+    assert_eq!(rt; line.len(), bytes);
+}
+
 #[test]
 fn a_pdu_has_at_most_65_535_octets(rt: HostRuntime) -> Result<(), AllocError> {
-    let alloc = rt.alloc();
-    let words = words(alloc, "run")?;
-    let line = longest_pdu(alloc)?;
-    assert_eq!(rt; line.len(), 131_074);
-    let mut source = SteadySource::new(line);
-    let mut sink = SteadySink::new(alloc);
-    let status = run(&rt, words.as_slice(), &mut source, &mut sink)?;
-    assert_eq!(rt; sink.bytes(), b"staged 1\n".as_slice());
-    assert_eq!(rt; status, 0);
-    Ok(())
-}
-
-/// A line that many times, and what follows.
-fn repeated(alloc: Global, line: &[u8], times: usize, last: &[u8]) -> Result<Vec<u8>, AllocError> {
-    let mut script = Vec::new(alloc);
-    for _ in 0..times {
-        script.extend_from_slice(line)?;
-    }
-    script.extend_from_slice(last)?;
-    Ok(script)
-}
-
-#[test]
-fn edits_and_versions_have_a_most(rt: HostRuntime) -> Result<(), AllocError> {
-    let alloc = rt.alloc();
-    let words = words(alloc, "run")?;
-    let cases: [(&[u8], usize, &[u8], &[u8]); 2] = [
-        (
-            b"depth 3\n",
-            4_097,
-            b"drop\n",
-            b"staged 4096\nrefused 4097 6 StagedFull\ndropped 4096\n",
-        ),
-        (
-            b"commit\n",
-            65_536,
-            b"",
-            b"version 65535 nodes 0 links 0\nrefused 65536 28 VersionsFull\n",
-        ),
-    ];
-    for (line, times, last, answers) in cases {
-        let mut source = SteadySource::new(repeated(alloc, line, times, last)?);
-        let mut sink = SteadySink::new(alloc);
-        let status = run(&rt, words.as_slice(), &mut source, &mut sink)?;
-        assert!(rt; sink.bytes().ends_with(answers), "{times} lines");
-        assert_eq!(rt; status, 1, "{times} lines");
-    }
-    Ok(())
+    let line = longest_pdu(rt.alloc())?;
+    check_length(&rt, &line, 131_074);
+    check_script(&rt, line, (0, b"staged 1\n"), "the longest PDU")
 }
 
 /// A pair of nodes, and a certificate that is opened.
@@ -123,17 +84,58 @@ const OPENED: &[u8] =
     commit\n\
     proof open link 0000.0000.0001 0000.0000.0002 1 0000.0000.0002\n";
 
+/// What begins a script, a line that stands in it many times, what ends it, and the last answers.
+struct Repeated {
+    name: &'static str,
+    first: &'static [u8],
+    line: &'static [u8],
+    times: usize,
+    last: &'static [u8],
+    answers: &'static [u8],
+}
+
+const REPEATED: [Repeated; 3] = [
+    Repeated {
+        name: "4,097 edits",
+        first: b"",
+        line: b"depth 3\n",
+        times: 4_097,
+        last: b"drop\n",
+        answers: b"staged 4096\nrefused 4097 6 StagedFull\ndropped 4096\n",
+    },
+    Repeated {
+        name: "65,536 versions",
+        first: b"",
+        line: b"commit\n",
+        times: 65_536,
+        last: b"",
+        answers: b"version 65535 nodes 0 links 0\nrefused 65536 28 VersionsFull\n",
+    },
+    Repeated {
+        name: "a certificate of 4,097 lines",
+        first: OPENED,
+        line: b"proof row 0\n",
+        times: 4_096,
+        last: b"proof done none\n",
+        answers: b"proof 4096\nrefused 4100 31 ProofFull\nrejected 1\n",
+    },
+];
+
+/// The script of the case.
+fn script_of(alloc: Global, case: &Repeated) -> Result<Vec<u8>, AllocError> {
+    let mut script = Vec::from_slice(alloc, case.first)?;
+    for _ in 0..case.times {
+        script.extend_from_slice(case.line)?;
+    }
+    script.extend_from_slice(case.last)?;
+    Ok(script)
+}
+
 #[test]
-fn a_certificate_has_at_most_4_096_lines(rt: HostRuntime) -> Result<(), AllocError> {
-    let alloc = rt.alloc();
-    let words = words(alloc, "run")?;
-    let mut script = Vec::from_slice(alloc, OPENED)?;
-    script.extend_from_slice(&repeated(alloc, b"proof row 0\n", 4_096, b"proof done none\n")?)?;
-    let mut source = SteadySource::new(script);
-    let mut sink = SteadySink::new(alloc);
-    let status = run(&rt, words.as_slice(), &mut source, &mut sink)?;
-    let answers: &[u8] = b"proof 4096\nrefused 4100 31 ProofFull\nrejected 1\n";
-    assert!(rt; sink.bytes().ends_with(answers));
-    assert_eq!(rt; status, 1);
+fn edits_versions_and_certificates_have_a_most(rt: HostRuntime) -> Result<(), AllocError> {
+    for case in &REPEATED {
+        let script = script_of(rt.alloc(), case)?;
+        check_last_answers(&rt, script, (1, case.answers), case.name)?;
+    }
     Ok(())
 }

@@ -1,8 +1,9 @@
 //! Scripts that are made from two numbers, and then run. The answers are those of an independent program.
 
-use super::{run, words};
+use super::{check_end, check_script, run};
 use sr_base::{MemorySink, Runtime, SteadySink, SteadySource};
 use std::alloc::{AllocError, AllocGlobal};
+use std::process::Abort;
 
 /// The answers to the script of three nodes from 0.
 const THREE_FROM_0: &str = "staged 1\n\
@@ -38,49 +39,70 @@ const SIXTY_FOUR_FROM_7: &str =
     audit version 3 covered 11328 nopath 638 nolist 0 toodeep 0\n\
     show version 3 nodes 64 links 148 depth 3 staged 0\n";
 
-/// Whether these words end with 0, and make a script of this many bytes, and whether the script is answered like this,
-/// with 0.
-fn is_answered<R: AllocGlobal + Runtime + 'static>(
+/// The script that this command makes has this many bytes, and with it the status is 0.
+fn check_making<R: AllocGlobal + Runtime + Abort + 'static>(
     rt: &R,
-    text: &str,
+    command: &str,
+    script: &mut SteadySink,
+    bytes: usize,
+) -> Result<(), AllocError> {
+    let mut unread = SteadySource::new(Vec::new(rt.alloc()));
+    let ended = run(rt, command, &mut unread, script);
+    drop(unread);
+    assert_eq!(rt; (ended?, script.bytes().len()), (0, bytes), "{command}");
+    Ok(())
+}
+
+/// The script that this command makes has this many bytes, and is answered like this. Each status is 0.
+fn check_made<R: AllocGlobal + Runtime + Abort + 'static>(
+    rt: &R,
+    command: &str,
     bytes: usize,
     answers: &str,
-) -> Result<bool, AllocError> {
-    let alloc = rt.alloc();
-    let make = words(alloc, text)?;
-    let mut unread = SteadySource::new(Vec::new(alloc));
-    let mut script = SteadySink::new(alloc);
-    let made = run(rt, make.as_slice(), &mut unread, &mut script)?;
-    let command = words(alloc, "run")?;
-    let mut source = SteadySource::new(Vec::from_slice(alloc, script.bytes())?);
-    let mut sink = SteadySink::new(alloc);
-    let status = run(rt, command.as_slice(), &mut source, &mut sink)?;
-    Ok(
-        made == 0
-            && script.bytes().len() == bytes
-            && status == 0
-            && sink.bytes() == answers.as_bytes(),
-    )
+) -> Result<(), AllocError> {
+    let mut sink = SteadySink::new(rt.alloc());
+    let checked = check_making(rt, command, &mut sink, bytes);
+    let script = Vec::from_slice(rt.alloc(), sink.bytes());
+    drop(sink);
+    checked?;
+    check_script(rt, script?, (0, answers.as_bytes()), command)
 }
 
 #[test]
 fn made_scripts_are_answered(rt: HostRuntime) -> Result<(), AllocError> {
-    assert!(rt; is_answered(&rt, "make --nodes 3 --start 0", 1150, THREE_FROM_0)?);
-    assert!(rt; is_answered(&rt, "make --start=7 --nodes=64", 24_361, SIXTY_FOUR_FROM_7)?);
-    Ok(())
+    check_made(&rt, "make --nodes 3 --start 0", 1150, THREE_FROM_0)?;
+    check_made(&rt, "make --start=7 --nodes=64", 24_361, SIXTY_FOUR_FROM_7)
+}
+
+/// Where the first call of the sink fails, nothing is made, and the status is 4. The source is as it was: a run over it
+/// and the sink answers its line.
+fn check_failed_making<R: AllocGlobal + Runtime + Abort + 'static>(
+    rt: &R,
+    source: &mut SteadySource,
+    sink: &mut MemorySink,
+) -> Result<(), AllocError> {
+    let made = run(rt, "make --nodes 3 --start 0", source, sink);
+    check_end(rt, made, sink.bytes(), (4, b""), "made")?;
+    let answered = run(rt, "run", source, sink);
+    let answers: &[u8] = b"version 1 nodes 0 links 0\n";
+    check_end(rt, answered, sink.bytes(), (0, answers), "answered")
+}
+
+/// What is to hold where the first call of the sink fails does.
+fn check_first_call<R: AllocGlobal + Runtime + Abort + 'static>(
+    rt: &R,
+    source: &mut SteadySource,
+) -> Result<(), AllocError> {
+    let mut sink = MemorySink::new(rt.alloc(), vec![in rt.alloc(); 0u64; 1]?);
+    let checked = check_failed_making(rt, source, &mut sink);
+    drop(sink);
+    checked
 }
 
 #[test]
 fn a_script_is_made_over_a_failing_sink(rt: HostRuntime) -> Result<(), AllocError> {
-    let alloc = rt.alloc();
-    let make = words(alloc, "make --nodes 3 --start 0")?;
-    let mut source = SteadySource::new(Vec::from_slice(alloc, b"commit\n")?);
-    let mut sink = MemorySink::new(alloc, vec![in alloc; 0u64; 1]?);
-    assert_eq!(rt; run(&rt, make.as_slice(), &mut source, &mut sink)?, 4);
-    assert_eq!(rt; sink.bytes().len(), 0);
-    // The source is as it was: a run over it answers its line.
-    let command = words(alloc, "run")?;
-    assert_eq!(rt; run(&rt, command.as_slice(), &mut source, &mut sink)?, 0);
-    assert_eq!(rt; sink.bytes(), b"version 1 nodes 0 links 0\n".as_slice());
-    Ok(())
+    let mut source = SteadySource::new(Vec::from_slice(rt.alloc(), b"commit\n")?);
+    let checked = check_first_call(&rt, &mut source);
+    drop(source);
+    checked
 }

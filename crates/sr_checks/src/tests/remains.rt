@@ -3,16 +3,14 @@
 ghost use Rattle.std.specs.Prelude.{◌≡◌, ◌<◌};
 ghost use Rattle.sr_model.specs.Case.{IsCase};
 
-use super::cases::Case as Script;
-use super::pairs::PAIRS;
-use super::rings::RINGS;
-use super::versions::{case_of, version_of};
+use super::versions::{case_of, leave, version_of};
 use sr_model::{Case, Kind, NodeNo};
 use sr_post::{post, walks};
 use sr_repair::Version;
 use sr_spf::Steps;
 use std::alloc::{AllocError, Global};
 use std::marker::Brand;
+use std::process::Abort;
 use std::sync::ledger::{Blank, Ledger};
 use std::test::Fail;
 
@@ -20,7 +18,6 @@ use std::test::Fail;
 /// whether the node stands on a shortest walk to an affected destination.
 #[derive(Clone, Copy)]
 struct Failure {
-    scripts: &'static [Script],
     name: &'static str,
     kind: Kind,
     distances: &'static [Option<u64>],
@@ -30,7 +27,6 @@ struct Failure {
 const FAILURES: [Failure; 6] = [
     // Nodes 2 and 3 are affected, and the other way round is left.
     Failure {
-        scripts: &RINGS,
         name: "a ring of four",
         kind: Kind::Link,
         distances: &[Some(0), Some(3), Some(2), Some(1)],
@@ -38,7 +34,6 @@ const FAILURES: [Failure; 6] = [
     },
     // Node 3 is affected.
     Failure {
-        scripts: &RINGS,
         name: "a ring of four",
         kind: Kind::Node,
         distances: &[Some(0), None, Some(2), Some(1)],
@@ -46,7 +41,6 @@ const FAILURES: [Failure; 6] = [
     },
     // Nodes 2 and 4 are affected: 1, 3, 4, 2 are left in a row.
     Failure {
-        scripts: &PAIRS,
         name: "a square",
         kind: Kind::Link,
         distances: &[Some(0), Some(3), Some(1), Some(2)],
@@ -54,7 +48,6 @@ const FAILURES: [Failure; 6] = [
     },
     // Node 2 is affected, and no walk leads there.
     Failure {
-        scripts: &PAIRS,
         name: "a single pair",
         kind: Kind::Link,
         distances: &[Some(0), None],
@@ -62,7 +55,6 @@ const FAILURES: [Failure; 6] = [
     },
     // Node 2 is affected, and the second pair leads there.
     Failure {
-        scripts: &PAIRS,
         name: "two pairs that share a risk",
         kind: Kind::Link,
         distances: &[Some(0), Some(1), Some(1)],
@@ -70,7 +62,6 @@ const FAILURES: [Failure; 6] = [
     },
     // Node 2 is affected, and both pairs to it fail.
     Failure {
-        scripts: &PAIRS,
         name: "two pairs that share a risk",
         kind: Kind::Risk,
         distances: &[Some(0), Some(2), Some(1)],
@@ -112,22 +103,41 @@ fn remains_by<L: Ledger>(
     })
 }
 
+/// These distances and walks are left.
+fn check_remains(rt: &impl Abort, remains: &Remains, failure: &Failure) {
+    assert!(rt;
+        remains.distances.as_slice() == failure.distances,
+        "distances in {}",
+        failure.name
+    );
+    assert!(rt;
+        remains.on_walks.as_slice() == failure.on_walks,
+        "walks in {}",
+        failure.name
+    );
+}
+
+/// The failure leaves what it is to leave in this version.
+fn check_failure(
+    rt: &impl Abort,
+    alloc: Global,
+    version: &Version,
+    failure: &Failure,
+) -> Result<(), Fail> {
+    let case = case_of(version, failure.kind)?;
+    let remains = remains_by::<Brand>(alloc, version, case, Blank::new(1))?;
+    check_remains(rt, &remains, failure);
+    drop(remains);
+    Ok(())
+}
+
 #[test]
 fn failures_leave_distances_and_walks(rt: HostRuntime) -> Result<(), Fail> {
     for failure in &FAILURES {
-        let version = version_of(&rt, failure.scripts, failure.name)?;
-        let case = case_of(&version, failure.kind)?;
-        let remains = remains_by::<Brand>(rt.alloc(), &version, case, Blank::new(1))?;
-        assert!(rt;
-            remains.distances.as_slice() == failure.distances,
-            "distances in {}",
-            failure.name
-        );
-        assert!(rt;
-            remains.on_walks.as_slice() == failure.on_walks,
-            "walks in {}",
-            failure.name
-        );
+        let version = version_of(&rt, failure.name)?;
+        let checked = check_failure(&rt, rt.alloc(), &version, failure);
+        leave(version);
+        checked?;
     }
     Ok(())
 }

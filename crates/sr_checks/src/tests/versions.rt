@@ -4,6 +4,8 @@ ghost use Rattle.std.specs.Prelude.{◌≡◌, ◌<◌, IfOk};
 ghost use Rattle.sr_model.specs.Case.{IsCase};
 
 use super::cases::Case as Script;
+use super::pairs::PAIRS;
+use super::rings::RINGS;
 use sr_domain::net_of;
 use sr_labels::Net;
 use sr_lsdb::Editor;
@@ -17,17 +19,55 @@ use std::sync::ledger::{Blank, Ledger};
 use std::test::Fail;
 use std::thread::Threads;
 
-/// The facts that the PDUs of the script announce, accepted.
-fn facts_of(alloc: Global, script: &str) -> Result<Editor, Fail> {
-    let mut editor = Editor::new(alloc);
+/// Stages the PDU of these hexadecimal digits.
+fn stage(alloc: Global, editor: &mut Editor, digits: &str) -> Result<(), Fail> {
+    let octets = hex::decode(alloc, digits.as_bytes())?;
+    let lsp = read_lsp(alloc, &octets);
+    drop(octets);
+    editor.stage_lsp(lsp?)?;
+    Ok(())
+}
+
+/// Accepts the facts that the PDUs of the script announce, and makes their net.
+fn net_in(alloc: Global, editor: &mut Editor, script: &str) -> Result<Net, Fail> {
     for line in script.lines() {
         if let Some(digits) = line.strip_prefix("lsp ") {
-            let octets = hex::decode(alloc, digits.as_bytes())?;
-            editor.stage_lsp(read_lsp(alloc, &octets)?)?;
+            stage(alloc, editor, digits)?;
         }
     }
     editor.accept();
-    Ok(editor)
+    Ok(net_of(alloc, editor.accepted())?)
+}
+
+/// The net that the PDUs of the script announce.
+fn net_announced(alloc: Global, script: &str) -> Result<Net, Fail> {
+    let mut editor = Editor::new(alloc);
+    let net = net_in(alloc, &mut editor, script);
+    drop(editor);
+    net
+}
+
+/// The script of this name in the table.
+fn find<'a>(scripts: &'a [Script], name: &str) -> Option<&'a str> {
+    for script in scripts {
+        if script.name == name {
+            return Some(script.script);
+        }
+    }
+    None
+}
+
+/// The script of this name, of a ring or of bidirectional links. The tables are named here alone, since a function is proved
+/// with all the scripts of the tables that it names.
+fn script_named(name: &str) -> Result<&'static str, Fail> {
+    let found = match find(&RINGS, name) {
+        Some(script) => Some(script),
+        None => find(&PAIRS, name),
+    };
+    match found {
+        Some(script) => Ok(script),
+        None => Err(Fail::new("no such script")),
+    }
 }
 
 /// The first version of the net, with its searches counted from nothing.
@@ -45,20 +85,14 @@ fn opening<L: Ledger>(
 }
 
 /// The version of the domain that the PDUs of the script of this name announce.
-pub fn version_of<R: AllocGlobal + Threads + Sync>(
-    rt: &R,
-    scripts: &[Script],
-    name: &str,
-) -> Result<Version, Fail> {
-    let alloc = rt.alloc();
-    for script in scripts {
-        if script.name == name {
-            let editor = facts_of(alloc, script.script)?;
-            let net = net_of(alloc, editor.accepted())?;
-            return Ok(opening::<Brand>(rt, alloc, net, Blank::new(1))?);
-        }
-    }
-    Err(Fail::new("no such script"))
+pub fn version_of<R: AllocGlobal + Threads + Sync>(rt: &R, name: &str) -> Result<Version, Fail> {
+    let net = net_announced(rt.alloc(), script_named(name)?)?;
+    Ok(opening::<Brand>(rt, rt.alloc(), net, Blank::new(1))?)
+}
+
+/// Lets a version go that a test has looked at. All that it drops is written out here, once for all tests.
+pub fn leave(version: Version) {
+    drop(version);
 }
 
 /// The case of this kind that protects the first link from node 1 to node 2.

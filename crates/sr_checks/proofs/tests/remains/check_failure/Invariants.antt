@@ -1,4 +1,4 @@
-use Rattle.sr_checks.proofs.tests.remains.failures_leave_distances_and_walks.Given as goal
+use Rattle.sr_checks.proofs.tests.remains.check_failure.Given as goal
 
 abbrev pub ghosts-remains_by : goal.ghosts-remains_by
 ghosts-remains_by g a = record { name = a.blank.name; parts = a.blank.parts }
