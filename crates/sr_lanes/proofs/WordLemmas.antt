@@ -193,6 +193,14 @@ words-none (suc (suc zero)) = refl
 words-none (suc (suc (suc zero))) = refl
 words-none (suc (suc (suc (suc k)))) = refl
 
+-- each of four words is 0
+pub four-none : (xs : List ℕ) → get_or xs 0 0 ≡ 0 → get_or xs 1 0 ≡ 0 → get_or xs 2 0 ≡ 0 → get_or xs 3 0 ≡ 0 → (k : ℕ) → k < 4 → get_or xs k 0 ≡ 0
+four-none xs a b c d zero lt = a
+four-none xs a b c d (suc zero) lt = b
+four-none xs a b c d (suc (suc zero)) lt = c
+four-none xs a b c d (suc (suc (suc zero))) lt = d
+four-none xs a b c d (suc (suc (suc (suc k)))) lt = absurd (omega arith)
+
 pub words-beyond : (xs : List ℕ) → AreWords xs → ((k : ℕ) → k < 4 → get_or xs k 0 ≡ 0) → (k : ℕ) → get_or xs k 0 ≡ 0
 words-beyond xs x before k = elim (cases_lt k 4) [
   | inl less ↦ before k less

@@ -1,6 +1,6 @@
 //! What is asked of sets of nodes, and what is made of them.
 
-ghost use Rattle.std.specs.Prelude.{◌≡◌, ℕ, ◌-◌, ◌^◌, ◌<◌, ◌≤◌, min, ◌↔◌, ◌==◌, ◌&&◌, ◌||◌, not, false, nat_lt, length, slice_index_or, IsTrue, MatchOption};
+ghost use Rattle.std.specs.Prelude.{◌≡◌, ◌≢◌, ℕ, ◌-◌, ◌^◌, ◌<◌, ◌≤◌, min, ◌↔◌, ◌==◌, ◌&&◌, ◌||◌, not, false, nat_lt, length, slice_index, slice_index_or, IsTrue, MatchOption};
 ghost use Rattle.sr_lanes.specs.Bits.{is_in, member_count, IsFirstIn, IsWithout};
 
 use crate::limits::{A_WORD, NODES_AT_MOST};
@@ -156,22 +156,41 @@ impl NodeBits {
         None
     }
 
+    /// Takes the least number out of word k, the first in which there is one.
+    #[inline(always)]
+    fn take_from(&mut self, k: usize) -> usize
+        requires k { k < 4 }
+        requires some { slice_index self.old.words k ≢ 0 }
+        requires none { (j : ℕ) → j < k → slice_index self.old.words j ≡ 0 }
+        ensures first { IsFirstIn self.old result }
+        ensures left { IsWithout self.old self.new result }
+    {
+        let word = self.words[k];
+        let bit = word.trailing_zeros() as usize;
+        let mut words = self.words;
+        words[k] = word & !(1 << bit);
+        *self = NodeBits { words };
+        A_WORD * k + bit
+    }
+
     /// Takes the least number out of the set.
     #[inline(always)]
     pub fn take_first(&mut self) -> Option<usize>
         ensures first { MatchOption result ((v : ℕ) → is_in self.old v ≡ false) (IsFirstIn self.old) }
         ensures left { MatchOption result (self.new ≡ self.old) (IsWithout self.old self.new) }
     {
-        // Word by word, so that what is left can stand in registers.
-        for k in 0..4 {
-            let word = self.words[k];
-            if word != 0 {
-                let bit = word.trailing_zeros() as usize;
-                let mut words = self.words;
-                words[k] = word & !(1 << bit);
-                *self = NodeBits { words };
-                return Some(A_WORD * k + bit);
-            }
+        // Each word by a number that is known, so that what is left can stand in registers.
+        if self.words[0] != 0 {
+            return Some(self.take_from(0));
+        }
+        if self.words[1] != 0 {
+            return Some(self.take_from(1));
+        }
+        if self.words[2] != 0 {
+            return Some(self.take_from(2));
+        }
+        if self.words[3] != 0 {
+            return Some(self.take_from(3));
         }
         None
     }
