@@ -29,38 +29,43 @@ is_open found pending v = not (is_in found v && not (is_in pending v))
 abbrev pub open_count : NodeBits → NodeBits → ℕ
 open_count found pending = count_below (is_open found pending) 256
 
--- the nodes before node v are put with those found and with those pending, of which v no longer is one
-pub record IsFollowed (v : ℕ) (before found pending found' pending' : NodeBits) : Type 0 where
+-- the nodes before node v, of which v is no longer pending, are found; those that weren't become pending
+pub record IsFollowed (v : ℕ) (found pending found' pending' : NodeBits) : Type 0 where
   pub was : is_in pending v ≡ true
   pub less : NodeBits
   pub taken : IsWithout pending less v
   pub more : NodeBits
-  pub new : (k : ℕ) → is_in more k ≡ (is_in before k && not (is_in found k))
-  pub found_is : (k : ℕ) → is_in found' k ≡ (is_in found k || is_in more k)
+  pub new : (k : ℕ) → is_in more k ≡ (is_in found' k && not (is_in found k))
+  pub stay : (k : ℕ) → is_in found k ≡ true → is_in found' k ≡ true
   pub pending_is : (k : ℕ) → is_in pending' k ≡ (is_in less k || is_in more k)
 
 -- a node that is put with those found is put with those pending too
-open_other : (f p b : Bool) → (p ≡ true → f ≡ true) → not ((f || (b && not f)) && not (p || (b && not f))) ≡ not (f && not p)
-open_other true true true h = refl
-open_other true true false h = refl
-open_other true false true h = refl
-open_other true false false h = refl
-open_other false true b h = absurd (true≢false (sym (h refl)))
-open_other false false true h = refl
-open_other false false false h = refl
+open_other : (f f' p : Bool) → (p ≡ true → f ≡ true) → (f ≡ true → f' ≡ true) → not (f' && not (p || (f' && not f))) ≡ not (f && not p)
+open_other true true true h stay = refl
+open_other true true false h stay = refl
+open_other true false p h stay = absurd (true≢false (sym (stay refl)))
+open_other false f' true h stay = absurd (true≢false (sym (h refl)))
+open_other false true false h stay = refl
+open_other false false false h stay = refl
 
 -- v was found before, and isn't pending
-open_here : (f b : Bool) → f ≡ true → not ((f || (b && not f)) && not (false || (b && not f))) ≡ false
-open_here true true h = refl
-open_here true false h = refl
-open_here false b h = absurd (true≢false (sym h))
+open_here : (f f' : Bool) → f ≡ true → (f ≡ true → f' ≡ true) → not (f' && not (false || (f' && not f))) ≡ false
+open_here true true h stay = refl
+open_here true false h stay = absurd (true≢false (sym (stay refl)))
+open_here false f' h stay = absurd (true≢false (sym h))
 
-module _ (v : ℕ) (before found pending found' pending' : NodeBits) (d : IsFollowed v before found pending found' pending') (inside : (k : ℕ) → is_in pending k ≡ true → is_in found k ≡ true) where
+-- what is in the first set, of which nothing is left without the second, is in the second
+pub left-none : (a b : Bool) → a ≡ true → (a && not b) ≡ false → b ≡ true
+left-none true true is none = refl
+left-none true false is none = absurd (true≢false none)
+left-none false b is none = absurd (true≢false (sym is))
+
+module _ (v : ℕ) (found pending found' pending' : NodeBits) (d : IsFollowed v found pending found' pending') (inside : (k : ℕ) → is_in pending k ≡ true → is_in found k ≡ true) where
   open-here : is_open found' pending' v ≡ false
-  open-here = rw (d.found_is v, d.pending_is v, d.new v, without-same pending d.less v d.taken) (open_here (is_in found v) (is_in before v) (inside v d.was))
+  open-here = rw (d.pending_is v, d.new v, without-same pending d.less v d.taken) (open_here (is_in found v) (is_in found' v) (inside v d.was) (d.stay v))
 
   open-other : (k : ℕ) → k ≢ v → is_open found' pending' k ≡ is_open found pending k
-  open-other k ne = rw (d.found_is k, d.pending_is k, d.new k, without-other pending d.less v k d.taken ne) (open_other (is_in found k) (is_in pending k) (is_in before k) (inside k))
+  open-other k ne = rw (d.pending_is k, d.new k, without-other pending d.less v k d.taken ne) (open_other (is_in found k) (is_in found' k) (is_in pending k) (inside k) (d.stay k))
 
   -- there are less such nodes
   pub open-less : v < 256 → open_count found' pending' < open_count found pending
@@ -107,29 +112,44 @@ before-all g x s cells v links u ends = (
   ),
 )
 
-module _ (g : Graph) (x : List Bool) (s : ℕ) (cells : List ℕ) (links : List LinkNo) (i : ℕ) (set : NodeBits) (tells : (u : ℕ) → IsTrue (is_in set u) ↔ IsBeforeBy g x s cells links i u) where
-  grown : (u : ℕ) → IsBeforeBy g x s cells links i u → IsBeforeBy g x s cells links (i + 1) u
-  grown u b = (b.0, (let lt : b.0 < i = b.1 in omega arith), b.2, b.3)
+-- the node is found, or one of the first links leads along the row from it
+abbrev pub IsFoundBy : Graph → List Bool → ℕ → List ℕ → List LinkNo → NodeBits → ℕ → ℕ → Type 0
+IsFoundBy g x s cells links found m u = (is_in found u ≡ true) ⊎ IsBeforeBy g x s cells links m u
+
+module _ (g : Graph) (x : List Bool) (s : ℕ) (cells : List ℕ) (links : List LinkNo) (found : NodeBits) (i : ℕ) (set : NodeBits) (tells : (u : ℕ) → IsTrue (is_in set u) ↔ IsFoundBy g x s cells links found i u) where
+  grown : (u : ℕ) → IsFoundBy g x s cells links found i u → IsFoundBy g x s cells links found (i + 1) u
+  grown u given = ⊎_elim (λ is. inl is) (λ b. inr (b.0, (let lt : b.0 < i = b.1 in omega arith), b.2, b.3)) given
 
   -- link number i leads along the row, so that its beginning is put in
   pub before-put : (more : NodeBits) (v : ℕ) → v ≡ tail g (number_at links i) → ((k : ℕ) → is_in more k ≡ (k == v || is_in set k))
-      → LeadsAlong g x s cells (number_at links i) → (u : ℕ) → IsTrue (is_in more u) ↔ IsBeforeBy g x s cells links (i + 1) u
+      → LeadsAlong g x s cells (number_at links i) → (u : ℕ) → IsTrue (is_in more u) ↔ IsFoundBy g x s cells links found (i + 1) u
   before-put more v at is along =
-      with-one set more v (IsBeforeBy g x s cells links i) (IsBeforeBy g x s cells links (i + 1)) tells is grown
-      (i, (omega arith), sym at, along)
-      (λ u b. ⊎_elim
+      with-one set more v (IsFoundBy g x s cells links found i) (IsFoundBy g x s cells links found (i + 1)) tells is grown
+      (inr (i, (omega arith), sym at, along))
+      (λ u given. ⊎_elim
+      (λ is'. inr (inl is'))
+      (λ b. ⊎_elim
       (λ (last : b.0 ≡ i). inl (sym b.2 ∙ ap (λ j. tail g (number_at links j)) last ∙ sym at))
-      (λ (ne : b.0 ≢ i). inr (b.0, (let lt : b.0 < i + 1 = b.1 in omega arith), b.2, b.3))
+      (λ (ne : b.0 ≢ i). inr (inr (b.0, (let lt : b.0 < i + 1 = b.1 in omega arith), b.2, b.3)))
       (cases_eq b.0 i))
+      given)
 
-  -- or it doesn't
-  pub before-pass : (LeadsAlong g x s cells (number_at links i) → ⊥) → (u : ℕ) → IsTrue (is_in set u) ↔ IsBeforeBy g x s cells links (i + 1) u
+  -- or it doesn't, or begins at a node that is in already
+  pub before-pass : (is_in set (tail g (number_at links i)) ≡ false → LeadsAlong g x s cells (number_at links i) → ⊥) → (u : ℕ) → IsTrue (is_in set u) ↔ IsFoundBy g x s cells links found (i + 1) u
   before-pass fails u = (
     λ yes. grown u ((tells u).0 yes),
-    λ b. ⊎_elim
-        (λ (last : b.0 ≡ i). absurd (fails (subst (λ j. LeadsAlong g x s cells (number_at links j)) last b.3)))
-        (λ (ne : b.0 ≢ i). (tells u).1 (b.0, (let lt : b.0 < i + 1 = b.1 in omega arith), b.2, b.3))
-        (cases_eq b.0 i),
+    λ given. ⊎_elim
+        (λ is. (tells u).1 (inl is))
+        (λ b. ⊎_elim
+        (λ (last : b.0 ≡ i). ⊎_elim
+        (λ yes. yes)
+        (λ (out : is_in set u ≡ false). absurd (fails
+        (subst (λ k. is_in set k ≡ false) (sym b.2 ∙ ap (λ j. tail g (number_at links j)) last) out)
+        (subst (λ j. LeadsAlong g x s cells (number_at links j)) last b.3)))
+        (cases_Bool (is_in set u)))
+        (λ (ne : b.0 ≢ i). (tells u).1 (inr (b.0, (let lt : b.0 < i + 1 = b.1 in omega arith), b.2, b.3)))
+        (cases_eq b.0 i))
+        given,
   )
 
 module _ (n : Net) (case : Case) (x : List Bool) (cells : List ℕ) (graph : IsGraph n.graph) (is : IsCase n.graph case) (row : IsRow n.graph x (source_of n.graph case) cells) where
@@ -173,36 +193,43 @@ module _ (n : Net) (case : Case) (x : List Bool) (cells : List ℕ) (graph : IsG
       (w.0, w.1, subst (λ k. IsOnWay g x s w.0 k) b.begins way)
 
   -- the nodes before a pending one are found
-  pub found-next : (v : ℕ) (before found pending found' pending' : NodeBits) → AreFound n case x cells found pending
-      → IsFollowed v before found pending found' pending'
-      → ((u : ℕ) → IsTrue (is_in before u) ↔ IsOneBefore n.graph x (source_of n.graph case) cells v u)
+  pub found-next : (v : ℕ) (found pending found' pending' : NodeBits) → AreFound n case x cells found pending
+      → IsFollowed v found pending found' pending'
+      → ((u : ℕ) → IsTrue (is_in found' u) ↔ ((is_in found u ≡ true) ⊎ IsOneBefore n.graph x (source_of n.graph case) cells v u))
       → AreFound n case x cells found' pending'
-  found-next v before found pending found' pending' f d tells =
-      let old : (k : ℕ) → is_in found k ≡ true → is_in found' k ≡ true = λ k yes. d.found_is k ∙ or_left (is_in found k) (is_in d.more k) yes in
-      record {
-        inside = λ k yes. d.found_is k ∙ ⊎_elim
-            (λ left. or_left (is_in found k) (is_in d.more k) (f.inside k (without-inside pending d.less v k d.taken left).1))
-            (λ new. or_right (is_in found k) (is_in d.more k) new)
-            (or_cases (is_in d.less k) (is_in d.more k) (sym (d.pending_is k) ∙ yes));
-        sound = λ k yes. ⊎_elim
-            (λ was. f.sound k was)
-            (λ new. before-way v k (f.sound v (f.inside v d.was)) ((tells k).0 (and_parts (is_in before k) (not (is_in found k)) (sym (d.new k) ∙ new)).0))
-            (or_cases (is_in found k) (is_in d.more k) (sym (d.found_is k) ∙ yes));
-        ends = λ k a near. old k (f.ends k a near);
-        closed = λ k u yes no b. ⊎_elim
-            (λ (same : k ≡ v).
-            let there : is_in before u ≡ true = (tells u).1 (subst (λ j. IsOneBefore n.graph x (source_of n.graph case) cells j u) same b) in
-            ⊎_elim
-            (λ was. old u was)
-            (λ (out : is_in found u ≡ false). d.found_is u ∙ or_right (is_in found u) (is_in d.more u) (d.new u ∙ and_from (is_in before u) (not (is_in found u)) there (ap not out)))
-            (cases_Bool (is_in found u)))
-            (λ (ne : k ≢ v).
-            let parts = or_parts (is_in d.less k) (is_in d.more k) (sym (d.pending_is k) ∙ no) in
-            let gone : is_in pending k ≡ false = sym (without-other pending d.less v k d.taken ne) ∙ parts.0 in
-            let was : is_in found k ≡ true = ⊎_elim (λ yes'. yes') (λ new. absurd (true≢false (sym new ∙ parts.1))) (or_cases (is_in found k) (is_in d.more k) (sym (d.found_is k) ∙ yes)) in
-            old u (f.closed k u was gone b))
-            (cases_eq k v);
-      }
+  found-next v found pending found' pending' f d tells = record {
+    inside = λ k yes. ⊎_elim
+        (λ left. d.stay k (f.inside k (without-inside pending d.less v k d.taken left).1))
+        (λ new. (and_parts (is_in found' k) (not (is_in found k)) (sym (d.new k) ∙ new)).0)
+        (or_cases (is_in d.less k) (is_in d.more k) (sym (d.pending_is k) ∙ yes));
+    sound = λ k yes. ⊎_elim (λ was. f.sound k was) (λ b. before-way v k (f.sound v (f.inside v d.was)) b) ((tells k).0 yes);
+    ends = λ k a near. d.stay k (f.ends k a near);
+    closed = λ k u yes no b. ⊎_elim
+        (λ (same : k ≡ v). (tells u).1 (inr (subst (λ j. IsOneBefore n.graph x (source_of n.graph case) cells j u) same b)))
+        (λ (ne : k ≢ v).
+        let parts = or_parts (is_in d.less k) (is_in d.more k) (sym (d.pending_is k) ∙ no) in
+        let gone : is_in pending k ≡ false = sym (without-other pending d.less v k d.taken ne) ∙ parts.0 in
+        let was : is_in found k ≡ true = ⊎_elim
+        (λ yes'. yes')
+        (λ (out : is_in found k ≡ false). absurd (true≢false (sym (d.new k ∙ and_from (is_in found' k) (not (is_in found k)) yes (ap not out)) ∙ parts.1)))
+        (cases_Bool (is_in found k)) in
+        d.stay u (f.closed k u was gone b))
+        (cases_eq k v);
+  }
+
+  -- where the nodes found are on the walks, and each node that is reached is among them, they are the nodes on the walks
+  pub found-all : (found : NodeBits) → ((v : ℕ) → is_in found v ≡ true → IsOnRepairWay n case x v)
+      → ((v : ℕ) → has_distance cells v ≡ true → is_in found v ≡ true) → IsFailedSet n.graph case x → AreWalks n case found
+  found-all found sound all failed = record {
+    marks = λ y other v.
+        subst (λ z. IsTrue (is_in found v) ↔ IsOnRepairWay n case z v) (failed-one n.graph case x y failed other) (
+          λ yes. sound v yes,
+          λ w.
+              let k : IsAlong n.graph x (source_of n.graph case) cells v w.0 = along-from_way n.graph x (source_of n.graph case) cells graph row source_in w.0 v w.2 in
+              let within : v < length cells = omega (arith, row.long, way-within v w) in
+              all v (and_from (nat_lt v (length cells)) (nat_lt (slice_index cells v) FAR) (lt-ltb v (length cells) within) (lt-ltb (slice_index cells v) FAR k.near)),
+        );
+  }
 
   module _ (found pending : NodeBits) (f : AreFound n case x cells found pending) (over : (v : ℕ) → is_in pending v ≡ false) where
     -- a node is found from which a walk leads along the row to a found one

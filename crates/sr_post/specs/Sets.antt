@@ -1,11 +1,13 @@
 -- Lists of cells, and hops that are kept, which sets of nodes change.
-use Rattle.std.specs.Prelude.{◌≡◌, ℕ, ◌⊎◌, true, not, ◌&&◌, if◌then◌else◌, List, length, Contains, slice_index}
+use Rattle.std.specs.Prelude.{◌≡◌, ℕ, ◌⊎◌, Bool, true, not, ◌&&◌, if◌then◌else◌, List, length, Contains, slice_index}
 use Rattle.sr_lanes.specs.Bits.{is_in}
 use Rattle.sr_lanes.specs.declared.words.NodeBits.{NodeBits}
+use Rattle.sr_model.specs.Graph.{Graph}
 use Rattle.sr_model.specs.declared.link.LinkNo.{LinkNo}
 use Rattle.sr_model.specs.declared.link.TheConstants.{FAR}
 use Rattle.sr_post.specs.declared.kept.HopNodes.{HopNodes}
 use Rattle.sr_post.specs.declared.kept.KeptHops.{KeptHops}
+use Rattle.sr_post.specs.Kept.{AreKeptHops, AreLost}
 
 -- the cells are those of the row, but FAR at the nodes of the set
 pub record AreCellsWithout (row : List ℕ) (lost : NodeBits) (cells : List ℕ) : Type 0 where
@@ -19,3 +21,8 @@ pub record KeepsHop (before : KeptHops) (hop : LinkNo) (nodes : NodeBits) (after
   pub newer : (e : HopNodes) → Contains after.kept.items e
       → Contains before.kept.items e ⊎ (e ≡ record { hop = hop; nodes = nodes })
   pub these : (v : ℕ) → is_in nodes v ≡ true → Contains after.kept.items (record { hop = hop; nodes = nodes })
+
+-- the hops are kept from s in spite of x, and the nodes that are left are lost
+pub record AreKeptAndLost (g : Graph) (x : List Bool) (s : ℕ) (hops : KeptHops) : Type 0 where
+  pub kept : AreKeptHops g x s hops.kept.items
+  pub lost : AreLost g x s hops.left

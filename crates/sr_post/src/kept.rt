@@ -1,12 +1,13 @@
 //! What a failure leaves as it was: distances from the source, and next hops.
-ghost use Rattle.std.specs.Prelude.{◌≡◌, ℕ, ◌<◌, ◌↔◌, [], true, length, IsTrue, IfOk, OnOk};
+ghost use Rattle.std.specs.Prelude.{◌≡◌, ℕ, ◌<◌, ◌↔◌, [], true, length, IsTrue, IfOk, MatchOption, OnOk};
 ghost use Rattle.sr_lanes.specs.Bits.{is_in};
+ghost use Rattle.sr_model.specs.declared.link.LinkNo.{LinkNo as Number};
 ghost use Rattle.sr_model.specs.Graph.{node_count, link_count, tail};
 ghost use Rattle.sr_model.specs.Walk.{IsNextHop};
 ghost use Rattle.sr_spf.specs.Begun.{IsBegun};
 ghost use Rattle.sr_spf.specs.Trees.{AreTrees};
-ghost use Rattle.sr_post.specs.Kept.{AreDoubtful, LeadsTo, LosesHop, AreEndangered, AreKeptHops, AreLost};
-ghost use Rattle.sr_post.specs.Sets.{AreCellsWithout, KeepsHop};
+ghost use Rattle.sr_post.specs.Kept.{AreDoubtful, LeadsTo, LosesHop, AreEndangered, AreKeptHops, AreLost, IsKeptHop};
+ghost use Rattle.sr_post.specs.Sets.{AreCellsWithout, KeepsHop, AreKeptAndLost};
 
 use crate::listed::all_listed;
 use sr_graph::LinkRange;
@@ -15,6 +16,10 @@ use sr_model::{FAR, LinkNo, NodeNo};
 use sr_spaces::Spaces;
 use sr_spf::Trees;
 use std::alloc::{AllocError, Global};
+
+/// Up to this many endangered nodes are tried one by one: each has a few next hops, and a source may have many links, all
+/// of which are tried in vain where no link leads to one of the nodes (this project's choice).
+const FEW_ENDANGERED: usize = 4;
 
 /// A link from the source, and nodes towards which it is the least that leads in spite of the failed links.
 #[derive(Clone, Copy, Debug)]
@@ -112,6 +117,90 @@ impl KeptHops {
     }
 }
 
+/// The least link that leads from the source to the node in spite of the failed links. Only its next hops may do so.
+fn least_hop(
+    spaces: &Spaces,
+    trees: &Trees,
+    doubtful: NodeBits,
+    source: NodeNo,
+    v: NodeNo,
+) -> Option<LinkNo>
+    requires trees { AreTrees spaces.now.graph trees.now }
+    requires doubtful { AreDoubtful spaces.now.graph spaces.now.failed source.0 doubtful }
+    requires source { source.0 < node_count spaces.now.graph }
+    requires v { v.0 < node_count spaces.now.graph }
+    ensures { MatchOption result ((l : ℕ) → LeadsTo spaces.now.graph spaces.now.failed source.0 v.0 l → ⊥)
+        (λ (hop : Number). IsKeptHop spaces.now.graph spaces.now.failed source.0 v.0 hop.0) }
+{
+    let alone = NodeBits::none().with(v.0 as usize);
+    for hop in trees.next_hops(source, v) {
+        let led = led_by(spaces, trees, doubtful, *hop, alone);
+        if !led.is_empty() {
+            return Some(*hop);
+        }
+    }
+    None
+}
+
+/// The hops kept towards the endangered nodes, and the nodes lost: the next hops of each node are tried.
+fn keep_singly(
+    alloc: Global,
+    spaces: &Spaces,
+    trees: &Trees,
+    doubtful: NodeBits,
+    source: NodeNo,
+    endangered: NodeBits,
+) -> Result<KeptHops, AllocError>
+    requires trees { AreTrees spaces.now.graph trees.now }
+    requires doubtful { AreDoubtful spaces.now.graph spaces.now.failed source.0 doubtful }
+    requires source { source.0 < node_count spaces.now.graph }
+    requires endangered { AreEndangered spaces.now.graph spaces.now.failed source.0 endangered }
+    ensures { IfOk result (λ hops. AreKeptAndLost spaces.now.graph spaces.now.failed source.0 hops) }
+{
+    let mut hops = KeptHops {
+        kept: Vec::new(alloc),
+        left: endangered,
+    };
+    let mut untried = endangered;
+    'untried: while let Some(node) = untried.take_first() {
+        if let Some(hop) = least_hop(spaces, trees, doubtful, source, NodeNo(node as u16)) {
+            hops.keep(hop, NodeBits::none().with(node))?;
+        }
+    }
+    Ok(hops)
+}
+
+/// The hops kept towards the endangered nodes, and the nodes lost: each link of the source is tried for all nodes at once.
+fn keep_by_links(
+    alloc: Global,
+    spaces: &Spaces,
+    trees: &Trees,
+    doubtful: NodeBits,
+    source: NodeNo,
+    endangered: NodeBits,
+) -> Result<KeptHops, AllocError>
+    requires trees { AreTrees spaces.now.graph trees.now }
+    requires doubtful { AreDoubtful spaces.now.graph spaces.now.failed source.0 doubtful }
+    requires source { source.0 < node_count spaces.now.graph }
+    requires endangered { AreEndangered spaces.now.graph spaces.now.failed source.0 endangered }
+    ensures { IfOk result (λ hops. AreKeptAndLost spaces.now.graph spaces.now.failed source.0 hops) }
+{
+    let LinkRange { first, end } = spaces.graph().links_from(source);
+    let mut hops = KeptHops {
+        kept: Vec::new(alloc),
+        left: endangered,
+    };
+    for link in first..end {
+        // A few links mostly lead to all of them.
+        if hops.left.is_empty() {
+            return Ok(hops);
+        }
+        let led = led_by(spaces, trees, doubtful, LinkNo(link), hops.left);
+        hops.keep(LinkNo(link), led)?;
+    }
+    Ok(hops)
+}
+
 /// The least link that leads from the source in spite of the failed links towards each of the endangered nodes, if one
 /// does, and the nodes to which none does.
 fn keep_hops(
@@ -127,20 +216,12 @@ fn keep_hops(
     ensures hops { IfOk result (λ hops. AreKeptHops spaces.now.graph spaces.now.failed source.0 hops.kept.items) }
     ensures lost { IfOk result (λ hops. AreLost spaces.now.graph spaces.now.failed source.0 hops.left) }
 {
-    let LinkRange { first, end } = spaces.graph().links_from(source);
-    let mut hops = KeptHops {
-        kept: Vec::new(alloc),
-        left: endangered(spaces, trees, doubtful, source),
-    };
-    for link in first..end {
-        // A few links mostly lead to all of them.
-        if hops.left.is_empty() {
-            return Ok(hops);
-        }
-        let led = led_by(spaces, trees, doubtful, LinkNo(link), hops.left);
-        hops.keep(LinkNo(link), led)?;
+    let among = endangered(spaces, trees, doubtful, source);
+    if among.count() <= FEW_ENDANGERED {
+        keep_singly(alloc, spaces, trees, doubtful, source, among)
+    } else {
+        keep_by_links(alloc, spaces, trees, doubtful, source, among)
     }
-    Ok(hops)
 }
 
 /// The cells of the row, but `FAR` at the lost nodes.

@@ -1,6 +1,6 @@
 //! The nodes on the shortest walks to the affected destinations.
-ghost use Rattle.std.specs.Prelude.{◌≡◌, ◌↔◌, ℕ, ◌<◌, IsTrue};
-ghost use Rattle.sr_model.specs.Graph.{node_count, link_count};
+ghost use Rattle.std.specs.Prelude.{◌≡◌, ◌↔◌, ◌⊎◌, ℕ, ◌<◌, true, false, IsTrue};
+ghost use Rattle.sr_model.specs.Graph.{node_count, link_count, tail};
 ghost use Rattle.sr_model.specs.Walk.{IsRow};
 ghost use Rattle.sr_model.specs.Case.{IsCase, IsFailedSet, source_of};
 ghost use Rattle.sr_lanes.specs.Bits.{is_in};
@@ -16,29 +16,47 @@ use sr_lanes::{NodeBits, finite};
 use sr_model::{Case, LinkNo, NodeNo};
 use sr_spf::Trees;
 
-/// Whether the link is outside the failed ones and leads along the row, and a walk from the source may go on by it.
-fn leads_along(graph: &Graph, x: &LinkSet, source: NodeNo, cells: &[u64], link: LinkNo) -> bool
+/// Whether the link begins at a node that isn't found, is outside the failed ones and leads along the row, and a walk from
+/// the source may go on by it.
+fn leads_along(
+    graph: &Graph,
+    x: &LinkSet,
+    source: NodeNo,
+    cells: &[u64],
+    link: LinkNo,
+    found: NodeBits,
+) -> bool
     requires row { IsRow graph.now x.now source.0 cells.now }
     requires link { link.0 < link_count graph.now }
-    ensures { IsTrue result ↔ LeadsAlong graph.now x.now source.0 cells.now link.0 }
+    ensures { IsTrue result ↔ ((is_in found (tail graph.now link.0) ≡ false)
+        × LeadsAlong graph.now x.now source.0 cells.now link.0) }
 {
     let edge = graph.edge(link);
-    // Most links lead elsewhere.
-    cells[edge.from.0 as usize] + edge.metric as u64 == cells[edge.to.0 as usize]
+    // Most nodes are soon found, and of the other links most lead elsewhere.
+    !found.has(edge.from.0 as usize)
+        && cells[edge.from.0 as usize] + edge.metric as u64 == cells[edge.to.0 as usize]
         && graph.carries(source, edge.from)
         && !x.has(link)
 }
 
-/// The nodes from which such a link leads to the node.
-fn nodes_before(graph: &Graph, x: &LinkSet, source: NodeNo, cells: &[u64], v: NodeNo) -> NodeBits
+/// The nodes that are found, and those from which a link that leads along the row leads to the node.
+fn with_nodes_before(
+    graph: &Graph,
+    x: &LinkSet,
+    source: NodeNo,
+    cells: &[u64],
+    v: NodeNo,
+    found: NodeBits,
+) -> NodeBits
     requires row { IsRow graph.now x.now source.0 cells.now }
     requires v { v.0 < node_count graph.now }
-    ensures { (u : ℕ) → IsTrue (is_in result u) ↔ IsOneBefore graph.now x.now source.0 cells.now v.0 u }
+    ensures { (u : ℕ) → IsTrue (is_in result u)
+        ↔ ((is_in found u ≡ true) ⊎ IsOneBefore graph.now x.now source.0 cells.now v.0 u) }
 {
-    let mut set = NodeBits::none();
+    let mut set = found;
     let links = graph.links_to(v);
     for i in 0..links.len() {
-        if leads_along(graph, x, source, cells, links[i]) {
+        if leads_along(graph, x, source, cells, links[i], set) {
             set = set.with(graph.edge(links[i]).from.0 as usize);
         }
     }
@@ -62,13 +80,18 @@ pub fn walks_along(
 {
     let graph = net.graph();
     let source = graph.edge(case.link).from;
-    let mut found = affected_set(net, trees, case).and(finite(cells));
+    let reached = finite(cells);
+    let mut found = affected_set(net, trees, case).and(reached);
     let mut pending = found;
     'pending: while let Some(v) = pending.take_first() {
-        let before = nodes_before(graph, failed, source, cells, NodeNo(v as u16));
-        let more = before.and_not(found);
-        found = found.or(more);
+        let now = with_nodes_before(graph, failed, source, cells, NodeNo(v as u16), found);
+        let more = now.and_not(found);
+        found = now;
         pending = pending.or(more);
+        // What is on walks is reached, so that no other node is left. In many cases this comes soon.
+        if reached.and_not(found).is_empty() {
+            return found;
+        }
     }
     found
 }

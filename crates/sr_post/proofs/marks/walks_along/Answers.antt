@@ -1,18 +1,18 @@
-use Rattle.std.proofs.Common.{◌≡◌, ℕ}
+use Rattle.std.proofs.Common.{◌≡◌, ◌⊎◌, inl, ℕ, true, sym, ◌∙◌}
 use Rattle.std.specs.Prelude.{IsTrue, ◌↔◌}
 use Rattle.sr_model.specs.Case.{source_of}
 use Rattle.sr_lanes.specs.Bits.{is_in}
 use Rattle.sr_post.specs.Marks.{IsOneBefore}
-use Rattle.sr_post.proofs.MarkLemmas.{way-within, found-start, found-next, found-over, open-less}
+use Rattle.sr_post.proofs.MarkLemmas.{way-within, found-start, found-next, found-all, found-over, left-none, open-less}
 use Rattle.sr_post.proofs.marks.walks_along.Goals as goal
 
 pub pending-init : goal.pending-init
 pending-init c =
     found-start c.args.net.now c.args.case c.args.failed.now c.args.cells.now c.requires.trees.graph c.requires.case c.requires.row
-    c.affected_set.result c.finite.result c.and-found.result c.affected_set.ensures c.finite.ensures c.and-found.ensures
+    c.affected_set.result c.finite-reached.result c.and-found.result c.affected_set.ensures c.finite-reached.ensures c.and-found.ensures
 
-pub nodes_before-before-requires-clause-v : goal.nodes_before-before-requires-clause-v
-nodes_before-before-requires-clause-v c =
+pub with_nodes_before-now-requires-clause-v : goal.with_nodes_before-now-requires-clause-v
+with_nodes_before-now-requires-clause-v c =
     let pending = c.pending.invariant in
     rw c.graph-graph.ensures.value
     (way-within c.args.net.now c.args.case c.args.failed.now c.args.cells.now c.requires.trees.graph c.requires.case c.requires.row c.in-Some.v
@@ -20,14 +20,14 @@ nodes_before-before-requires-clause-v c =
 
 pub pending-smaller : goal.pending-smaller
 pending-smaller c =
-    open-less c.in-Some.v c.nodes_before-before.result c.pending.found c.pending.pending c.or-found.result c.or-pending.result
+    open-less c.in-Some.v c.pending.found c.pending.pending c.with_nodes_before-now.result c.or-pending.result
     (record {
       was = c.in-Some.ensures.first.member;
       less = c.take_first.new.self;
       taken = c.in-Some.ensures.left;
       more = c.and_not-more.result;
       new = c.and_not-more.ensures;
-      found_is = c.or-found.ensures;
+      stay = λ k is. (c.with_nodes_before-now.ensures k).1 (inl is);
       pending_is = c.or-pending.ensures;
     })
     c.pending.invariant.inside c.in-Some.ensures.first.within
@@ -36,20 +36,44 @@ pub pending-preserved : goal.pending-preserved
 pending-preserved c =
     let n = c.args.net.now in
     let s : c.edge.result.from.0 ≡ source_of n.graph c.args.case = rw c.graph-graph.ensures.value at c.edge.ensures.from in
-    let tells : (u : ℕ) → IsTrue (is_in c.nodes_before-before.result u) ↔ IsOneBefore n.graph c.args.failed.now (source_of n.graph c.args.case) c.args.cells.now c.in-Some.v u =
-    rw (c.graph-graph.ensures.value, s) at c.nodes_before-before.ensures in
+    let tells : (u : ℕ) → IsTrue (is_in c.with_nodes_before-now.result u) ↔ ((is_in c.pending.found u ≡ true) ⊎ IsOneBefore n.graph c.args.failed.now (source_of n.graph c.args.case) c.args.cells.now c.in-Some.v u) =
+    rw (c.graph-graph.ensures.value, s) at c.with_nodes_before-now.ensures in
     found-next n c.args.case c.args.failed.now c.args.cells.now c.requires.trees.graph c.requires.case c.requires.row
-    c.in-Some.v c.nodes_before-before.result c.pending.found c.pending.pending c.or-found.result c.or-pending.result c.pending.invariant
+    c.in-Some.v c.pending.found c.pending.pending c.with_nodes_before-now.result c.or-pending.result c.pending.invariant
     (record {
       was = c.in-Some.ensures.first.member;
       less = c.take_first.new.self;
       taken = c.in-Some.ensures.left;
       more = c.and_not-more.result;
       new = c.and_not-more.ensures;
-      found_is = c.or-found.ensures;
+      stay = λ k is. (c.with_nodes_before-now.ensures k).1 (inl is);
       pending_is = c.or-pending.ensures;
     })
     tells
+
+pub returns-then-is_empty : goal.returns-then-is_empty
+returns-then-is_empty c =
+    let n = c.args.net.now in
+    let s : c.edge.result.from.0 ≡ source_of n.graph c.args.case = rw c.graph-graph.ensures.value at c.edge.ensures.from in
+    let tells : (u : ℕ) → IsTrue (is_in c.with_nodes_before-now.result u) ↔ ((is_in c.pending.found u ≡ true) ⊎ IsOneBefore n.graph c.args.failed.now (source_of n.graph c.args.case) c.args.cells.now c.in-Some.v u) =
+    rw (c.graph-graph.ensures.value, s) at c.with_nodes_before-now.ensures in
+    let next = found-next n c.args.case c.args.failed.now c.args.cells.now c.requires.trees.graph c.requires.case c.requires.row
+    c.in-Some.v c.pending.found c.pending.pending c.with_nodes_before-now.result c.or-pending.result c.pending.invariant
+    (record {
+      was = c.in-Some.ensures.first.member;
+      less = c.take_first.new.self;
+      taken = c.in-Some.ensures.left;
+      more = c.and_not-more.result;
+      new = c.and_not-more.ensures;
+      stay = λ k is. (c.with_nodes_before-now.ensures k).1 (inl is);
+      pending_is = c.or-pending.ensures;
+    })
+    tells in
+    let none = c.is_empty.ensures.0 c.if-is_empty.true in
+    found-all n c.args.case c.args.failed.now c.args.cells.now c.requires.trees.graph c.requires.case c.requires.row
+    c.with_nodes_before-now.result next.sound
+    (λ v near. left-none (is_in c.finite-reached.result v) (is_in c.with_nodes_before-now.result v) (c.finite-reached.ensures v ∙ near) (sym (c.and_not.ensures v) ∙ none v))
+    c.requires.failed
 
 pub returns : goal.returns
 returns c =
