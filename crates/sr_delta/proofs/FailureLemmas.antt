@@ -74,7 +74,7 @@ pub failed-from_failing : (g : Graph) (case : Case) (x : List Bool) (key : LinkK
 failed-from_failing g case x key set of = (of.0, of.1, (set.each of.0 of.1).1 of.2, of.3)
 
 -- a link of the protected pair is of that of the protected link of the other graph
-own-pair : (g h : Graph) (b : Case) (p l : ℕ) → HaveSameName g h p b.link.0 → FailsWith h b.kind b.link.0 b.link.0 → IsSamePair (key_at g l) (key_at g p) → IsOfFailingPair h b (key_at g l)
+pub own-pair : (g h : Graph) (b : Case) (p l : ℕ) → HaveSameName g h p b.link.0 → FailsWith h b.kind b.link.0 b.link.0 → IsSamePair (key_at g l) (key_at g p) → IsOfFailingPair h b (key_at g l)
 own-pair g h b p l name self pair =
     (b.link.0, name.1, self, subst (λ j. IsSamePair j (key_at g l)) (sym name.2) (pair-sym (key_at g l) (key_at g p) pair))
 
@@ -90,7 +90,7 @@ pub link-same : (g : Graph) (a : Case) (h : Graph) (b : Case) → a.kind ≡ Lin
 link-same g a h b ka kb name = record { there = link-in g a h b ka kb name; back = link-in h b g a kb ka (name-sym g h a.link.0 b.link.0 name) }
 
 -- links of one pair in graphs with the same nodes begin and end at the same nodes
-touches-across : (g h : Graph) → IsGraph g → IsGraph h → IsNamed g → IsNamed h → HaveSameNodes g h → (l k v : ℕ) → l < link_count g → k < link_count h → IsSamePair (key_at h k) (key_at g l) → Touches g l v → Touches h k v
+pub touches-across : (g h : Graph) → IsGraph g → IsGraph h → IsNamed g → IsNamed h → HaveSameNodes g h → (l k v : ℕ) → l < link_count g → k < link_count h → IsSamePair (key_at h k) (key_at g l) → Touches g l v → Touches h k v
 touches-across g h gg gh ng nh same l k v lw kw pair touch =
     let a : IsLink g (link_at g l) = gg.each l lw in
     let b : IsLink h (link_at h k) = gh.each k kw in

@@ -4,6 +4,7 @@ pub mod IdleLemmas
 pub mod AlikeLemmas
 pub mod PairLemmas
 pub mod FailureLemmas
+pub mod GroupLemmas
 pub mod CaseLemmas
 pub mod KeptLemmas
 pub mod StayingLemmas

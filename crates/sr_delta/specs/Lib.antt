@@ -5,6 +5,7 @@ pub mod KeptTrees
 pub mod Idle
 pub mod Alike
 pub mod Pairs
+pub mod Grouped
 pub mod Stayers
 pub mod Cases
 pub mod Moved

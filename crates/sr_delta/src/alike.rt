@@ -10,6 +10,7 @@ ghost use Rattle.sr_delta.specs.Changed.{AreChangedLinks};
 ghost use Rattle.sr_delta.specs.Alike.{HasSameAdj, HasSameLabels, IsIndexedAlike, AreAlike};
 
 use crate::change::Change;
+use crate::grouped::grouped_alike;
 use crate::near::same_pairs;
 use sr_graph::LinkRange;
 use sr_labels::{Net, NodeLabels};
@@ -18,13 +19,15 @@ use sr_model::{LinkNo, NodeNo};
 use std::marker::Model;
 
 /// The nodes that have the same index, flags and adjacency labels in two nets, those that have an index in both nets or
-/// in neither, those with the same maximum SID depth (MSD), and those whose links are of the same pairs.
+/// in neither, those with the same maximum SID depth (MSD), those whose links are of the same pairs, and nodes whose
+/// links are of the same keys and in the same risk groups.
 #[derive(Debug, Drop)]
 pub(crate) struct Alike {
     labels: NodeBits,
     indexed: NodeBits,
     depths: NodeBits,
     pairs: NodeBits,
+    groups: NodeBits,
 }
 
 impl Model for Alike {
@@ -32,7 +35,14 @@ impl Model for Alike {
 
     ghost Value = { Likeness };
 
-    ghost view = { λ a. record { labels = a.labels; indexed = a.indexed; depths = a.depths; pairs = a.pairs } };
+    ghost view = { λ a.
+        record {
+          labels = a.labels;
+          indexed = a.indexed;
+          depths = a.depths;
+          pairs = a.pairs;
+          groups = a.groups;
+        } };
 }
 
 impl Alike {
@@ -43,6 +53,7 @@ impl Alike {
             indexed: NodeBits::none(),
             depths: NodeBits::none(),
             pairs: NodeBits::none(),
+            groups: NodeBits::none(),
         }
     }
 
@@ -72,6 +83,13 @@ impl Alike {
         ensures { result ≡ self.now.pairs }
     {
         self.pairs
+    }
+
+    /// Nodes whose links are of the same keys and in the same risk groups.
+    pub(crate) fn groups(&self) -> NodeBits
+        ensures { result ≡ self.now.groups }
+    {
+        self.groups
     }
 }
 
@@ -163,15 +181,18 @@ fn put(set: NodeBits, v: NodeNo, test: bool) -> NodeBits
     if test { set.with(v.0 as usize) } else { set }
 }
 
-/// Which nodes are alike in both nets. `partners` are those of the old links, `links` the changed ones.
+/// Which nodes are alike in both nets. `partners` are those of the old links, `origins` those of the new ones, and `links`
+/// are the changed ones.
 pub(crate) fn all_alike(
     old: &Net,
     new: &Net,
     partners: &[Option<LinkNo>],
+    origins: &[Option<LinkNo>],
     links: &[Change],
 ) -> Alike
     requires same { HaveSameNodes old.now.graph new.now.graph }
     requires partners { ArePartners old.now.graph new.now.graph partners.now }
+    requires origins { ArePartners new.now.graph old.now.graph origins.now }
     requires links { AreChangedLinks old.now.graph new.now.graph links.now }
     ensures { AreAlike old.now new.now (node_count old.now.graph) result }
 {
@@ -191,5 +212,6 @@ pub(crate) fn all_alike(
         indexed,
         depths,
         pairs,
+        groups: grouped_alike(old.graph(), new.graph(), partners, origins),
     }
 }

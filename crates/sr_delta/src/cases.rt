@@ -19,7 +19,8 @@ use sr_labels::Net;
 use sr_model::{Case, Kind, LinkNo};
 
 /// Whether the links that fail in the same case of the new net are of the same pairs. `link` is the number of the
-/// protected link there. In a link case they are the links of its pair; in a node case, those at its end.
+/// protected link there. In a link case they are the links of its pair; in a node case, those at its end. In an SRLG case
+/// they are of those at its beginning, of which mostly nothing has changed.
 pub(crate) fn have_same_failures(
     changes: &Changes,
     old: &OldCase<'_>,
@@ -44,7 +45,9 @@ pub(crate) fn have_same_failures(
                 kind: case.kind,
                 link,
             };
-            have_same_risks(old.graph(), case, new.graph(), there)
+            let start = old.graph().edge(case.link).from;
+            changes.groups_alike().has(start.0 as usize)
+                || have_same_risks(old.graph(), case, new.graph(), there)
         }
     }
 }

@@ -30,6 +30,6 @@ pub fn changes(alloc: Global, old: &Net, new: &Net) -> Result<Changes, AllocErro
     let there = partners(alloc, before, after)?;
     let back = partners(alloc, after, before)?;
     let links = changed_links(alloc, before, after, &there, &back)?;
-    let alike = all_alike(old, new, &there, &links);
+    let alike = all_alike(old, new, &there, &back, &links);
     Ok(Changes::new(nodes, true, links, there, back, alike))
 }

@@ -145,4 +145,12 @@ impl Changes {
     {
         self.alike.pairs()
     }
+
+    /// Nodes whose links, those that begin and those that end there, are of the same keys and in the same risk groups in
+    /// both nets.
+    pub(crate) fn groups_alike(&self) -> NodeBits
+        ensures { result ≡ self.now.alike.groups }
+    {
+        self.alike.groups()
+    }
 }

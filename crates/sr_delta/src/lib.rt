@@ -11,6 +11,7 @@ mod compared;
 mod differences;
 mod early;
 mod ends;
+mod grouped;
 mod kept;
 mod moved;
 mod near;
