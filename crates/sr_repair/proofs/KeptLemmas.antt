@@ -32,8 +32,8 @@ none-answers n case none = record {
 kept-found : (former : Option Passage) (n : Net) (case : Case) (one : Passed) → IsPassed former n case one → IsFound n case (kept_of one)
 kept-found former n case Nothing none = none
 kept-found former n case AsLink like = like
-kept-found former n case (Stays solved) is = is
-kept-found former n case (Listed solved search) is = is.0
+kept-found former n case (Stays known) is = is
+kept-found former n case (Listed solved search) is = record { solution = is.0; walks = λ set told. cc }
 
 -- the records after the passes are those of the cases
 pub all-kept : (former : Option Passage) (n : Net) (m : ℕ) (passed : List Passed) → AreAllPassed former n m passed → AreAllFound n m (map kept_of passed)
@@ -59,13 +59,13 @@ found-for n found all case within = (_, all.each case within (let small : rank_o
 -- a link case has answers of its own
 own-answers : (n : Net) (case : Case) (one : Found) → IsFound n (link_case case) one → (answers : List NodeAnswer) × AreAnswers n (link_case case) answers
 own-answers n case NothingFound none = ([], none-answers n (link_case case) none)
-own-answers n case (Own solved) a = ((arc_value solved).answers, a.answers)
+own-answers n case (Own known) a = ((arc_value known.solved).answers, a.solution.answers)
 own-answers n case AsLinkFound like = absurd (let bad : LinkKind ≡ RiskKind = like.risk in cc)
 
 -- and each case has its answers
 their-answers : (n : Net) (case : Case) → IsCase n.graph case → (found : List Found) → AreAllFound n (case_count n.graph) found → (one : Found) → IsFound n case one → (answers : List NodeAnswer) × AreAnswers n case answers
 their-answers n case within found all NothingFound none = ([], none-answers n case none)
-their-answers n case within found all (Own solved) a = ((arc_value solved).answers, a.answers)
+their-answers n case within found all (Own known) a = ((arc_value known.solved).answers, a.solution.answers)
 their-answers n case within found all AsLinkFound like =
     let link = found-for n found all (link_case case) within in
     let answers = own-answers n case link.0 link.1 in

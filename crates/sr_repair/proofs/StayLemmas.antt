@@ -1,6 +1,6 @@
 -- What stays of a case is its solution in the new net, by the new numbers of links.
 use Rattle.std.proofs.Common.{◌≡◌, ℕ, ◌<◌, Bool, true, List, [], ◌∷◌, map, length, refl, arith, ap, sym, ◌∙◌, subst, Option, Some, None, inl}
-use Rattle.std.specs.Prelude.{slice_index_or, MatchOption}
+use Rattle.std.specs.Prelude.{◌↔◌, IsTrue, slice_index_or, MatchOption}
 use Rattle.std.proofs.lemmas.List.{get_or-map, length-map}
 use Rattle.sr_model.specs.declared.case.Case.{Case}
 use Rattle.sr_model.specs.declared.case.Kind.TheVariants.{Risk as RiskKind}
@@ -13,7 +13,7 @@ use Rattle.sr_model.specs.declared.repair.Answer.TheVariants.{Least, NoPath, NoL
 use Rattle.sr_model.specs.Key.{IsSamePair}
 use Rattle.sr_model.specs.Graph.{node_count}
 use Rattle.sr_model.specs.Walk.{IsRow}
-use Rattle.sr_model.specs.Case.{key_at, IsFailedSet, IsAffected, FailsWith, source_of}
+use Rattle.sr_model.specs.Case.{key_at, IsFailedSet, IsAffected, IsOnRepairWay, FailsWith, source_of}
 use Rattle.sr_model.specs.Label.{Net}
 use Rattle.sr_model.specs.Rule.{IsNet}
 use Rattle.sr_model.specs.Repair.{IsCaseAnswer}
@@ -21,7 +21,7 @@ use Rattle.sr_model.specs.Stay.{HaveSameName, IsKeptCase, case_with, AreSegments
 use Rattle.sr_laws.proofs.Keys.{key-one, nodes-same, pair-trans}
 use Rattle.sr_laws.specs.Steady.{IsSteadyCase}
 use Rattle.sr_laws.proofs.Kept.{affected-same, answer-renumbered, post-same, steady-from_kept}
-use Rattle.sr_laws.proofs.KeptWays.{answer-there}
+use Rattle.sr_laws.proofs.KeptWays.{answer-there, ways-same}
 use Rattle.sr_spf.specs.Renewed.{moved_link, AreInPlace}
 use Rattle.sr_graph.specs.Failed.{FailsAsLink}
 use Rattle.sr_delta.specs.Partners.{ArePartners, IsPartner, partner_at}
@@ -32,9 +32,14 @@ use Rattle.sr_encode.proofs.AnswerLemmas.{affected-within, no_entry}
 use Rattle.sr_delta.specs.declared.staying.Staying.{Staying}
 use Rattle.sr_delta.specs.Changes.{Differences}
 use Rattle.sr_repair.specs.Answers.{AffectsSome}
-use Rattle.sr_repair.specs.Former.{IsFormer, IsSearched, StaySolved}
+use Rattle.sr_repair.specs.Former.{IsFormer, IsSearched, StaySolved, StayKnown}
+use Rattle.sr_repair.specs.KnownCase.{IsKnownCase}
 use Rattle.sr_repair.specs.Spared.{Passage}
 use Rattle.sr_repair.specs.Solutions.{Solution, IsSolution, moved_solution}
+use Rattle.sr_repair.specs.declared.known_case.KnownCase.{KnownCase}
+use Rattle.sr_lanes.specs.declared.words.NodeBits.{NodeBits}
+use Rattle.sr_lanes.specs.Bits.{is_in}
+use Rattle.sr_post.specs.Marks.{AreWalks}
 use Rattle.sr_repair.proofs.PlaceLemmas.{case_is}
 
 -- where no number moves, answers are as they were
@@ -154,6 +159,17 @@ module _ (n m : Net) (links : List (Option LinkNo)) (partners : ArePartners n.gr
     pub solution-moved : (s : Solution) → IsSolution n old s → IsSolution m new (moved_solution links s)
     solution-moved s r = record { row = row-moved s.cells r.row; answers = answers-moved s.answers r.answers }
 
+    -- the same nodes are on the walks of both
+    pub walks-moved : (set : NodeBits) → AreWalks n old set → AreWalks m new set
+    walks-moved set walks = record {
+      marks = λ y failed v.
+          let here : IsTrue (is_in set v) ↔ IsOnRepairWay n old stays.x v = walks.marks stays.x stays.failed v in
+          let both = ways-same n m N M old stays stays.x y stays.failed (subst (λ c. IsFailedSet m.graph c y) (sym is-new) failed) v in (
+            λ yes. subst (λ c. IsOnRepairWay m c y v) is-new (both.0 (here.0 yes)),
+            λ on. here.1 (both.1 (subst (λ c. IsOnRepairWay m c y v) (sym is-new) on)),
+          );
+    }
+
 -- where an old case affects no destination and stays, the new one affects none
 pub none-affected : (n m : Net) → IsNet n → IsNet m → (old new : Case) → old.kind ≡ new.kind → HaveSameName n.graph m.graph old.link.0 new.link.0 → IsKeptCase n m old → (AffectsSome n old → ⊥) → AffectsSome m new → ⊥
 none-affected n m N M old new kind name stays none some =
@@ -195,6 +211,13 @@ module _ (p : Passage) (changes : Differences) (staying : Staying) (in_place : B
   pub same-stays : in_place ≡ true → (s : Solution) → StaySolved p s s
   same-stays placed s old new kind name stays is =
       subst (λ t. IsSolution p.new new t) (solution-placed changes.partners (r.numbers placed) s) (moved-stays s old new kind name stays is)
+
+  -- the record that is kept of an old case that is steady is one of the new case
+  pub known-moved : (was kept : KnownCase) (old new : Case) → old.kind ≡ new.kind → HaveSameName p.old.graph p.new.graph old.link.0 new.link.0 → IsSteadyCase p.old p.new old → IsKnownCase p.old old was → StayKnown p old was kept → IsKnownCase p.new new kept
+  known-moved was kept old new kind name steady known stay = record {
+    solution = stay.solved old new kind name steady known.solution;
+    walks = λ set told. walks-moved p.old p.new changes.partners (r.differ.partners r.same) r.differ.old r.differ.new old new kind name steady set (stay.walks set told);
+  }
 
   -- a case whose protected link the old net doesn't have is no old case
   pub searched-without : (case : Case) → IsPartner p.new.graph p.old.graph case.link.0 None → IsSearched (Some p) p.new case

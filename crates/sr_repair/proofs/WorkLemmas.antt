@@ -44,13 +44,13 @@ has-within tests i is =
 abbrev is_listed : Passed → Bool
 is_listed Nothing = false
 is_listed AsLink = false
-is_listed (Stays solved) = false
+is_listed (Stays known) = false
 is_listed (Listed solved search) = true
 
 listed-one : (one : Passed) → searches_of one ≡ cond (is_listed one) 1 0
 listed-one Nothing = refl
 listed-one AsLink = refl
-listed-one (Stays solved) = refl
+listed-one (Stays known) = refl
 listed-one (Listed solved search) = refl
 
 searches-are : (passed : List Passed) → pass_searches passed ≡ how_many (map is_listed passed)
@@ -60,7 +60,7 @@ searches-are (one ∷ rest) = omega (arith, listed-one one, searches-are rest, m
 listed-searched : (former : Option Passage) (n : Net) (case : Case) (one : Passed) → IsPassed former n case one → is_listed one ≡ true → IsSpared former case → ⊥
 listed-searched former n case Nothing is listed spared = absurd (let bad : false ≡ true = listed in cc)
 listed-searched former n case AsLink is listed spared = absurd (let bad : false ≡ true = listed in cc)
-listed-searched former n case (Stays solved) is listed spared = absurd (let bad : false ≡ true = listed in cc)
+listed-searched former n case (Stays known) is listed spared = absurd (let bad : false ≡ true = listed in cc)
 listed-searched former n case (Listed solved search) is listed spared = is.1 spared
 
 slot-within : (n : Net) (case : Case) → IsCase n.graph case → slot_of case < case_count n.graph

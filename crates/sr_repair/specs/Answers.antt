@@ -1,5 +1,5 @@
 -- The answers of all cases.
-use Rattle.std.specs.Prelude.{◌≡◌, ℕ, ◌+◌, ◌*◌, ◌<◌, List, [], ◌∷◌, length, Option, slice_index_or}
+use Rattle.std.specs.Prelude.{◌≡◌, ℕ, ◌+◌, ◌*◌, ◌<◌, List, [], ◌∷◌, length, Option, None, slice_index_or}
 use Rattle.std.specs.Arc.{arc_value}
 use Rattle.sr_model.specs.declared.case.Case.{Case}
 use Rattle.sr_model.specs.declared.case.Kind.TheVariants.{Link as LinkKind}
@@ -14,6 +14,7 @@ use Rattle.sr_repair.specs.declared.passes.Passed.{Passed}
 use Rattle.sr_repair.specs.declared.passes.Passed.TheVariants.{Nothing, AsLink, Stays, Listed}
 use Rattle.sr_repair.specs.declared.answers.Found.{Found}
 use Rattle.sr_repair.specs.declared.answers.Found.TheVariants.{Nothing as NothingFound, AsLink as AsLinkFound, Own}
+use Rattle.sr_repair.specs.KnownCase.{IsKnownCase}
 use Rattle.sr_repair.specs.Solutions.{IsSolution}
 use Rattle.sr_repair.specs.Spared.{Passage, IsSpared}
 
@@ -52,7 +53,7 @@ link_case case = record { kind = LinkKind; link = case.link }
 abbrev pub IsPassed : Option Passage → Net → Case → Passed → Type 0
 IsPassed former n case Nothing = AffectsSome n case → ⊥
 IsPassed former n case AsLink = FailsAsLink n.graph case
-IsPassed former n case (Stays solved) = IsSolution n case (arc_value solved)
+IsPassed former n case (Stays known) = IsKnownCase n case known
 IsPassed former n case (Listed solved search) = IsSolution n case (arc_value solved) × (IsSpared former case → ⊥)
 
 -- what the pass over the case in slot i gives
@@ -67,7 +68,7 @@ AreAllPassed former n = StandInSlots Nothing n.graph (IsPassed former n)
 abbrev pub searches_of : Passed → ℕ
 searches_of Nothing = 0
 searches_of AsLink = 0
-searches_of (Stays solved) = 0
+searches_of (Stays known) = 0
 searches_of (Listed solved search) = 1
 
 -- how many searches were counted in the passes
@@ -79,14 +80,14 @@ pass_searches (one ∷ rest) = searches_of one + pass_searches rest
 abbrev pub kept_of : Passed → Found
 kept_of Nothing = NothingFound
 kept_of AsLink = AsLinkFound
-kept_of (Stays solved) = Own solved
-kept_of (Listed solved search) = Own solved
+kept_of (Stays known) = Own known
+kept_of (Listed solved search) = Own (record { solved = solved; walks = None })
 
--- that no destination is affected, that the case fails as the link case does, or what was computed for it
+-- that no destination is affected, that the case fails as the link case does, or what is known of it
 abbrev pub IsFound : Net → Case → Found → Type 0
 IsFound n case NothingFound = AffectsSome n case → ⊥
 IsFound n case AsLinkFound = FailsAsLink n.graph case
-IsFound n case (Own solved) = IsSolution n case (arc_value solved)
+IsFound n case (Own known) = IsKnownCase n case known
 
 -- the records of the cases in the first m slots
 abbrev pub AreAllFound : Net → ℕ → List Found → Type 0

@@ -1,5 +1,6 @@
 -- The version before, as the next one is made from it.
 use Rattle.std.specs.Prelude.{◌≡◌, Bool, true, List, Option, Some}
+use Rattle.std.specs.Arc.{arc_value}
 use Rattle.sr_model.specs.declared.case.Case.{Case}
 use Rattle.sr_model.specs.Label.{Net}
 use Rattle.sr_spf.specs.Trees.{Forest, AreTrees}
@@ -12,7 +13,9 @@ use Rattle.sr_lanes.specs.declared.words.NodeBits.{NodeBits}
 use Rattle.sr_laws.specs.Steady.{IsSteadyCase}
 use Rattle.sr_model.specs.Graph.{node_count}
 use Rattle.sr_model.specs.Stay.{HaveSameName}
+use Rattle.sr_repair.specs.declared.known_case.KnownCase.{KnownCase}
 use Rattle.sr_repair.specs.Answers.{AffectsSome}
+use Rattle.sr_repair.specs.KnownCase.{AreToldWalks}
 use Rattle.sr_repair.specs.Solutions.{Solution, IsSolution}
 use Rattle.sr_repair.specs.Spared.{Passage, IsSpared}
 
@@ -49,3 +52,8 @@ abbrev pub StaySolved : Passage → Solution → Solution → Type 0
 StaySolved p s t =
     (old new : Case) → old.kind ≡ new.kind → HaveSameName p.old.graph p.new.graph old.link.0 new.link.0
     → IsSteadyCase p.old p.new old → IsSolution p.old old s → IsSolution p.new new t
+
+-- where the old case is steady, the record that is kept of it has a solution in the new net, and the walks of the old case
+pub record StayKnown (p : Passage) (old : Case) (was kept : KnownCase) : Type 0 where
+  pub solved : StaySolved p (arc_value was.solved) (arc_value kept.solved)
+  pub walks : AreToldWalks p.old old kept.walks

@@ -1,6 +1,7 @@
 pub mod Version
 pub mod Solutions
 pub mod Spared
+pub mod KnownCase
 pub mod Answers
 pub mod Former
 pub mod Work

@@ -6,14 +6,13 @@ ghost use Rattle.sr_encode.specs.Answered.{AreAnswers};
 ghost use Rattle.sr_repair.specs.Answers.{case_count, kept_of, searches_of, pass_searches, AreAllFound, IsFound};
 
 use crate::cases::{link_case, slot_of};
+use crate::known_case::KnownCase;
 use crate::passes::Passed;
-use crate::solved::Solved;
 use sr_encode::CaseAnswers;
 use sr_labels::Net;
 use sr_model::Case;
 use sr_spf::Steps;
 use std::alloc::{AllocError, Global};
-use std::sync::Arc;
 use std::sync::ledger::Ledger;
 
 /// The record of a case.
@@ -23,8 +22,8 @@ pub(crate) enum Found {
     Nothing,
     /// That its answers are those of the link case.
     AsLink,
-    /// What was computed for it. Versions share it.
-    Own(Arc<Solved>),
+    /// What is known of it.
+    Own(KnownCase),
 }
 
 /// The record of a case after the pass over it. The search that was made for it is taken in.
@@ -35,10 +34,10 @@ fn kept<L: Ledger>(passed: Passed, steps: &mut Steps<L>) -> Found
     match passed {
         Passed::Nothing => Found::Nothing,
         Passed::AsLink => Found::AsLink,
-        Passed::Stays(solved) => Found::Own(solved),
+        Passed::Stays(known) => Found::Own(known),
         Passed::Listed(solved, searched) => {
             steps.take_in(searched);
-            Found::Own(solved)
+            Found::Own(KnownCase::new(solved))
         }
     }
 }
@@ -85,7 +84,7 @@ fn answers_of_link<'a>(
 {
     match found_of(net, found, case) {
         Found::Nothing => none,
-        Found::Own(solved) => solved.answers(),
+        Found::Own(known) => known.solved.answers(),
         Found::AsLink => unreachable!(),
     }
 }
@@ -104,7 +103,7 @@ pub(crate) fn answers_of<'a>(
 {
     match found_of(net, found, case) {
         Found::Nothing => none,
-        Found::Own(solved) => solved.answers(),
+        Found::Own(known) => known.solved.answers(),
         Found::AsLink => answers_of_link(net, found, none, link_case(case)),
     }
 }

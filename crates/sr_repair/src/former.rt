@@ -1,8 +1,8 @@
 //! The version before, from which a case is taken where it is steady.
-ghost use Rattle.std.specs.Prelude.{◌≡◌, ◌<◌, true, Some, IfOk, IsTrue, MatchOption};
+ghost use Rattle.std.specs.Prelude.{◌≡◌, true, List, Bool, Some, IfOk, IsTrue, MatchOption};
 ghost use Rattle.std.specs.Arc.{arc_value};
 ghost use Rattle.sr_graph.specs.Failed.{FailsAsLink};
-ghost use Rattle.sr_model.specs.Case.{IsCase};
+ghost use Rattle.sr_model.specs.Case.{IsCase, IsFailedSet, source_of};
 ghost use Rattle.sr_model.specs.Graph.{node_count};
 ghost use Rattle.sr_model.specs.Walk.{IsRow};
 ghost use Rattle.sr_model.specs.Stay.{HaveSameName, IsKeptCase};
@@ -12,19 +12,21 @@ ghost use Rattle.sr_delta.specs.Moved.{AreMoved};
 ghost use Rattle.sr_delta.specs.Stayers.{AreStaying};
 ghost use Rattle.sr_delta.specs.Changes.{AreChanges};
 ghost use Rattle.sr_delta.specs.KeptTrees.{AreKeptTrees};
-ghost use Rattle.sr_repair.specs.Solutions.{Solution, IsSolution};
-ghost use Rattle.sr_repair.specs.Former.{IsSearched, StaySolved};
+ghost use Rattle.sr_post.specs.Marks.{AreWalks};
+ghost use Rattle.sr_repair.specs.Solutions.{IsSolution};
+ghost use Rattle.sr_repair.specs.KnownCase.{IsKnownCase};
+ghost use Rattle.sr_repair.specs.Former.{IsSearched, StaySolved, StayKnown};
 ghost use Rattle.sr_repair.specs.Spared.{IsOldCase};
 
 use crate::answers::Found;
 use crate::computed::Computed;
+use crate::known_case::KnownCase;
 use crate::row::CaseRow;
 use crate::solved::Solved;
 use sr_delta::{Changes, OldCase, Staying, case_stays, is_steady, may_stay};
-use sr_graph::LinkSet;
 use sr_labels::Net;
 use sr_lanes::NodeBits;
-use sr_model::{Case, NodeNo};
+use sr_model::Case;
 use sr_post::walks_along;
 use sr_spf::{Trees, are_in_place};
 use std::alloc::{AllocError, Global};
@@ -86,18 +88,14 @@ impl<'a> Former<'a> {
         }
     }
 
-    /// These distances from the source without links of the old net, kept by what differs from the new trees.
-    fn row_over(
-        &self,
-        alloc: Global,
-        source: NodeNo,
-        failed: &LinkSet,
-        cells: &[u64],
-    ) -> Result<CaseRow, AllocError>
-        requires source { source.0 < node_count self.now.old.graph }
-        requires row { IsRow self.now.old.graph failed.now source.0 cells.now }
+    /// These distances from the source of a case without its failed links, kept by what differs from the new trees.
+    fn row_over(&self, alloc: Global, old: Case, cells: &[u64]) -> Result<CaseRow, AllocError>
+        requires steady { IsSteadyCase self.now.old self.now.new old }
+        requires row { (x : List Bool) → IsFailedSet self.now.old.graph old x
+            → IsRow self.now.old.graph x (source_of self.now.old.graph old) cells.now }
         ensures { IfOk result (λ row. row ≡ cells.now) }
     {
+        let source = self.computed.net().graph().edge(old.link).from;
         CaseRow::new(alloc, self.trees.held_cells(source)?, cells)
     }
 
@@ -107,20 +105,20 @@ impl<'a> Former<'a> {
     fn moved(
         &self,
         alloc: Global,
+        old: Case,
         solved: &Arc<Solved>,
-        source: NodeNo,
-        failed: &LinkSet,
         cells: &[u64],
     ) -> Result<Arc<Solved>, AllocError>
-        requires source { source.0 < node_count self.now.old.graph }
-        requires row { IsRow self.now.old.graph failed.now source.0 cells.now }
+        requires steady { IsSteadyCase self.now.old self.now.new old }
+        requires solved { IsSolution self.now.old old (arc_value solved.now) }
         requires cells { cells.now ≡ (arc_value solved.now).cells }
         ensures { IfOk result (λ moved. StaySolved self.now (arc_value solved.now) (arc_value moved)) }
     {
+        let source = self.computed.net().graph().edge(old.link).from;
         if self.in_place && self.farther[source.0 as usize].is_empty() {
             return Arc::try_clone(solved);
         }
-        let row = self.row_over(alloc, source, failed, cells)?;
+        let row = self.row_over(alloc, old, cells)?;
         solved.renumbered(alloc, self.changes.partners(), row)
     }
 
@@ -143,48 +141,69 @@ impl<'a> Former<'a> {
         )
     }
 
-    /// What was computed for the old case, by the new numbers of links, if the case is steady. The nodes on its walks are
-    /// found only where all that costs less to tell holds.
-    fn solved_of(
+    /// The nodes on the walks of the old case, which are found where nobody has asked for them. Its distances without the
+    /// failed links are these.
+    fn walks_of(
         &self,
         alloc: Global,
         old: Case,
-        solved: &Arc<Solved>,
-    ) -> Result<Option<Arc<Solved>>, AllocError>
+        known: &KnownCase,
+        cells: &[u64],
+    ) -> Result<NodeBits, AllocError>
         requires case { IsCase self.now.old.graph old }
-        requires solved { IsSolution self.now.old old (arc_value solved.now) }
+        requires known { IsKnownCase self.now.old old known.now }
+        requires cells { cells.now ≡ (arc_value known.now.solved).cells }
+        ensures { IfOk result (AreWalks self.now.old old) }
+    {
+        match known.walks {
+            Some(walks) => Ok(walks),
+            None => {
+                let net = self.computed.net();
+                let failed = net.graph().failed(alloc, old)?;
+                Ok(walks_along(net, self.computed.trees(), old, &failed, cells))
+            }
+        }
+    }
+
+    /// What is known of the old case, by the new numbers of links, if the case is steady. The nodes on its walks are asked
+    /// for only where all that costs less to tell holds, and are kept from then on.
+    fn known_of(
+        &self,
+        alloc: Global,
+        old: Case,
+        known: &KnownCase,
+    ) -> Result<Option<KnownCase>, AllocError>
+        requires case { IsCase self.now.old.graph old }
+        requires known { IsKnownCase self.now.old old known.now }
         ensures { IfOk result (λ found. MatchOption found
             (IsKeptCase self.now.old self.now.new old → ⊥)
-            (λ moved. IsSteadyCase self.now.old self.now.new old
-            × StaySolved self.now (arc_value solved.now) (arc_value moved))) }
+            (λ kept. IsSteadyCase self.now.old self.now.new old
+            × StayKnown self.now old known.now kept)) }
     {
         let net = self.computed.net();
-        let cells = solved.cells(alloc)?;
+        let cells = known.solved.cells(alloc)?;
         if !may_stay(self.changes, net, old, &cells) {
             return Ok(None);
         }
-        let trees = self.computed.trees();
-        let failed = net.graph().failed(alloc, old)?;
-        let walks = walks_along(net, trees, old, &failed, &cells);
-        let was = OldCase::new(net, trees, old, &cells, walks);
+        let walks = self.walks_of(alloc, old, known, &cells)?;
+        let was = OldCase::new(net, self.computed.trees(), old, &cells, walks);
         if !self.outlasts(&was) {
             return Ok(None);
         }
-        let source = net.graph().edge(old.link).from;
-        Ok(Some(self.moved(alloc, solved, source, &failed, &cells)?))
+        let solved = self.moved(alloc, old, &known.solved, &cells)?;
+        Ok(Some(KnownCase {
+            solved,
+            walks: Some(walks),
+        }))
     }
 
-    /// What was computed for the case, if it is an old case that is steady and affects some destination.
-    pub(crate) fn solved(
-        &self,
-        alloc: Global,
-        case: Case,
-    ) -> Result<Option<Arc<Solved>>, AllocError>
+    /// What is known of the case, if it is an old case that is steady and affects some destination.
+    pub(crate) fn known(&self, alloc: Global, case: Case) -> Result<Option<KnownCase>, AllocError>
         requires case { IsCase self.now.new.graph case }
         requires own { FailsAsLink self.now.new.graph case → ⊥ }
         ensures { IfOk result (λ found. MatchOption found
             (IsSearched (Some self.now) self.now.new case)
-            (λ solved. IsSolution self.now.new case (arc_value solved))) }
+            (IsKnownCase self.now.new case)) }
     {
         match self.changes.origin(case.link) {
             None => Ok(None),
@@ -194,7 +213,7 @@ impl<'a> Former<'a> {
                     link,
                 };
                 match self.computed.found(old) {
-                    Found::Own(solved) => self.solved_of(alloc, old, solved),
+                    Found::Own(known) => self.known_of(alloc, old, known),
                     Found::Nothing => Ok(None),
                     Found::AsLink => Ok(None),
                 }

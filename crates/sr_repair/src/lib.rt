@@ -5,6 +5,7 @@ mod answers;
 mod cases;
 mod computed;
 mod former;
+mod known_case;
 mod laws;
 mod made;
 mod passes;

@@ -10,9 +10,11 @@ ghost use Rattle.sr_encode.specs.Answered.{AreAffected};
 ghost use Rattle.sr_repair.specs.Answers.{case_count, IsPassed, IsPassedIn, AreAllPassed};
 ghost use Rattle.sr_repair.specs.Former.{IsSearched};
 ghost use Rattle.sr_repair.specs.Solutions.{IsSolution};
+ghost use Rattle.sr_repair.specs.KnownCase.{IsKnownCase};
 ghost use Rattle.sr_repair.specs.Spared.{IsSpared};
 
 use crate::cases::{case_count, case_in};
+use crate::known_case::KnownCase;
 use crate::row::CaseRow;
 use crate::setting::Setting;
 use crate::solved::Solved;
@@ -42,8 +44,8 @@ pub(crate) enum Passed {
     Nothing,
     /// That its answers are those of the link case.
     AsLink,
-    /// What was computed for it in the version before, since it stays.
-    Stays(Arc<Solved>),
+    /// What is known of it from the version before, since it stays.
+    Stays(KnownCase),
     /// What is computed for it, and that one search for distances was counted.
     Listed(Arc<Solved>, Searched),
 }
@@ -120,21 +122,21 @@ fn listed(alloc: Global, setting: &Setting<'_>, case: Case) -> Result<Passed, Al
     Ok(Passed::Listed(solved, searched))
 }
 
-/// What was computed for the case in the version before, if there is one from which the case stays.
-fn kept_solved(
+/// What is known of the case from the version before, if there is one from which the case stays.
+fn kept_known(
     alloc: Global,
     setting: &Setting<'_>,
     case: Case,
-) -> Result<Option<Arc<Solved>>, AllocError>
+) -> Result<Option<KnownCase>, AllocError>
     requires case { IsCase setting.now.net.graph case }
     requires own { FailsAsLink setting.now.net.graph case → ⊥ }
     ensures { IfOk result (λ found. MatchOption found
         (IsSearched setting.now.former setting.now.net case)
-        (λ solved. IsSolution setting.now.net case (arc_value solved))) }
+        (IsKnownCase setting.now.net case)) }
 {
     match &setting.former {
         None => Ok(None),
-        Some(former) => former.solved(alloc, case),
+        Some(former) => former.known(alloc, case),
     }
 }
 
@@ -147,8 +149,8 @@ fn pass(alloc: Global, setting: &Setting<'_>, case: Case) -> Result<Passed, Allo
     if setting.net.graph().fails_as_link(case) {
         return Ok(Passed::AsLink);
     }
-    match kept_solved(alloc, setting, case)? {
-        Some(solved) => Ok(Passed::Stays(solved)),
+    match kept_known(alloc, setting, case)? {
+        Some(known) => Ok(Passed::Stays(known)),
         None => listed(alloc, setting, case),
     }
 }

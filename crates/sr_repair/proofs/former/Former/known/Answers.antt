@@ -1,5 +1,4 @@
 use Rattle.std.proofs.Common.{refl, sym, subst, ◌∙◌}
-use Rattle.std.specs.Arc.{arc_value}
 use Rattle.std.proofs.lemmas.Result.{IfOk-weaker}
 use Rattle.sr_model.specs.declared.case.Case.{Case}
 use Rattle.sr_model.specs.Stay.{HaveSameName}
@@ -9,9 +8,9 @@ use Rattle.sr_repair.specs.declared.answers.Found.TheVariants.{Nothing, AsLink, 
 use Rattle.sr_repair.specs.Answers.{AffectsSome, IsFound}
 use Rattle.sr_repair.specs.Former.{IsFormer}
 use Rattle.sr_repair.specs.Spared.{Passage}
-use Rattle.sr_repair.specs.Solutions.{IsSolution}
-use Rattle.sr_repair.proofs.StayLemmas.{found-weaker, name-back, searched-unless, searched-nothing, searched-like}
-use Rattle.sr_repair.proofs.former.Former.solved.Goals as goal
+use Rattle.sr_repair.specs.KnownCase.{IsKnownCase}
+use Rattle.sr_repair.proofs.StayLemmas.{found-weaker, known-moved, name-back, searched-unless, searched-nothing, searched-like}
+use Rattle.sr_repair.proofs.former.Former.known.Goals as goal
 
 pub returns-in-Own : goal.returns-in-Own
 returns-in-Own c =
@@ -22,15 +21,15 @@ returns-in-Own c =
     let old : Case = record { kind = case.kind; link = link } in
     let r : IsFormer q f.changes.now f.staying f.in_place = subst (λ (p : Passage). IsFormer p f.changes.now f.staying f.in_place) c.self.view_is c.self.invariant.0 in
     let name : HaveSameName q.new.graph q.old.graph case.link.0 link.0 = subst (λ o. IsPartner q.new.graph q.old.graph case.link.0 o) (sym c.origin.ensures ∙ c.in-Some.is) ((r.differ.origins r.same).each case.link.0 c.requires.case) in
-    let here : IsFound f.computed.now old (Own c.in-Own.solved) = subst (λ k. IsFound f.computed.now old k) c.in-Own.is c.found.ensures in
-    let there : IsSolution q.old old (arc_value c.in-Own.solved) = subst (λ (p : Passage). IsFound p.old old (Own c.in-Own.solved)) c.self.view_is here in
-    IfOk-weaker c.solved_of.result _ _
+    let here : IsFound f.computed.now old (Own c.in-Own.known) = subst (λ k. IsFound f.computed.now old k) c.in-Own.is c.found.ensures in
+    let there : IsKnownCase q.old old c.in-Own.known = subst (λ (p : Passage). IsFound p.old old (Own c.in-Own.known)) c.self.view_is here in
+    IfOk-weaker c.known_of.result _ _
     (λ found m.
     found-weaker found _ _ _ _
     (λ not. searched-unless q f.changes.now f.staying f.in_place r case link name (λ affects stays. not stays))
-    (λ solved both. both.1 old case refl (name-back q.new q.old case.link.0 link.0 name) both.0 there)
+    (λ kept both. known-moved q f.changes.now f.staying f.in_place r c.in-Own.known kept old case refl (name-back q.new q.old case.link.0 link.0 name) both.0 there both.1)
     m)
-    c.solved_of.ensures
+    c.known_of.ensures
 
 pub returns-in-Nothing : goal.returns-in-Nothing
 returns-in-Nothing c =
