@@ -1,8 +1,8 @@
 -- The nodes on the shortest walks, and how they are told from the farther ones.
-use Rattle.std.specs.Prelude.{◌≡◌, ◌↔◌, ℕ, ◌+◌, ◌<◌, IsTrue, Bool, true, false, List, slice_index}
+use Rattle.std.specs.Prelude.{◌≡◌, ◌↔◌, ℕ, ◌+◌, ◌<◌, IsTrue, Bool, true, false, List, Some, length, slice_get, slice_index}
 use Rattle.sr_model.specs.declared.case.Case.{Case}
 use Rattle.sr_model.specs.declared.link.TheConstants.{FAR}
-use Rattle.sr_model.specs.Graph.{Graph, link_count, tail, head, metric, has, carries}
+use Rattle.sr_model.specs.Graph.{Graph, node_count, link_count, tail, head, metric, has, carries}
 use Rattle.sr_model.specs.Label.{Net}
 use Rattle.sr_model.specs.Case.{IsAffected, IsFailedSet, IsOnRepairWay, source_of}
 use Rattle.sr_lanes.specs.declared.words.NodeBits.{NodeBits}
@@ -21,6 +21,15 @@ pub record IsOneBefore (g : Graph) (x : List Bool) (s : ℕ) (cells : List ℕ) 
   pub begins : tail g link ≡ u
   pub ends : head g link ≡ v
   pub along : LeadsAlong g x s cells link
+
+-- the set has the nodes at which links to v begin
+abbrev pub HasTails : Graph → ℕ → NodeBits → Type 0
+HasTails g v set = (l : ℕ) → l < link_count g → head g l ≡ v → is_in set (tail g l) ≡ true
+
+-- for each node there is such a set
+pub record AreTails (g : Graph) (sets : List NodeBits) : Type 0 where
+  pub long : length sets ≡ node_count g
+  pub each : (v : ℕ) (set : NodeBits) → slice_get sets v ≡ Some set → HasTails g v set
 
 -- the nodes found so far are on the walks; the affected destinations with a walk are among them, and so are the nodes
 -- before each of them that isn't pending

@@ -1,11 +1,11 @@
 //! The nodes on the shortest walks to the affected destinations.
-ghost use Rattle.std.specs.Prelude.{◌≡◌, ◌↔◌, ◌⊎◌, ℕ, ◌<◌, true, false, IsTrue};
+ghost use Rattle.std.specs.Prelude.{◌≡◌, ◌↔◌, ◌⊎◌, ℕ, ◌<◌, true, false, IsTrue, IfOk};
 ghost use Rattle.sr_model.specs.Graph.{node_count, link_count, tail};
 ghost use Rattle.sr_model.specs.Walk.{IsRow};
 ghost use Rattle.sr_model.specs.Case.{IsCase, IsFailedSet, source_of};
 ghost use Rattle.sr_lanes.specs.Bits.{is_in};
 ghost use Rattle.sr_spf.specs.Trees.{AreTrees};
-ghost use Rattle.sr_post.specs.Marks.{AreWalks, IsOneBefore, LeadsAlong};
+ghost use Rattle.sr_post.specs.Marks.{AreTails, AreWalks, HasTails, IsOneBefore, LeadsAlong};
 ghost use Rattle.sr_post.specs.Post.{IsPost};
 
 use crate::destinations::affected_set;
@@ -15,6 +15,7 @@ use sr_labels::Net;
 use sr_lanes::{NodeBits, finite};
 use sr_model::{Case, LinkNo, NodeNo};
 use sr_spf::Trees;
+use std::alloc::{AllocError, Global};
 
 /// Whether the link begins at a node that isn't found, is outside the failed ones and leads along the row, and a walk from
 /// the source may go on by it.
@@ -39,7 +40,8 @@ fn leads_along(
         && !x.has(link)
 }
 
-/// The nodes that are found, and those from which a link that leads along the row leads to the node.
+/// The nodes that are found, and those from which a link that leads along the row leads to the node. The nodes at which
+/// some link to it begins are among `before`.
 fn with_nodes_before(
     graph: &Graph,
     x: &LinkSet,
@@ -47,12 +49,18 @@ fn with_nodes_before(
     cells: &[u64],
     v: NodeNo,
     found: NodeBits,
+    before: NodeBits,
 ) -> NodeBits
     requires row { IsRow graph.now x.now source.0 cells.now }
     requires v { v.0 < node_count graph.now }
+    requires before { HasTails graph.now v.0 before }
     ensures { (u : ℕ) → IsTrue (is_in result u)
         ↔ ((is_in found u ≡ true) ⊎ IsOneBefore graph.now x.now source.0 cells.now v.0 u) }
 {
+    // Often all of them are found, which costs less to tell.
+    if before.and_not(found).is_empty() {
+        return found;
+    }
     let mut set = found;
     let links = graph.links_to(v);
     for i in 0..links.len() {
@@ -63,19 +71,36 @@ fn with_nodes_before(
     set
 }
 
+/// For each node those at which some link to it begins.
+pub fn tails(alloc: Global, graph: &Graph) -> Result<Vec<NodeBits>, AllocError>
+    ensures { IfOk result (λ tails. AreTails graph.now tails.items) }
+{
+    let count = graph.node_count() as usize;
+    let mut tails = vec![in alloc; NodeBits::none(); count]?;
+    for l in 0..graph.link_count() as u16 {
+        let edge = graph.edge(LinkNo(l));
+        let end = edge.to.0 as usize;
+        tails[end] = tails[end].with(edge.from.0 as usize);
+    }
+    Ok(tails)
+}
+
 /// The nodes on the shortest walks of the case, from the links that fail in it and the distances from its source without
 /// them. Walks are followed back from the destinations: `pending` are those of the nodes found from which none has been.
+/// `tails` has for each node those at which some link to it begins.
 pub fn walks_along(
     net: &Net,
     trees: &Trees,
     case: Case,
     failed: &LinkSet,
     cells: &[u64],
+    tails: &[NodeBits],
 ) -> NodeBits
     requires trees { AreTrees net.now.graph trees.now }
     requires case { IsCase net.now.graph case }
-    requires failed { IsFailedSet net.now.graph case failed.now }
-    requires row { IsRow net.now.graph failed.now (source_of net.now.graph case) cells.now }
+    requires left { IsFailedSet net.now.graph case failed.now
+        × IsRow net.now.graph failed.now (source_of net.now.graph case) cells.now }
+    requires tails { AreTails net.now.graph tails.now }
     ensures { AreWalks net.now case result }
 {
     let graph = net.graph();
@@ -84,7 +109,15 @@ pub fn walks_along(
     let mut found = affected_set(net, trees, case).and(reached);
     let mut pending = found;
     'pending: while let Some(v) = pending.take_first() {
-        let now = with_nodes_before(graph, failed, source, cells, NodeNo(v as u16), found);
+        let now = with_nodes_before(
+            graph,
+            failed,
+            source,
+            cells,
+            NodeNo(v as u16),
+            found,
+            tails[v],
+        );
         let more = now.and_not(found);
         found = now;
         pending = pending.or(more);
@@ -96,12 +129,14 @@ pub fn walks_along(
     found
 }
 
-/// The nodes on the shortest walks of the case, from what it leaves.
-pub fn walks(net: &Net, trees: &Trees, post: &Post, case: Case) -> NodeBits
+/// The nodes on the shortest walks of the case, from what it leaves. `tails` has for each node those at which some link to
+/// it begins.
+pub fn walks(net: &Net, trees: &Trees, post: &Post, case: Case, tails: &[NodeBits]) -> NodeBits
+    requires tails { AreTails net.now.graph tails.now }
     requires trees { AreTrees net.now.graph trees.now }
     requires case { IsCase net.now.graph case }
     requires post { IsPost net.now case post.now }
     ensures { AreWalks net.now case result }
 {
-    walks_along(net, trees, case, post.failed(), post.cells())
+    walks_along(net, trees, case, post.failed(), post.cells(), tails)
 }

@@ -19,6 +19,7 @@ use sr_encode::CaseAnswers;
 use sr_fib::Fib;
 use sr_labels::Net;
 use sr_model::Case;
+use sr_post::tails;
 use sr_spf::{Steps, Trees};
 use std::alloc::{AllocError, Global};
 use std::marker::Model;
@@ -92,12 +93,13 @@ impl Computed {
         ensures net { IfOk result (λ c. c ≡ net) }
         ensures searches { (w : ℕ) × (steps.new ≡ steps.old + w) × IsWithinWork self.now net w }
     {
+        let tails = tails(alloc, self.net.graph())?;
         let kept = kept_trees(alloc, changes, &self.trees)?;
         let trees = self
             .trees
             .renew(rt, alloc, net.graph(), &kept, changes.partners(), steps)?;
         let farther = moved_distances(alloc, &self.trees, &trees)?;
-        let former = Former::new(self, &net, changes, &kept, &trees, &farther);
+        let former = Former::new(self, &net, changes, &kept, &trees, &farther, &tails);
         let setting = Setting::after(&net, &trees, former);
         let Made { fib, found } = made_of(rt, alloc, &setting, steps)?;
         Ok(Computed {

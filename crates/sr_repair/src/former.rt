@@ -12,7 +12,7 @@ ghost use Rattle.sr_delta.specs.Moved.{AreMoved};
 ghost use Rattle.sr_delta.specs.Stayers.{AreStaying};
 ghost use Rattle.sr_delta.specs.Changes.{AreChanges};
 ghost use Rattle.sr_delta.specs.KeptTrees.{AreKeptTrees};
-ghost use Rattle.sr_post.specs.Marks.{AreWalks};
+ghost use Rattle.sr_post.specs.Marks.{AreTails, AreWalks};
 ghost use Rattle.sr_repair.specs.Solutions.{IsSolution};
 ghost use Rattle.sr_repair.specs.KnownCase.{IsKnownCase};
 ghost use Rattle.sr_repair.specs.Former.{IsSearched, StaySolved, StayKnown};
@@ -44,12 +44,15 @@ pub(crate) struct Former<'a> {
     trees: &'a Trees,
     /// For each node those to which it isn't as far in the new net as in the old one.
     farther: &'a [NodeBits],
+    /// For each node those at which some link to it begins in the old net.
+    tails: &'a [NodeBits],
     /// Whether each link has its number in the new net too.
     in_place: bool,
 }
 
 impl<'a> Model for Former<'a> {
     ghost use Rattle.sr_repair.specs.Spared.{Passage};
+    ghost use Rattle.sr_post.specs.Marks.{AreTails};
     ghost use Rattle.sr_repair.specs.Former.{AreMeasured, IsFormer};
 
     ghost Value = { Passage };
@@ -57,12 +60,14 @@ impl<'a> Model for Former<'a> {
     ghost view = { λ f. record { old = f.computed.now; new = f.net.now } };
 
     ghost invariant = { λ f. IsFormer (record { old = f.computed.now; new = f.net.now }) f.changes.now f.staying f.in_place
-        × AreMeasured (record { old = f.computed.now; new = f.net.now }) f.trees.now f.farther.now };
+        × AreMeasured (record { old = f.computed.now; new = f.net.now }) f.trees.now f.farther.now
+        × AreTails f.computed.now.graph f.tails.now };
 }
 
 impl<'a> Former<'a> {
     /// What was computed of the net before, and what differs. The nodes are the same. `kept` are the tests of the trees that
-    /// stay, `trees` are those of the new net, and `farther` has for each node those to which it isn't as far as it was.
+    /// stay, `trees` are those of the new net, `farther` has for each node those to which it isn't as far as it was, and
+    /// `tails` those at which some link to it begins in the old net.
     pub(crate) fn new(
         computed: &'a Computed,
         net: &'a Net,
@@ -70,11 +75,13 @@ impl<'a> Former<'a> {
         kept: &[bool],
         trees: &'a Trees,
         farther: &'a [NodeBits],
+        tails: &'a [NodeBits],
     ) -> Former<'a>
         requires changes { AreChanges computed.now net.now changes.now × (changes.now.same ≡ true) }
         requires kept { AreKeptTrees computed.now net.now kept.now }
         requires trees { AreTrees net.now.graph trees.now }
-        requires farther { AreMoved computed.now.graph net.now.graph farther.now (node_count computed.now.graph) }
+        requires sets { AreMoved computed.now.graph net.now.graph farther.now (node_count computed.now.graph)
+            × AreTails computed.now.graph tails.now }
         ensures { result ≡ record { old = computed.now; new = net.now } }
     {
         Former {
@@ -84,6 +91,7 @@ impl<'a> Former<'a> {
             staying: Staying::new(changes, kept),
             trees,
             farther,
+            tails,
             in_place: are_in_place(changes.partners()),
         }
     }
@@ -160,7 +168,8 @@ impl<'a> Former<'a> {
             None => {
                 let net = self.computed.net();
                 let failed = net.graph().failed(alloc, old)?;
-                Ok(walks_along(net, self.computed.trees(), old, &failed, cells))
+                let trees = self.computed.trees();
+                Ok(walks_along(net, trees, old, &failed, cells, self.tails))
             }
         }
     }

@@ -5,7 +5,7 @@ ghost use Rattle.sr_model.specs.Case.{IsCase};
 
 use super::versions::{case_of, leave, version_of};
 use sr_model::{Case, Kind, NodeNo};
-use sr_post::{post, walks};
+use sr_post::{post, tails, walks};
 use sr_repair::Version;
 use sr_spf::Steps;
 use std::alloc::{AllocError, Global};
@@ -90,7 +90,8 @@ fn remains_by<L: Ledger>(
     let mut steps = Steps::<L>::new(blank);
     let net = version.net();
     let left = post(alloc, net, version.trees(), case, &mut steps)?;
-    let ways = walks(net, version.trees(), &left, case);
+    let tails = tails(alloc, net.graph())?;
+    let ways = walks(net, version.trees(), &left, case, &tails);
     let mut distances = Vec::new(alloc);
     let mut on_walks = Vec::new(alloc);
     for node in 0..net.graph().node_count() as u16 {

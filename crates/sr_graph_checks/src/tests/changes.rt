@@ -10,7 +10,7 @@ use super::fixtures::{Line, id, net_of, trees_of};
 use sr_delta::{Change, Changes, OldCase, Staying, case_stays, changes, kept_trees, tree_stays};
 use sr_labels::Net;
 use sr_model::{Case, Ident, Kind, LinkKey, LinkNo, NodeNo};
-use sr_post::{Post, post, walks};
+use sr_post::{Post, post, tails, walks};
 use sr_spf::{Steps, Trees};
 use std::alloc::{AllocError, Global};
 use std::marker::Brand;
@@ -133,7 +133,8 @@ fn stays(
     requires case { IsCase old.now.graph case }
 {
     let left = left_of(alloc, old, trees, case)?;
-    let walks = walks(old, trees, &left, case);
+    let tails = tails(alloc, old.graph())?;
+    let walks = walks(old, trees, &left, case, &tails);
     let old_case = OldCase::new(old, trees, case, left.cells(), walks);
     Ok(case_stays(changes, &Staying::new(changes, kept), &old_case, new))
 }

@@ -1,6 +1,8 @@
-use Rattle.std.proofs.Common.{◌≡◌, ◌⊎◌, inl, ℕ, true, sym, ◌∙◌}
-use Rattle.std.specs.Prelude.{IsTrue, ◌↔◌}
+use Rattle.std.proofs.Common.{◌≡◌, ◌<◌, ◌⊎◌, inl, ℕ, Some, true, length, arith, refl, sym, ◌∙◌}
+use Rattle.std.proofs.lemmas.Option.{slice_get_read}
+use Rattle.std.specs.Prelude.{IsTrue, ◌↔◌, slice_get}
 use Rattle.sr_model.specs.Case.{source_of}
+use Rattle.sr_model.specs.Graph.{node_count}
 use Rattle.sr_lanes.specs.Bits.{is_in}
 use Rattle.sr_post.specs.Marks.{IsOneBefore}
 use Rattle.sr_post.proofs.MarkLemmas.{way-within, found-start, found-next, found-all, found-over, left-none, open-less}
@@ -8,15 +10,33 @@ use Rattle.sr_post.proofs.marks.walks_along.Goals as goal
 
 pub pending-init : goal.pending-init
 pending-init c =
-    found-start c.args.net.now c.args.case c.args.failed.now c.args.cells.now c.requires.trees.graph c.requires.case c.requires.row
+    found-start c.args.net.now c.args.case c.args.failed.now c.args.cells.now c.requires.trees.graph c.requires.case c.requires.left.1
     c.affected_set.result c.finite-reached.result c.and-found.result c.affected_set.ensures c.finite-reached.ensures c.and-found.ensures
 
 pub with_nodes_before-now-requires-clause-v : goal.with_nodes_before-now-requires-clause-v
 with_nodes_before-now-requires-clause-v c =
     let pending = c.pending.invariant in
     rw c.graph-graph.ensures.value
-    (way-within c.args.net.now c.args.case c.args.failed.now c.args.cells.now c.requires.trees.graph c.requires.case c.requires.row c.in-Some.v
+    (way-within c.args.net.now c.args.case c.args.failed.now c.args.cells.now c.requires.trees.graph c.requires.case c.requires.left.1 c.in-Some.v
     (pending.sound c.in-Some.v (pending.inside c.in-Some.v c.in-Some.ensures.first.member)))
+
+pub bounds-tails-v : goal.bounds-tails-v
+bounds-tails-v c =
+    let pending = c.pending.invariant in
+    let within : c.in-Some.v < node_count c.args.net.now.graph =
+    way-within c.args.net.now c.args.case c.args.failed.now c.args.cells.now c.requires.trees.graph c.requires.case c.requires.left.1 c.in-Some.v
+    (pending.sound c.in-Some.v (pending.inside c.in-Some.v c.in-Some.ensures.first.member)) in
+    omega (arith, within, c.requires.tails.long)
+
+pub with_nodes_before-now-requires-clause-before : goal.with_nodes_before-now-requires-clause-before
+with_nodes_before-now-requires-clause-before c =
+    let pending = c.pending.invariant in
+    let within : c.in-Some.v < node_count c.args.net.now.graph =
+    way-within c.args.net.now c.args.case c.args.failed.now c.args.cells.now c.requires.trees.graph c.requires.case c.requires.left.1 c.in-Some.v
+    (pending.sound c.in-Some.v (pending.inside c.in-Some.v c.in-Some.ensures.first.member)) in
+    let at : slice_get c.args.tails.now c.in-Some.v ≡ Some c.index-tails-v.result =
+    slice_get_read c.args.tails.now (length c.args.tails.now) c.in-Some.v c.index-tails-v.result refl (omega (arith, within, c.requires.tails.long)) c.index-tails-v.is in
+    rw c.graph-graph.ensures.value (c.requires.tails.each c.in-Some.v c.index-tails-v.result at)
 
 pub pending-smaller : goal.pending-smaller
 pending-smaller c =
@@ -38,7 +58,7 @@ pending-preserved c =
     let s : c.edge.result.from.0 ≡ source_of n.graph c.args.case = rw c.graph-graph.ensures.value at c.edge.ensures.from in
     let tells : (u : ℕ) → IsTrue (is_in c.with_nodes_before-now.result u) ↔ ((is_in c.pending.found u ≡ true) ⊎ IsOneBefore n.graph c.args.failed.now (source_of n.graph c.args.case) c.args.cells.now c.in-Some.v u) =
     rw (c.graph-graph.ensures.value, s) at c.with_nodes_before-now.ensures in
-    found-next n c.args.case c.args.failed.now c.args.cells.now c.requires.trees.graph c.requires.case c.requires.row
+    found-next n c.args.case c.args.failed.now c.args.cells.now c.requires.trees.graph c.requires.case c.requires.left.1
     c.in-Some.v c.pending.found c.pending.pending c.with_nodes_before-now.result c.or-pending.result c.pending.invariant
     (record {
       was = c.in-Some.ensures.first.member;
@@ -57,7 +77,7 @@ returns-then-is_empty c =
     let s : c.edge.result.from.0 ≡ source_of n.graph c.args.case = rw c.graph-graph.ensures.value at c.edge.ensures.from in
     let tells : (u : ℕ) → IsTrue (is_in c.with_nodes_before-now.result u) ↔ ((is_in c.pending.found u ≡ true) ⊎ IsOneBefore n.graph c.args.failed.now (source_of n.graph c.args.case) c.args.cells.now c.in-Some.v u) =
     rw (c.graph-graph.ensures.value, s) at c.with_nodes_before-now.ensures in
-    let next = found-next n c.args.case c.args.failed.now c.args.cells.now c.requires.trees.graph c.requires.case c.requires.row
+    let next = found-next n c.args.case c.args.failed.now c.args.cells.now c.requires.trees.graph c.requires.case c.requires.left.1
     c.in-Some.v c.pending.found c.pending.pending c.with_nodes_before-now.result c.or-pending.result c.pending.invariant
     (record {
       was = c.in-Some.ensures.first.member;
@@ -70,12 +90,12 @@ returns-then-is_empty c =
     })
     tells in
     let none = c.is_empty.ensures.0 c.if-is_empty.true in
-    found-all n c.args.case c.args.failed.now c.args.cells.now c.requires.trees.graph c.requires.case c.requires.row
+    found-all n c.args.case c.args.failed.now c.args.cells.now c.requires.trees.graph c.requires.case c.requires.left.1
     c.with_nodes_before-now.result next.sound
     (λ v near. left-none (is_in c.finite-reached.result v) (is_in c.with_nodes_before-now.result v) (c.finite-reached.ensures v ∙ near) (sym (c.and_not.ensures v) ∙ none v))
-    c.requires.failed
+    c.requires.left.0
 
 pub returns : goal.returns
 returns c =
-    found-over c.args.net.now c.args.case c.args.failed.now c.args.cells.now c.requires.trees.graph c.requires.case c.requires.row
-    c.pending.found c.pending.pending c.pending.invariant c.in_default.ensures.first c.requires.failed
+    found-over c.args.net.now c.args.case c.args.failed.now c.args.cells.now c.requires.trees.graph c.requires.case c.requires.left.1
+    c.pending.found c.pending.pending c.pending.invariant c.in_default.ensures.first c.requires.left.0

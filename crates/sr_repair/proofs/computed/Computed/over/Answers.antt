@@ -9,6 +9,9 @@ use Rattle.sr_repair.specs.Work.{IsWithinCases}
 use Rattle.sr_repair.proofs.WorkLemmas.{within-none, within-trees, work-none, work-of}
 use Rattle.sr_repair.proofs.computed.Computed.over.Goals as goal
 
+pub returns-in_err-tails-clause-searches : goal.returns-in_err-tails-clause-searches
+returns-in_err-tails-clause-searches g c = (0, omega arith, work-none c.args.self.now c.args.net)
+
 pub returns-in_err-kept-clause-searches : goal.returns-in_err-kept-clause-searches
 returns-in_err-kept-clause-searches g c = (0, omega arith, work-none c.args.self.now c.args.net)
 
