@@ -1,5 +1,5 @@
 pub mod SortedLemmas
-pub mod LookLemmas
 pub mod ListedLemmas
-pub mod CrossingsLemmas
-pub mod TablesLemmas
+pub mod SidLemmas
+pub mod OutLemmas
+pub mod LookLemmas

@@ -1,3 +1,4 @@
 pub mod Sorted
+pub mod Outs
 pub mod Entries
 pub mod Tables

@@ -1,9 +1,10 @@
 //! What a label does at a node.
 
-use sr_model::{LinkNo, NodeNo, Out};
+use crate::hops::Hops;
+use sr_model::{LinkNo, NodeNo};
 
-/// What a label does at a node, as the table lends it.
-#[derive(Clone, Copy, Debug)]
+/// What a label does at a node.
+#[derive(Drop)]
 pub enum FibEntry<'a> {
     /// It is the node's own: it is popped.
     Own,
@@ -13,5 +14,5 @@ pub enum FibEntry<'a> {
     Adj(LinkNo),
     /// It is that of another node, towards which one of these links is crossed. They ascend, each with what becomes of the
     /// label.
-    Node(NodeNo, &'a [(LinkNo, Out)]),
+    Node(NodeNo, Hops<'a>),
 }

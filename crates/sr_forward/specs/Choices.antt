@@ -8,6 +8,10 @@ use Rattle.sr_model.specs.Graph.{has}
 abbrev pub open_hops : List Bool → List (LinkNo × Out) → List (LinkNo × Out)
 open_hops closed hops = filter (λ (h : LinkNo × Out). not (has closed h.0.0)) hops
 
+-- the links that aren't closed
+abbrev pub open_links : List Bool → List LinkNo → List LinkNo
+open_links closed links = filter (λ (l : LinkNo). not (has closed l.0)) links
+
 -- of the open hops the one of number choice mod their count, counted from 0, or none where none is open
 abbrev pub chosen_hop : List Bool → ℕ → List (LinkNo × Out) → Option (LinkNo × Out)
 chosen_hop closed choice hops = slice_get (open_hops closed hops) (choice % length (open_hops closed hops))

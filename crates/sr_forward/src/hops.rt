@@ -1,26 +1,29 @@
 //! The choice among the hops that may be crossed.
-ghost use Rattle.std.specs.Prelude.{◌≡◌, length, slice_get};
-ghost use Rattle.sr_forward.specs.Choices.{open_hops, chosen_hop};
+ghost use Rattle.std.specs.Prelude.{◌≡◌, length, map, slice_get};
+ghost use Rattle.sr_fib.specs.Outs.{link_of};
+ghost use Rattle.sr_forward.specs.Choices.{open_hops, open_links, chosen_hop};
 
+use sr_fib::Hops;
 use sr_graph::LinkSet;
 use sr_model::{LinkNo, Out};
 
-/// How many of the hops are open: their links aren't closed.
-fn open_count(hops: &[(LinkNo, Out)], closed: &LinkSet) -> usize
-    ensures { result ≡ length (open_hops closed.now hops.now) }
+/// How many of the links aren't closed.
+fn open_count(links: &[LinkNo], closed: &LinkSet) -> usize
+    ensures { result ≡ length (open_links closed.now links.now) }
 {
-    hops.iter().filter(|hop| !closed.has(hop.0)).count()
+    links.iter().filter(|link| !closed.has(**link)).count()
 }
 
 /// The open hop at the place, counted from 0. None exactly where there are no more than that.
-fn open_at(hops: &[(LinkNo, Out)], closed: &LinkSet, place: usize) -> Option<(LinkNo, Out)>
+fn open_at(hops: &Hops<'_>, closed: &LinkSet, place: usize) -> Option<(LinkNo, Out)>
     ensures { result ≡ slice_get (open_hops closed.now hops.now) place }
 {
+    let links = hops.links();
     let mut left = place;
-    for hop in hops {
-        if !closed.has(hop.0) {
+    for at in 0..links.len() {
+        if !closed.has(links[at]) {
             if left == 0 {
-                return Some(*hop);
+                return Some(hops.get(at));
             }
             left -= 1;
         }
@@ -30,10 +33,10 @@ fn open_at(hops: &[(LinkNo, Out)], closed: &LinkSet, place: usize) -> Option<(Li
 
 /// Of the open hops, in their order, the one of number `choice` modulo their count, counted from 0.
 /// None exactly where no hop is open.
-pub(crate) fn chosen(hops: &[(LinkNo, Out)], closed: &LinkSet, choice: u32) -> Option<(LinkNo, Out)>
+pub(crate) fn chosen(hops: &Hops<'_>, closed: &LinkSet, choice: u32) -> Option<(LinkNo, Out)>
     ensures { result ≡ chosen_hop closed.now choice hops.now }
 {
-    let count = open_count(hops, closed);
+    let count = open_count(hops.links(), closed);
     if count == 0 {
         return None;
     }

@@ -16,7 +16,7 @@ use sr_model::{LinkNo, Move, NodeNo, Out};
 /// None exactly where no step is lawful.
 fn action(
     net: &Net,
-    fib: &Fib,
+    fib: &Fib<'_>,
     closed: &LinkSet,
     node: NodeNo,
     label: u32,
@@ -40,7 +40,7 @@ fn action(
                 Some((Move::Crossed(link), Out::Pop))
             }
         }
-        Some(FibEntry::Node(_, hops)) => match chosen(hops, closed, choice) {
+        Some(FibEntry::Node(_, hops)) => match chosen(&hops, closed, choice) {
             None => None,
             Some((link, out)) => Some((Move::Crossed(link), out)),
         },
@@ -70,7 +70,7 @@ fn leave(stack: &mut Vec<u32>, out: Out)
 /// link isn't crossed. None exactly where no step is lawful; the stack then stays.
 pub fn step(
     net: &Net,
-    fib: &Fib,
+    fib: &Fib<'_>,
     closed: &LinkSet,
     node: NodeNo,
     stack: &mut Vec<u32>,

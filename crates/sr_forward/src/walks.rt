@@ -51,7 +51,7 @@ fn advance(
 pub fn walk(
     alloc: Global,
     net: &Net,
-    fib: &Fib,
+    fib: &Fib<'_>,
     closed: &LinkSet,
     node: NodeNo,
     stack: Vec<u32>,

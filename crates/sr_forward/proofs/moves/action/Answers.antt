@@ -10,14 +10,14 @@ returns-in-None-clause-none c =
 pub returns-in-None-chosen-clause-none : goal.returns-in-None-chosen-clause-none
 returns-in-None-chosen-clause-none c =
     let found = rw c.in-Some-Node.field-0-is at c.in-Some-Node.ensures in
-    node-idle c.args.net.now c.graph-graph.ensures.net c.args.closed.now c.args.choice c.args.node.0 c.args.label c.in-Some-Node.field-0-0 c.in-Some-Node.hops.now
+    node-idle c.args.net.now c.graph-graph.ensures.net c.args.closed.now c.args.choice c.args.node.0 c.args.label c.in-Some-Node.field-0-0 c.in-Some-Node.hops
     (found c.args.net.now c.graph-graph.ensures.net c.requires.fib)
     c.in-None-chosen.ensures
 
 pub returns-in-Some-clause-some : goal.returns-in-Some-clause-some
 returns-in-Some-clause-some c =
     let found = rw c.in-Some-Node.field-0-is at c.in-Some-Node.ensures in
-    node-action c.args.net.now c.graph-graph.ensures.net c.args.closed.now c.args.choice c.args.node.0 c.args.label c.in-Some-Node.field-0-0 c.in-Some-Node.hops.now c.in-Some.link c.in-Some.out
+    node-action c.args.net.now c.graph-graph.ensures.net c.args.closed.now c.args.choice c.args.node.0 c.args.label c.in-Some-Node.field-0-0 c.in-Some-Node.hops c.in-Some.link c.in-Some.out
     (found c.args.net.now c.graph-graph.ensures.net c.requires.fib)
     c.in-Some.ensures
 
