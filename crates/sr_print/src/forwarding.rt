@@ -10,7 +10,7 @@ ghost use Rattle.sr_print.specs.Printed.{BeginsWith, word};
 use crate::line::{end, put_numbered};
 use crate::link::{put_link, put_links};
 use crate::number::put_node;
-use sr_fib::FibEntry;
+use sr_fib::{FibEntry, Hops};
 use sr_labels::Net;
 use sr_model::{LinkNo, NodeNo, Out};
 use std::alloc::AllocError;
@@ -57,13 +57,14 @@ fn put_hop(net: &Net, link: LinkNo, action: Out, out: &mut Vec<u8>) -> Result<()
 
 /// Appends ` via LINK ACTION` for each of the links. After an error a part of them may stand there;
 /// what stood before stays.
-fn put_hops(net: &Net, hops: &[(LinkNo, Out)], out: &mut Vec<u8>) -> Result<(), AllocError>
+fn put_hops(net: &Net, hops: &Hops<'_>, out: &mut Vec<u8>) -> Result<(), AllocError>
     requires { AreHopLinks net.now.graph hops.now }
     ensures line { OnOk result (out.new.items ≡ out.old.items ++ flat_map (hop_text net.now) hops.now) }
     ensures err { OnErr result (BeginsWith out.old.items out.new.items) }
 {
-    for (link, action) in hops {
-        put_hop(net, *link, *action, out)?;
+    for place in 0..hops.len() {
+        let (link, action) = hops.get(place);
+        put_hop(net, link, action, out)?;
     }
     Ok(())
 }
@@ -73,7 +74,7 @@ fn put_hops(net: &Net, hops: &[(LinkNo, Out)], out: &mut Vec<u8>) -> Result<(), 
 fn put_towards(
     net: &Net,
     node: NodeNo,
-    hops: &[(LinkNo, Out)],
+    hops: &Hops<'_>,
     out: &mut Vec<u8>,
 ) -> Result<(), AllocError>
     requires node { node.0 < node_count net.now.graph }
@@ -106,7 +107,7 @@ pub fn put_label(
             out.extend_from_slice(b"label adj")?;
             put_link(net, link, out)?;
         }
-        Some(FibEntry::Node(node, hops)) => put_towards(net, node, hops, out)?,
+        Some(FibEntry::Node(node, hops)) => put_towards(net, node, &hops, out)?,
     }
     end(out)
 }

@@ -16,7 +16,7 @@ use crate::made::{Made, made_of};
 use crate::setting::Setting;
 use sr_delta::{Changes, changes, kept_trees, moved_distances};
 use sr_encode::CaseAnswers;
-use sr_fib::Fib;
+use sr_fib::{Fib, Sids};
 use sr_labels::Net;
 use sr_model::Case;
 use sr_post::tails;
@@ -26,13 +26,13 @@ use std::marker::Model;
 use std::sync::ledger::Ledger;
 use std::thread::Threads;
 
-/// A net with its trees, its label tables and the answers of all cases. Contracts see it as the net: the rest is
-/// determined by that.
+/// A net with its trees, its nodes and links by their labels, and the answers of all cases. Contracts see it as the net:
+/// the rest is determined by that.
 #[derive(Drop)]
 pub(crate) struct Computed {
     net: Net,
     trees: Trees,
-    fib: Fib,
+    sids: Sids,
     found: Vec<Found>,
     /// The answers of a case that affects no destination.
     none: CaseAnswers,
@@ -42,7 +42,7 @@ impl Model for Computed {
     ghost use Rattle.std.specs.Prelude.{◌≡◌, []};
     ghost use Rattle.sr_model.specs.Label.{Net};
     ghost use Rattle.sr_spf.specs.Trees.{AreTrees};
-    ghost use Rattle.sr_fib.specs.Tables.{IsFib};
+    ghost use Rattle.sr_fib.specs.Tables.{AreSids};
     ghost use Rattle.sr_repair.specs.Answers.{AreAllFound, case_count};
 
     ghost Value = { Net };
@@ -50,7 +50,7 @@ impl Model for Computed {
     ghost view = { λ c. c.net };
 
     ghost invariant = { λ c. AreTrees c.net.graph c.trees
-        × IsFib c.net c.fib
+        × AreSids c.net c.sids
         × AreAllFound c.net (case_count c.net.graph) c.found.items
         × (c.none ≡ []) };
 }
@@ -69,11 +69,11 @@ impl Computed {
         ensures least { steps.old ≤ steps.new }
     {
         let trees = Trees::build(rt, alloc, net.graph(), steps)?;
-        let Made { fib, found } = made_of(rt, alloc, &Setting::first(&net, &trees), steps)?;
+        let Made { sids, found } = made_of(rt, alloc, &Setting::first(&net, &trees), steps)?;
         Ok(Computed {
             net,
             trees,
-            fib,
+            sids,
             found,
             none: CaseAnswers::none(alloc),
         })
@@ -101,11 +101,11 @@ impl Computed {
         let farther = moved_distances(alloc, &self.trees, &trees)?;
         let former = Former::new(self, &net, changes, &kept, &trees, &farther, &tails);
         let setting = Setting::after(&net, &trees, former);
-        let Made { fib, found } = made_of(rt, alloc, &setting, steps)?;
+        let Made { sids, found } = made_of(rt, alloc, &setting, steps)?;
         Ok(Computed {
             net,
             trees,
-            fib,
+            sids,
             found,
             none: CaseAnswers::none(alloc),
         })
@@ -147,10 +147,10 @@ impl Computed {
     }
 
     /// The label tables of the net.
-    pub(crate) fn fib(&self) -> &Fib
-        ensures { IsFib self.now result.now }
+    pub(crate) fn fib(&self) -> Fib<'_>
+        ensures { IsFib self.now result }
     {
-        &self.fib
+        Fib::new(&self.net, &self.trees, &self.sids)
     }
 
     /// The answers of the case for the destinations that it affects, ascending.

@@ -129,8 +129,8 @@ impl Version {
     }
 
     /// The label tables of the net.
-    pub fn fib(&self) -> &Fib
-        ensures { IsFib self.now.net result.now }
+    pub fn fib(&self) -> Fib<'_>
+        ensures { IsFib self.now.net result }
     {
         self.computed.fib()
     }

@@ -39,7 +39,7 @@ fn walk_list(
     let net = version.net();
     let failed = net.graph().failed(alloc, failure.case)?;
     let start = net.graph().link(list.first).to;
-    let walk = walk(alloc, net, version.fib(), &failed, start, labels, choice)?;
+    let walk = walk(alloc, net, &version.fib(), &failed, start, labels, choice)?;
     let mut links = walk.links;
     links.insert(0, list.first)?;
     Ok(links)

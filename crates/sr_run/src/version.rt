@@ -71,7 +71,7 @@ pub(crate) fn forwarded(
             let label = node_label(net, from, to);
             let nothing = net.graph().nothing(alloc)?;
             let stack = vec![in alloc; label]?;
-            let walk = walk(alloc, net, version.fib(), &nothing, from, stack, choice)?;
+            let walk = walk(alloc, net, &version.fib(), &nothing, from, stack, choice)?;
             Ok(Some(walk))
         }
     }

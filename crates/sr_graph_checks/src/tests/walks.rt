@@ -2,7 +2,7 @@
 ghost use Rattle.sr_fib.specs.Tables.{IsFib};
 
 use super::fixtures::{Line, net_of, trees_of};
-use sr_fib::Fib;
+use sr_fib::{Fib, Sids};
 use sr_forward::walk;
 use sr_labels::Net;
 use sr_model::{LinkNo, NodeNo};
@@ -70,7 +70,7 @@ const TOLD: [Told; 6] = [
 ];
 
 /// Whether the packet goes as it is told.
-fn goes(alloc: Global, net: &Net, fib: &Fib, told: &Told) -> Result<bool, AllocError>
+fn goes(alloc: Global, net: &Net, fib: &Fib<'_>, told: &Told) -> Result<bool, AllocError>
     requires { IsFib net.now fib.now }
 {
     if net.graph().node_count() == 0 {
@@ -87,7 +87,8 @@ fn the_choice_is_taken_modulo_the_hops(rt: HostRuntime) -> Result<(), Fail> {
     let alloc = rt.alloc();
     let net = net_of(alloc, 6, &THREE_WAYS)?;
     let trees = trees_of(&rt, alloc, net.graph())?;
-    let fib = Fib::build(alloc, &net, &trees)?;
+    let sids = Sids::build(alloc, &net)?;
+    let fib = Fib::new(&net, &trees, &sids);
     for told in &TOLD {
         assert!(rt; goes(alloc, &net, &fib, told)?, "of choice {}", told.choice);
     }

@@ -4,8 +4,8 @@ use Rattle.sr_repair.proofs.KeptLemmas.{all-kept}
 use Rattle.sr_repair.proofs.WorkLemmas.{within-none, within-passed}
 use Rattle.sr_repair.proofs.made.made_of.Goals as goal
 
-pub returns-in_err-fib-clause-searches : goal.returns-in_err-fib-clause-searches
-returns-in_err-fib-clause-searches g c = (0, omega arith, within-none c.args.setting.now.former c.args.setting.now.net)
+pub returns-in_err-sids-clause-searches : goal.returns-in_err-sids-clause-searches
+returns-in_err-sids-clause-searches g c = (0, omega arith, within-none c.args.setting.now.former c.args.setting.now.net)
 
 pub returns-in_err-passed-clause-searches : goal.returns-in_err-passed-clause-searches
 returns-in_err-passed-clause-searches g c = (0, omega arith, within-none c.args.setting.now.former c.args.setting.now.net)

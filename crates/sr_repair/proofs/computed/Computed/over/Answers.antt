@@ -27,8 +27,8 @@ returns-in_err-trees-clause-searches g c =
     let few : w ≤ fallen kept = omega (arith, c.renew.ensures.most, c.renew.ensures.least, ap fallen c.deref.ensures.value) in
     (w, omega (arith, c.renew.ensures.least), work-of n m w w 0 (omega arith) (within-trees n m kept w nodes stay few) (within-none (Some (record { old = n; new = m })) m))
 
-pub returns-in_err-fib-clause-searches : goal.returns-in_err-fib-clause-searches
-returns-in_err-fib-clause-searches g c =
+pub returns-in_err-sids-clause-searches : goal.returns-in_err-sids-clause-searches
+returns-in_err-sids-clause-searches g c =
     let n = c.args.self.now in
     let m = c.args.net in
     let kept = c.in_ok-kept.kept.items in
