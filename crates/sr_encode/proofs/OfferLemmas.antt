@@ -69,15 +69,6 @@ module _ (d : ℕ) (before served : Served) (none found : NodeBits) (empty : (e 
       };
     }
 
--- where there is none, all were offered to d
-pub tried-none : (after : Aftermath) (queue : List Waypoint) (d k : ℕ) (served : Served)
-    → AreOffered after queue k served → NoneEndsFrom after queue d k (length queue) → IsTried after queue d served served
-tried-none after queue d k served offered none = record {
-  none = λ is. none-joined after queue d k (length queue) (offered.none d is) none;
-  others = λ e ne. refl;
-  later = record { pending = λ e was. inl was; places = λ e had. had };
-}
-
 -- the waypoints from place k on were offered to the pending destinations but those that are left
 pub record AreTriedBut (after : Aftermath) (queue : List Waypoint) (k : ℕ) (left : NodeBits) (served : Served) : Type 0 where
   pub offered : AreOffered after queue k served
@@ -100,14 +91,4 @@ tried-next after queue k d left less before served r without offered tried = rec
       (λ none. inr none)
       (r.tried e (sym (tried.others e ne) ∙ is)))
       (cases_eq e d);
-}
-
--- where none is left, all were offered to all
-pub offered-all : (after : Aftermath) (queue : List Waypoint) (k : ℕ) (left : NodeBits) (served : Served)
-    → AreTriedBut after queue k left served → ((e : ℕ) → is_in left e ≡ false) → AreOffered after queue (length queue) served
-offered-all after queue k left served r empty = record {
-  long = r.offered.long;
-  inside = r.offered.inside;
-  none = λ e is. ⊎_elim (λ yes. absurd (true≢false (sym yes ∙ empty e))) (λ none. none) (r.tried e is);
-  some = r.offered.some;
 }

@@ -71,7 +71,7 @@ impl<'a> Hops<'a> {
         self.links.len()
     }
 
-    /// The links, ascending.
+    /// The links, in their order.
     pub fn links(&self) -> &'a [LinkNo]
         ensures { result.now ≡ map link_of self.now }
     {

@@ -41,13 +41,6 @@ pub record AreLosingAmong (g : Graph) (x : List Bool) (s : ℕ) (links : List Li
   pub all : (v i : ℕ) → i < k → IsNextHop g [] s v (number_at links i) → is_in set v ≡ true
 
 module _ (g : Graph) (x : List Bool) (s : ℕ) (links : List LinkNo) where
-  -- before the first link
-  pub losing-start : (set : NodeBits) → ((v : ℕ) → is_in set v ≡ false) → AreLosingAmong g x s links 0 set
-  losing-start set none = record {
-    each = λ v is. absurd (true≢false (sym is ∙ none v));
-    all = λ v i lt hop. absurd (omega (arith, lt));
-  }
-
   -- one link more, with the nodes towards which it is a next hop
   pub losing-next : (k : ℕ) (set behind more : NodeBits) → AreLosingAmong g x s links k set → has x (number_at links k) ≡ true
       → ((v : ℕ) → IsTrue (is_in behind v) ↔ IsNextHop g [] s v (number_at links k))

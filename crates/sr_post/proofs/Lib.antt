@@ -1,5 +1,6 @@
 pub mod NodeLemmas
 pub mod WayLemmas
+pub mod OutsideLemmas
 pub mod MarkLemmas
 pub mod KeptLemmas
 pub mod KeptHopLemmas

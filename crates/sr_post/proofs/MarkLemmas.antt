@@ -5,7 +5,7 @@ use Rattle.std.proofs.lemmas.Bool.{and_from, and_parts, cases_Bool, cases_eq, eq
 use Rattle.sr_model.specs.declared.case.Case.{Case}
 use Rattle.sr_model.specs.declared.link.LinkNo.{LinkNo}
 use Rattle.sr_model.specs.declared.link.TheConstants.{FAR}
-use Rattle.sr_model.specs.Graph.{Graph, IsGraph, IsLink, node_count, tail, head, link_at}
+use Rattle.sr_model.specs.Graph.{Graph, IsGraph, IsLink, IsNamed, has, node_count, tail, head, link_at}
 use Rattle.sr_model.specs.Label.{Net}
 use Rattle.sr_model.specs.Walk.{IsRow, IsOnWay}
 use Rattle.sr_model.specs.Case.{IsAffected, IsOnRepairWay, IsFailedSet, IsCase, source_of}
@@ -18,6 +18,7 @@ use Rattle.sr_lanes.proofs.SizeLemmas.{without-same, without-other, without-insi
 use Rattle.sr_walks.proofs.Walks.{walk-within}
 use Rattle.sr_laws.proofs.Failures.{failed-one}
 use Rattle.sr_post.specs.Marks.{AreFound, AreWalks, IsOneBefore, LeadsAlong}
+use Rattle.sr_post.proofs.OutsideLemmas.{along-outside, source-zero}
 use Rattle.sr_post.proofs.WayLemmas.{IsAlong, near_walk, along-from_way, way-from_along, along-here, along-on, along-cut}
 use Rattle.sr_lanes.proofs.SizeLemmas.{count_below-less}
 
@@ -96,35 +97,35 @@ abbrev pub IsAffectedBelow : Net → Case → ℕ → ℕ → Type 0
 IsAffectedBelow n case m k = (k < m) × IsAffected n case k
 
 -- one of the first links leads along the row from u
-abbrev pub IsBeforeBy : Graph → List Bool → ℕ → List ℕ → List LinkNo → ℕ → ℕ → Type 0
-IsBeforeBy g x s cells links m u = (j : ℕ) × (j < m) × (tail g (number_at links j) ≡ u) × LeadsAlong g x s cells (number_at links j)
+abbrev pub IsBeforeBy : Graph → ℕ → List ℕ → List LinkNo → ℕ → ℕ → Type 0
+IsBeforeBy g s cells links m u = (j : ℕ) × (j < m) × (tail g (number_at links j) ≡ u) × LeadsAlong g s cells (number_at links j)
 
 -- all links to v are gone through
-pub before-all : (g : Graph) (x : List Bool) (s : ℕ) (cells : List ℕ) (v : ℕ) (links : List LinkNo) (u : ℕ) → EndAt g v links
-    → IsBeforeBy g x s cells links (length links) u ↔ IsOneBefore g x s cells v u
-before-all g x s cells v links u ends = (
+pub before-all : (g : Graph) (s : ℕ) (cells : List ℕ) (v : ℕ) (links : List LinkNo) (u : ℕ) → EndAt g v links
+    → IsBeforeBy g s cells links (length links) u ↔ IsOneBefore g s cells v u
+before-all g s cells v links u ends = (
   λ b. let at = ends.each b.0 b.1 in record { link = number_at links b.0; within = at.0; begins = b.2; ends = at.1; along = b.3 },
   λ b. let at = ends.all b.link b.within b.ends in (
     at.0,
     at.1,
     subst (λ l. tail g l ≡ u) (sym at.2) b.begins,
-    subst (λ l. LeadsAlong g x s cells l) (sym at.2) b.along,
+    subst (λ l. LeadsAlong g s cells l) (sym at.2) b.along,
   ),
 )
 
 -- the node is found, or one of the first links leads along the row from it
-abbrev pub IsFoundBy : Graph → List Bool → ℕ → List ℕ → List LinkNo → NodeBits → ℕ → ℕ → Type 0
-IsFoundBy g x s cells links found m u = (is_in found u ≡ true) ⊎ IsBeforeBy g x s cells links m u
+abbrev pub IsFoundBy : Graph → ℕ → List ℕ → List LinkNo → NodeBits → ℕ → ℕ → Type 0
+IsFoundBy g s cells links found m u = (is_in found u ≡ true) ⊎ IsBeforeBy g s cells links m u
 
-module _ (g : Graph) (x : List Bool) (s : ℕ) (cells : List ℕ) (links : List LinkNo) (found : NodeBits) (i : ℕ) (set : NodeBits) (tells : (u : ℕ) → IsTrue (is_in set u) ↔ IsFoundBy g x s cells links found i u) where
-  grown : (u : ℕ) → IsFoundBy g x s cells links found i u → IsFoundBy g x s cells links found (i + 1) u
+module _ (g : Graph) (s : ℕ) (cells : List ℕ) (links : List LinkNo) (found : NodeBits) (i : ℕ) (set : NodeBits) (tells : (u : ℕ) → IsTrue (is_in set u) ↔ IsFoundBy g s cells links found i u) where
+  grown : (u : ℕ) → IsFoundBy g s cells links found i u → IsFoundBy g s cells links found (i + 1) u
   grown u given = ⊎_elim (λ is. inl is) (λ b. inr (b.0, (let lt : b.0 < i = b.1 in omega arith), b.2, b.3)) given
 
   -- link number i leads along the row, so that its beginning is put in
   pub before-put : (more : NodeBits) (v : ℕ) → v ≡ tail g (number_at links i) → ((k : ℕ) → is_in more k ≡ (k == v || is_in set k))
-      → LeadsAlong g x s cells (number_at links i) → (u : ℕ) → IsTrue (is_in more u) ↔ IsFoundBy g x s cells links found (i + 1) u
+      → LeadsAlong g s cells (number_at links i) → (u : ℕ) → IsTrue (is_in more u) ↔ IsFoundBy g s cells links found (i + 1) u
   before-put more v at is along =
-      with-one set more v (IsFoundBy g x s cells links found i) (IsFoundBy g x s cells links found (i + 1)) tells is grown
+      with-one set more v (IsFoundBy g s cells links found i) (IsFoundBy g s cells links found (i + 1)) tells is grown
       (inr (i, (omega arith), sym at, along))
       (λ u given. ⊎_elim
       (λ is'. inr (inl is'))
@@ -135,7 +136,7 @@ module _ (g : Graph) (x : List Bool) (s : ℕ) (cells : List ℕ) (links : List 
       given)
 
   -- or it doesn't, or begins at a node that is in already
-  pub before-pass : (is_in set (tail g (number_at links i)) ≡ false → LeadsAlong g x s cells (number_at links i) → ⊥) → (u : ℕ) → IsTrue (is_in set u) ↔ IsFoundBy g x s cells links found (i + 1) u
+  pub before-pass : (is_in set (tail g (number_at links i)) ≡ false → LeadsAlong g s cells (number_at links i) → ⊥) → (u : ℕ) → IsTrue (is_in set u) ↔ IsFoundBy g s cells links found (i + 1) u
   before-pass fails u = (
     λ yes. grown u ((tells u).0 yes),
     λ given. ⊎_elim
@@ -145,7 +146,7 @@ module _ (g : Graph) (x : List Bool) (s : ℕ) (cells : List ℕ) (links : List 
         (λ yes. yes)
         (λ (out : is_in set u ≡ false). absurd (fails
         (subst (λ k. is_in set k ≡ false) (sym b.2 ∙ ap (λ j. tail g (number_at links j)) last) out)
-        (subst (λ j. LeadsAlong g x s cells (number_at links j)) last b.3)))
+        (subst (λ j. LeadsAlong g s cells (number_at links j)) last b.3)))
         (cases_Bool (is_in set u)))
         (λ (ne : b.0 ≢ i). (tells u).1 (inr (b.0, (let lt : b.0 < i + 1 = b.1 in omega arith), b.2, b.3)))
         (cases_eq b.0 i))
@@ -179,33 +180,64 @@ module _ (n : Net) (case : Case) (x : List Bool) (cells : List ℕ) (graph : IsG
     closed = λ v u yes no. absurd (true≢false (sym yes ∙ no));
   }
 
+  -- the source is on each walk
+  source_way : (v : ℕ) → IsOnRepairWay n case x v → IsOnRepairWay n case x (source_of n.graph case)
+  source_way v w = (w.0, w.1, record { before = []; after = w.2.before ++ w.2.after; to = refl; from = w.2.shortest.0; shortest = w.2.shortest })
+
+  -- the affected destinations with a walk are found first, with the source, if there are any
+  pub found-first : IsNamed n.graph → IsFailedSet n.graph case x → (pending found : NodeBits) (d : ℕ) → AreFound n case x cells pending pending → is_in pending d ≡ true
+      → ((k : ℕ) → is_in found k ≡ (k == source_of n.graph case || is_in pending k)) → AreFound n case x cells found pending
+  found-first named failed pending found d f some more = record {
+    inside = λ v yes. more v ∙ or_right (v == source_of n.graph case) (is_in pending v) yes;
+    sound = λ v yes. ⊎_elim
+        (λ (same : (v == source_of n.graph case) ≡ true). subst (λ k. IsOnRepairWay n case x k) (sym (eqb-true v (source_of n.graph case) same)) (source_way d (f.sound d some)))
+        (λ old. f.sound v old)
+        (or_cases (v == source_of n.graph case) (is_in pending v) (sym (more v) ∙ yes));
+    ends = λ v a near. more v ∙ or_right (v == source_of n.graph case) (is_in pending v) (f.ends v a near);
+    closed = λ v u yes no b. ⊎_elim
+        (λ (same : (v == source_of n.graph case) ≡ true).
+        let ends : IsLink n.graph (link_at n.graph b.link) = graph.each b.link b.within in
+        let here : head n.graph b.link ≡ source_of n.graph case = b.ends ∙ eqb-true v (source_of n.graph case) same in
+        let none : slice_index cells (head n.graph b.link) ≡ 0 = ap (λ k. slice_index cells k) here ∙ source-zero n.graph case x cells graph named is failed row in
+        absurd (omega (arith, none, b.along.tight, ends.2)))
+        (λ old. absurd (true≢false (sym old ∙ no)))
+        (or_cases (v == source_of n.graph case) (is_in pending v) (sym (more v) ∙ yes));
+  }
+
   -- a node before one that is on the walks is on them too
-  before-way : (v u : ℕ) → IsOnRepairWay n case x v → IsOneBefore n.graph x (source_of n.graph case) cells v u → IsOnRepairWay n case x u
-  before-way v u w b =
-      let s : ℕ = source_of n.graph case in
-      let g : Graph = n.graph in
-      let ends : IsLink g (link_at g b.link) = graph.each b.link b.within in
-      let rest : IsAlong g x s cells v w.0 = along-from_way g x s cells graph row source_in w.0 v w.2 in
-      let rest' : IsAlong g x s cells (head g b.link) w.0 = subst (λ k. IsAlong g x s cells k w.0) (sym b.ends) rest in
-      let near : slice_index cells (tail g b.link) < FAR = omega (arith, b.along.tight, rest'.near) in
-      let more : IsAlong g x s cells (tail g b.link) w.0 = along-on g x s cells graph row source_in b.link w.0 b.within b.along.outside b.along.carry near b.along.tight rest' in
-      let way : IsOnWay g x s w.0 (tail g b.link) = way-from_along g x s cells graph row source_in w.0 (tail g b.link) ends.0 more in
-      (w.0, w.1, subst (λ k. IsOnWay g x s w.0 k) b.begins way)
+  before-way : IsNamed n.graph → IsFailedSet n.graph case x → (v u : ℕ) → IsOnRepairWay n case x v → IsOneBefore n.graph (source_of n.graph case) cells v u → IsOnRepairWay n case x u
+  before-way named failed v u w b = ⊎_elim
+      (λ (here : u ≡ source_of n.graph case). subst (λ k. IsOnRepairWay n case x k) (sym here) (source_way v w))
+      (λ (other : u ≢ source_of n.graph case). before_other named failed v u w b other)
+      (cases_eq u (source_of n.graph case))
+    where
+      before_other : IsNamed n.graph → IsFailedSet n.graph case x → (v u : ℕ) → IsOnRepairWay n case x v → IsOneBefore n.graph (source_of n.graph case) cells v u → u ≢ source_of n.graph case → IsOnRepairWay n case x u
+      before_other named failed v u w b other =
+          let s : ℕ = source_of n.graph case in
+          let g : Graph = n.graph in
+          let ends : IsLink g (link_at g b.link) = graph.each b.link b.within in
+          let rest : IsAlong g x s cells v w.0 = along-from_way g x s cells graph row source_in w.0 v w.2 in
+          let rest' : IsAlong g x s cells (head g b.link) w.0 = subst (λ k. IsAlong g x s cells k w.0) (sym b.ends) rest in
+          let near : slice_index cells (tail g b.link) < FAR = omega (arith, b.along.tight, rest'.near) in
+          let outside : has x b.link ≡ false = along-outside g case x cells graph named is failed row b.link b.within (λ e. other (sym b.begins ∙ e)) b.along.tight rest'.near in
+          let more : IsAlong g x s cells (tail g b.link) w.0 = along-on g x s cells graph row source_in b.link w.0 b.within outside b.along.carry near b.along.tight rest' in
+          let way : IsOnWay g x s w.0 (tail g b.link) = way-from_along g x s cells graph row source_in w.0 (tail g b.link) ends.0 more in
+          (w.0, w.1, subst (λ k. IsOnWay g x s w.0 k) b.begins way)
 
   -- the nodes before a pending one are found
-  pub found-next : (v : ℕ) (found pending found' pending' : NodeBits) → AreFound n case x cells found pending
+  pub found-next : IsNamed n.graph → IsFailedSet n.graph case x → (v : ℕ) (found pending found' pending' : NodeBits) → AreFound n case x cells found pending
       → IsFollowed v found pending found' pending'
-      → ((u : ℕ) → IsTrue (is_in found' u) ↔ ((is_in found u ≡ true) ⊎ IsOneBefore n.graph x (source_of n.graph case) cells v u))
+      → ((u : ℕ) → IsTrue (is_in found' u) ↔ ((is_in found u ≡ true) ⊎ IsOneBefore n.graph (source_of n.graph case) cells v u))
       → AreFound n case x cells found' pending'
-  found-next v found pending found' pending' f d tells = record {
+  found-next named failed v found pending found' pending' f d tells = record {
     inside = λ k yes. ⊎_elim
         (λ left. d.stay k (f.inside k (without-inside pending d.less v k d.taken left).1))
         (λ new. (and_parts (is_in found' k) (not (is_in found k)) (sym (d.new k) ∙ new)).0)
         (or_cases (is_in d.less k) (is_in d.more k) (sym (d.pending_is k) ∙ yes));
-    sound = λ k yes. ⊎_elim (λ was. f.sound k was) (λ b. before-way v k (f.sound v (f.inside v d.was)) b) ((tells k).0 yes);
+    sound = λ k yes. ⊎_elim (λ was. f.sound k was) (λ b. before-way named failed v k (f.sound v (f.inside v d.was)) b) ((tells k).0 yes);
     ends = λ k a near. d.stay k (f.ends k a near);
     closed = λ k u yes no b. ⊎_elim
-        (λ (same : k ≡ v). (tells u).1 (inr (subst (λ j. IsOneBefore n.graph x (source_of n.graph case) cells j u) same b)))
+        (λ (same : k ≡ v). (tells u).1 (inr (subst (λ j. IsOneBefore n.graph (source_of n.graph case) cells j u) same b)))
         (λ (ne : k ≢ v).
         let parts = or_parts (is_in d.less k) (is_in d.more k) (sym (d.pending_is k) ∙ no) in
         let gone : is_in pending k ≡ false = sym (without-other pending d.less v k d.taken ne) ∙ parts.0 in
@@ -252,7 +284,7 @@ module _ (n : Net) (case : Case) (x : List Bool) (cells : List ℕ) (graph : IsG
           within = c.within;
           begins = c.from;
           ends = refl;
-          along = record { outside = c.outside; carry = rw c.from c.carry; tight = rw c.from c.tight };
+          along = record { carry = rw c.from c.carry; tight = rw c.from c.tight };
         }))
         (along-cut n.graph x (source_of n.graph case) cells graph row source_in v d k)
 

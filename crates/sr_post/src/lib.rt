@@ -15,5 +15,5 @@ pub use destinations::{affected, affected_set};
 pub use failure::post;
 pub use kept::HopNodes;
 pub use left::Post;
-pub use marks::{tails, walks, walks_along};
+pub use marks::{tails, walks};
 pub use spaces::spaces_of;

@@ -53,7 +53,8 @@ StaySolved p s t =
     (old new : Case) → old.kind ≡ new.kind → HaveSameName p.old.graph p.new.graph old.link.0 new.link.0
     → IsSteadyCase p.old p.new old → IsSolution p.old old s → IsSolution p.new new t
 
--- where the old case is steady, the record that is kept of it has a solution in the new net, and the walks of the old case
+-- where the old case is steady, the record that is kept of it has a solution in the new net, and the walks of the old
+-- case
 pub record StayKnown (p : Passage) (old : Case) (was kept : KnownCase) : Type 0 where
   pub solved : StaySolved p (arc_value was.solved) (arc_value kept.solved)
   pub walks : AreToldWalks p.old old kept.walks

@@ -27,7 +27,7 @@ use sr_delta::{Changes, OldCase, Staying, case_stays, is_steady, may_stay};
 use sr_labels::Net;
 use sr_lanes::NodeBits;
 use sr_model::Case;
-use sr_post::walks_along;
+use sr_post::walks;
 use sr_spf::{Trees, are_in_place};
 use std::alloc::{AllocError, Global};
 use std::marker::Model;
@@ -151,25 +151,17 @@ impl<'a> Former<'a> {
 
     /// The nodes on the walks of the old case, which are found where nobody has asked for them. Its distances without the
     /// failed links are these.
-    fn walks_of(
-        &self,
-        alloc: Global,
-        old: Case,
-        known: &KnownCase,
-        cells: &[u64],
-    ) -> Result<NodeBits, AllocError>
+    fn walks_of(&self, old: Case, known: &KnownCase, cells: &[u64]) -> NodeBits
         requires case { IsCase self.now.old.graph old }
         requires known { IsKnownCase self.now.old old known.now }
         requires cells { cells.now ≡ (arc_value known.now.solved).cells }
-        ensures { IfOk result (AreWalks self.now.old old) }
+        ensures { AreWalks self.now.old old result }
     {
         match known.walks {
-            Some(walks) => Ok(walks),
+            Some(walks) => walks,
             None => {
-                let net = self.computed.net();
-                let failed = net.graph().failed(alloc, old)?;
                 let trees = self.computed.trees();
-                Ok(walks_along(net, trees, old, &failed, cells, self.tails))
+                walks(self.computed.net(), trees, old, cells, self.tails)
             }
         }
     }
@@ -194,7 +186,7 @@ impl<'a> Former<'a> {
         if !may_stay(self.changes, net, old, &cells) {
             return Ok(None);
         }
-        let walks = self.walks_of(alloc, old, known, &cells)?;
+        let walks = self.walks_of(old, known, &cells);
         let was = OldCase::new(net, self.computed.trees(), old, &cells, walks);
         if !self.outlasts(&was) {
             return Ok(None);

@@ -91,7 +91,7 @@ fn remains_by<L: Ledger>(
     let net = version.net();
     let left = post(alloc, net, version.trees(), case, &mut steps)?;
     let tails = tails(alloc, net.graph())?;
-    let ways = walks(net, version.trees(), &left, case, &tails);
+    let ways = walks(net, version.trees(), case, left.cells(), &tails);
     let mut distances = Vec::new(alloc);
     let mut on_walks = Vec::new(alloc);
     for node in 0..net.graph().node_count() as u16 {

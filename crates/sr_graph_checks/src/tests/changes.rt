@@ -134,8 +134,9 @@ fn stays(
 {
     let left = left_of(alloc, old, trees, case)?;
     let tails = tails(alloc, old.graph())?;
-    let walks = walks(old, trees, &left, case, &tails);
-    let old_case = OldCase::new(old, trees, case, left.cells(), walks);
+    let cells = left.cells();
+    let walks = walks(old, trees, case, cells, &tails);
+    let old_case = OldCase::new(old, trees, case, cells, walks);
     Ok(case_stays(changes, &Staying::new(changes, kept), &old_case, new))
 }
 

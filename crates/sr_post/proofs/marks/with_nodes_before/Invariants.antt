@@ -5,4 +5,4 @@ use Rattle.sr_post.proofs.MarkLemmas.{IsFoundBy}
 use Rattle.sr_post.proofs.marks.with_nodes_before.Given as goal
 
 abbrev pub invariant-loop-i : goal.invariant-loop-i
-invariant-loop-i l = (u : ℕ) → IsTrue (is_in l.set u) ↔ IsFoundBy l.graph l.x l.source.0 l.cells l.links l.fn.found l.i u
+invariant-loop-i l = (u : ℕ) → IsTrue (is_in l.set u) ↔ IsFoundBy l.graph l.source.0 l.cells l.links l.fn.found l.i u
