@@ -14,7 +14,7 @@ use Rattle.sr_model.specs.Table.{IsOut, AreHops}
 use Rattle.sr_laws.proofs.Places.{map-from}
 use Rattle.sr_spf.specs.Hops.{AreNextHops}
 use Rattle.sr_fib.specs.declared.sorted.IndexedNode.{IndexedNode}
-use Rattle.sr_fib.specs.Outs.{out_at, label_in, label_or_0, hop_over, hops_over, link_of, IsIndexed, AreInside}
+use Rattle.sr_fib.specs.Outs.{out_at, swap_at, label_of_index, label_or_0, hop_over, hops_over, hop_link, IsIndexed, AreLinksInside}
 
 -- ---- what becomes of a label when a link is crossed
 abbrev pops : Net → ℕ → ℕ → Bool
@@ -22,9 +22,6 @@ pops n b m = (m == b) && not (labels_at n b).keep
 
 abbrev nulls : Net → ℕ → ℕ → Bool
 nulls n b m = (m == b) && (labels_at n b).explicit
-
-abbrev swaps : Net → ℕ → ℕ → Out
-swaps n b m = Swap (label_in (labels_at n m).srgb (labels_at n b).index)
 
 -- a label that isn't popped there is kept
 kept : (n : Net) (b m : ℕ) → m ≡ b → pops n b m ≡ false → (labels_at n b).keep ≡ true
@@ -40,7 +37,7 @@ not_explicit n b m same is = ⊎_elim
     (λ (plain : (labels_at n b).explicit ≡ false). plain)
     (and_cases (m == b) (labels_at n b).explicit is)
 
-swap-out : (n : Net) (b m : ℕ) → IsLabel n m b (label_in (labels_at n m).srgb (labels_at n b).index) → pops n b m ≡ false → nulls n b m ≡ false → IsOut n b m (swaps n b m)
+swap-out : (n : Net) (b m : ℕ) → IsLabel n m b (label_of_index (labels_at n m).srgb (labels_at n b).index) → pops n b m ≡ false → nulls n b m ≡ false → IsOut n b m (swap_at n b m)
 swap-out n b m label is plain = (
   label,
   ⊎_elim
@@ -53,11 +50,11 @@ pub out-is : (n : Net) → IsNet n → (e : IndexedNode) (m : ℕ) → IsIndexed
 out-is n r e m is within =
     let b : ℕ = e.node.0 in
     let inside = r.inside m e.node.0 e.index within is.within is.index in
-    let named : label_in (labels_at n m).srgb (labels_at n e.node.0).index ≡ inside.0 = ap (label_in (labels_at n m).srgb) is.index ∙ ap label_or_0 inside.1 in
-    let label : IsLabel n m e.node.0 (label_in (labels_at n m).srgb (labels_at n e.node.0).index) = (e.index, is.within, is.index, inside.1 ∙ ap (λ k. Some k) (sym named)) in
-    cond_both (pops n e.node.0 m) Pop (cond (nulls n e.node.0 m) Null (swaps n e.node.0 m)) (IsOut n e.node.0 m)
+    let named : label_of_index (labels_at n m).srgb (labels_at n e.node.0).index ≡ inside.0 = ap (label_of_index (labels_at n m).srgb) is.index ∙ ap label_or_0 inside.1 in
+    let label : IsLabel n m e.node.0 (label_of_index (labels_at n m).srgb (labels_at n e.node.0).index) = (e.index, is.within, is.index, inside.1 ∙ ap (λ k. Some k) (sym named)) in
+    cond_both (pops n e.node.0 m) Pop (cond (nulls n e.node.0 m) Null (swap_at n e.node.0 m)) (IsOut n e.node.0 m)
     (λ popped. let p = and_parts (m == e.node.0) (not (labels_at n e.node.0).keep) popped in (eqb-true m e.node.0 p.0, not-true (labels_at n e.node.0).keep p.1))
-    (λ keeps. cond_both (nulls n e.node.0 m) Null (swaps n e.node.0 m) (IsOut n e.node.0 m)
+    (λ keeps. cond_both (nulls n e.node.0 m) Null (swap_at n e.node.0 m) (IsOut n e.node.0 m)
     (λ null.
     let p = and_parts (m == e.node.0) (labels_at n e.node.0).explicit null in
     let same : m ≡ e.node.0 = eqb-true m e.node.0 p.0 in
@@ -66,12 +63,12 @@ out-is n r e m is within =
 
 -- no other thing becomes of it
 pub out-one : (n : Net) (b m : ℕ) (o : Out) → IsOut n b m o → o ≡ out_at n b m
-out-one n b m Pop is = sym (cond-true (pops n b m) Pop (cond (nulls n b m) Null (swaps n b m)) (and_from (m == b) (not (labels_at n b).keep) (eq-eqb m b is.0) (not_from_false (labels_at n b).keep is.1)))
+out-one n b m Pop is = sym (cond-true (pops n b m) Pop (cond (nulls n b m) Null (swap_at n b m)) (and_from (m == b) (not (labels_at n b).keep) (eq-eqb m b is.0) (not_from_false (labels_at n b).keep is.1)))
 out-one n b m Null is =
-    sym (cond-false (pops n b m) Pop (cond (nulls n b m) Null (swaps n b m)) (and_right (m == b) (not (labels_at n b).keep) (not_from_true (labels_at n b).keep is.1))
-    ∙ cond-true (nulls n b m) Null (swaps n b m) (and_from (m == b) (labels_at n b).explicit (eq-eqb m b is.0) is.2))
+    sym (cond-false (pops n b m) Pop (cond (nulls n b m) Null (swap_at n b m)) (and_right (m == b) (not (labels_at n b).keep) (not_from_true (labels_at n b).keep is.1))
+    ∙ cond-true (nulls n b m) Null (swap_at n b m) (and_from (m == b) (labels_at n b).explicit (eq-eqb m b is.0) is.2))
 out-one n b m (Swap t) is =
-    let named : label_in (labels_at n m).srgb (labels_at n b).index ≡ t = ap (label_in (labels_at n m).srgb) is.0.2 ∙ ap label_or_0 is.0.3 in
+    let named : label_of_index (labels_at n m).srgb (labels_at n b).index ≡ t = ap (label_of_index (labels_at n m).srgb) is.0.2 ∙ ap label_or_0 is.0.3 in
     let keeps : pops n b m ≡ false = ⊎_elim
     (λ (ne : m ≢ b). and_left (m == b) (not (labels_at n b).keep) (ne_eqb m b ne))
     (λ flags. and_right (m == b) (not (labels_at n b).keep) (not_from_true (labels_at n b).keep flags.0))
@@ -80,19 +77,19 @@ out-one n b m (Swap t) is =
     (λ (ne : m ≢ b). and_left (m == b) (labels_at n b).explicit (ne_eqb m b ne))
     (λ flags. and_right (m == b) (labels_at n b).explicit flags.1)
     is.1 in
-    sym (cond-false (pops n b m) Pop (cond (nulls n b m) Null (swaps n b m)) keeps
-    ∙ cond-false (nulls n b m) Null (swaps n b m) plain
+    sym (cond-false (pops n b m) Pop (cond (nulls n b m) Null (swap_at n b m)) keeps
+    ∙ cond-false (nulls n b m) Null (swap_at n b m) plain
     ∙ ap Swap named)
 
 -- ---- next hops
-pub head-within : (g : Graph) → IsGraph g → (l : ℕ) → l < link_count g → head g l < node_count g
+head-within : (g : Graph) → IsGraph g → (l : ℕ) → l < link_count g → head g l < node_count g
 head-within g graph l within = let k : IsLink g (link_at g l) = graph.each l within in k.1
 
-pub links-inside : (n : Net) (u v : ℕ) (links : List LinkNo) → AreNextHops n.graph u v links → AreInside n links
+pub links-inside : (n : Net) (u v : ℕ) (links : List LinkNo) → AreNextHops n.graph u v links → AreLinksInside n links
 links-inside n u v links are = λ k d lt. (are.each k (get_or links k d) (slice_get-get_or links k d lt)).shortest.0.0
 
 -- the links of the hops are the links
-pub links-of : (n : Net) (b : ℕ) (links : List LinkNo) → links ≡ map link_of (hops_over n b links)
+pub links-of : (n : Net) (b : ℕ) (links : List LinkNo) → links ≡ map hop_link (hops_over n b links)
 links-of n b [] = refl
 links-of n b (l ∷ ls) = ap (λ rest. l ∷ rest) (links-of n b ls)
 

@@ -14,16 +14,20 @@ label_or_0 None = 0
 label_or_0 (Some t) = t
 
 -- the label of the index in the ranges, or 0 where there is none
-abbrev pub label_in : List Range → Option ℕ → ℕ
-label_in rs None = 0
-label_in rs (Some i) = label_or_0 (label_of rs i)
+abbrev pub label_of_index : List Range → Option ℕ → ℕ
+label_of_index rs None = 0
+label_of_index rs (Some i) = label_or_0 (label_of rs i)
+
+-- b's label is swapped for the one by which m knows it
+abbrev pub swap_at : Net → ℕ → ℕ → Out
+swap_at n b m = Swap (label_of_index (labels_at n m).srgb (labels_at n b).index)
 
 -- what becomes of b's label when a link into m is crossed
 abbrev pub out_at : Net → ℕ → ℕ → Out
 out_at n b m =
     if (m == b) && not (labels_at n b).keep
     then Pop
-    else (if (m == b) && (labels_at n b).explicit then Null else Swap (label_in (labels_at n m).srgb (labels_at n b).index))
+    else (if (m == b) && (labels_at n b).explicit then Null else swap_at n b m)
 
 -- the link, and what becomes of b's label when it is crossed
 abbrev pub hop_over : Net → ℕ → LinkNo → LinkNo × Out
@@ -34,8 +38,8 @@ abbrev pub hops_over : Net → ℕ → List LinkNo → List (LinkNo × Out)
 hops_over n b links = map (hop_over n b) links
 
 -- the link of a hop
-abbrev pub link_of : LinkNo × Out → LinkNo
-link_of hop = hop.0
+abbrev pub hop_link : LinkNo × Out → LinkNo
+hop_link hop = hop.0
 
 -- the entry is a node's, with its index
 pub record IsIndexed (n : Net) (entry : IndexedNode) : Type 0 where
@@ -43,5 +47,5 @@ pub record IsIndexed (n : Net) (entry : IndexedNode) : Type 0 where
   pub index : (labels_at n entry.node.0).index ≡ Some entry.index
 
 -- each of these is a link of the net
-abbrev pub AreInside : Net → List LinkNo → Type 0
-AreInside n links = All (λ (l : LinkNo). l.0 < link_count n.graph) links
+abbrev pub AreLinksInside : Net → List LinkNo → Type 0
+AreLinksInside n links = All (λ (l : LinkNo). l.0 < link_count n.graph) links

@@ -1,4 +1,4 @@
--- What is kept for the label tables of a net, and the net whose tables they are.
+-- The nodes and links of a net by which its label tables are told, and the net whose tables they are.
 use Rattle.std.specs.Prelude.{◌≡◌, ℕ, ◌<◌, List, [], length, Some, slice_index_or}
 use Rattle.sr_model.specs.Graph.{node_count, link_count, tail}
 use Rattle.sr_model.specs.Label.{Net, labels_at, adj_at}
@@ -13,9 +13,9 @@ pub record SidLists : Type 0 where
   pub indices : List IndexedNode
   pub links : List (List LabelledLink)
 
--- the links of node u
-abbrev pub links_at : List (List LabelledLink) → ℕ → List LabelledLink
-links_at links u = slice_index_or links u []
+-- the links of node u that have an adjacency label
+abbrev pub links_by_label_at : List (List LabelledLink) → ℕ → List LabelledLink
+links_by_label_at links u = slice_index_or links u []
 
 -- the list has each node that has an index, with it
 pub record AreIndices (n : Net) (list : List IndexedNode) : Type 0 where
@@ -35,7 +35,7 @@ pub record AreAdjacencies (n : Net) (u : ℕ) (list : List LabelledLink) : Type 
 -- the lists are those of the nodes below m
 pub record AreLinkLists (n : Net) (links : List (List LabelledLink)) (m : ℕ) : Type 0 where
   pub long : length links ≡ m
-  pub each : (u : ℕ) → u < m → AreAdjacencies n u (links_at links u)
+  pub each : (u : ℕ) → u < m → AreAdjacencies n u (links_by_label_at links u)
 
 -- the nodes and links are those of the net
 pub record AreSids (n : Net) (s : SidLists) : Type 0 where

@@ -2,7 +2,7 @@
 ghost use Rattle.std.specs.Prelude.{◌≡◌, ◌<◌, length, map, Some, slice_get};
 ghost use Rattle.sr_model.specs.Graph.{node_count};
 ghost use Rattle.sr_model.specs.Table.{IsOut};
-ghost use Rattle.sr_fib.specs.Outs.{IsIndexed, AreInside, out_at, hops_over, link_of};
+ghost use Rattle.sr_fib.specs.Outs.{IsIndexed, AreLinksInside, out_at, hops_over, hop_link};
 
 use crate::sorted::IndexedNode;
 use sr_labels::Net;
@@ -45,20 +45,20 @@ impl<'a> Model for Hops<'a> {
     ghost use Rattle.std.specs.Prelude.{List};
     ghost use Rattle.sr_model.specs.declared.link.LinkNo.{LinkNo};
     ghost use Rattle.sr_model.specs.declared.entry.Out.{Out};
-    ghost use Rattle.sr_fib.specs.Outs.{IsIndexed, AreInside, hops_over};
+    ghost use Rattle.sr_fib.specs.Outs.{IsIndexed, AreLinksInside, hops_over};
 
     ghost Value = { List (LinkNo × Out) };
 
     ghost view = { λ h. hops_over h.net.now h.end.node.0 h.links.now };
 
-    ghost invariant = { λ h. IsIndexed h.net.now h.end × AreInside h.net.now h.links.now };
+    ghost invariant = { λ h. IsIndexed h.net.now h.end × AreLinksInside h.net.now h.links.now };
 }
 
 impl<'a> Hops<'a> {
     /// These links of the net, towards the node.
     pub(crate) fn new(net: &'a Net, end: IndexedNode, links: &'a [LinkNo]) -> Hops<'a>
         requires end { IsIndexed net.now end }
-        requires links { AreInside net.now links.now }
+        requires links { AreLinksInside net.now links.now }
         ensures { result ≡ hops_over net.now end.node.0 links.now }
     {
         Hops { net, end, links }
@@ -73,7 +73,7 @@ impl<'a> Hops<'a> {
 
     /// The links, in their order.
     pub fn links(&self) -> &'a [LinkNo]
-        ensures { result.now ≡ map link_of self.now }
+        ensures { result.now ≡ map hop_link self.now }
     {
         self.links
     }

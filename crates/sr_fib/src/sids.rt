@@ -1,7 +1,7 @@
-//! What is kept of a net for its label tables.
+//! The nodes of a net by index and the links of each node by adjacency label, by which its label tables are told.
 ghost use Rattle.std.specs.Prelude.{◌<◌, length, IfOk, MatchOption};
 ghost use Rattle.sr_fib.specs.Sorted.{HasNode, NoNode, HasLinkUnder, NoLink};
-ghost use Rattle.sr_fib.specs.Tables.{AreSids, links_at};
+ghost use Rattle.sr_fib.specs.Tables.{AreSids, links_by_label_at};
 
 use crate::listed::{adjacencies, indices};
 use crate::sorted::{IndexedNode, LabelledLink, link_of_label, node_of_index};
@@ -81,8 +81,8 @@ impl Sids {
     pub(crate) fn link(&self, node: NodeNo, label: u32) -> Option<LinkNo>
         requires { node.0 < length self.now.links }
         ensures { MatchOption result
-            (NoLink (links_at self.now.links node.0) label)
-            (HasLinkUnder (links_at self.now.links node.0) label) }
+            (NoLink (links_by_label_at self.now.links node.0) label)
+            (HasLinkUnder (links_by_label_at self.now.links node.0) label) }
     {
         self.links[node.0 as usize].link(label)
     }

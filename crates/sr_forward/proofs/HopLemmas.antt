@@ -8,21 +8,21 @@ use Rattle.sr_model.specs.declared.link.LinkNo.{LinkNo}
 use Rattle.sr_model.specs.declared.entry.Out.{Out}
 use Rattle.sr_model.specs.declared.entry.Out.TheVariants.{Pop}
 use Rattle.sr_model.specs.Graph.{has}
-use Rattle.sr_fib.specs.Outs.{link_of}
+use Rattle.sr_fib.specs.Outs.{hop_link}
 use Rattle.sr_forward.specs.Choices.{open_hops, open_links}
 
-kept-links : (b : Bool) (h : LinkNo × Out) (hops : List (LinkNo × Out)) (links : List LinkNo) → map link_of hops ≡ links → map link_of (cond b (h ∷ hops) hops) ≡ cond b (h.0 ∷ links) links
+kept-links : (b : Bool) (h : LinkNo × Out) (hops : List (LinkNo × Out)) (links : List LinkNo) → map hop_link hops ≡ links → map hop_link (cond b (h ∷ hops) hops) ≡ cond b (h.0 ∷ links) links
 kept-links true h hops links same = ap (λ rest. h.0 ∷ rest) same
 kept-links false h hops links same = same
 
 -- the links of the open hops are the open links
-links-open : (closed : List Bool) (hops : List (LinkNo × Out)) → map link_of (open_hops closed hops) ≡ open_links closed (map link_of hops)
+links-open : (closed : List Bool) (hops : List (LinkNo × Out)) → map hop_link (open_hops closed hops) ≡ open_links closed (map hop_link hops)
 links-open closed [] = refl
-links-open closed (h ∷ hops) = kept-links (not (has closed h.0.0)) h (open_hops closed hops) (open_links closed (map link_of hops)) (links-open closed hops)
+links-open closed (h ∷ hops) = kept-links (not (has closed h.0.0)) h (open_hops closed hops) (open_links closed (map hop_link hops)) (links-open closed hops)
 
 -- so there are as many
-pub open-long : (closed : List Bool) (hops : List (LinkNo × Out)) (links : List LinkNo) → links ≡ map link_of hops → length (open_links closed links) ≡ length (open_hops closed hops)
-open-long closed hops links are = ap (λ ls. length (open_links closed ls)) are ∙ ap length (sym (links-open closed hops)) ∙ length-map (open_hops closed hops) link_of
+pub open-long : (closed : List Bool) (hops : List (LinkNo × Out)) (links : List LinkNo) → links ≡ map hop_link hops → length (open_links closed links) ≡ length (open_hops closed hops)
+open-long closed hops links are = ap (λ ls. length (open_links closed ls)) are ∙ ap length (sym (links-open closed hops)) ∙ length-map (open_hops closed hops) hop_link
 
 -- ---- what is open from a place on
 abbrev no_link : LinkNo
@@ -31,12 +31,12 @@ no_link = record { 0 = 0 }
 abbrev hop_at : List (LinkNo × Out) → ℕ → LinkNo × Out
 hop_at hops at = get_or hops at (no_link, Pop)
 
-module _ (closed : List Bool) (hops : List (LinkNo × Out)) (links : List LinkNo) (are : links ≡ map link_of hops) (at : ℕ) (lt : at < length links) (shut : Bool) (told : shut ≡ has closed (get_or links at no_link).0) where
+module _ (closed : List Bool) (hops : List (LinkNo × Out)) (links : List LinkNo) (are : links ≡ map hop_link hops) (at : ℕ) (lt : at < length links) (shut : Bool) (told : shut ≡ has closed (get_or links at no_link).0) where
   within : at < length hops
-  within = omega (arith, lt, ap length are, length-map hops link_of)
+  within = omega (arith, lt, ap length are, length-map hops hop_link)
 
   same : not shut ≡ not (has closed (hop_at hops at).0.0)
-  same = ap not (told ∙ ap (λ (ls : List LinkNo). has closed (get_or ls at no_link).0) are ∙ ap (λ (l : LinkNo). has closed l.0) (get_or-map link_of hops at (no_link, Pop) no_link within))
+  same = ap not (told ∙ ap (λ (ls : List LinkNo). has closed (get_or ls at no_link).0) are ∙ ap (λ (l : LinkNo). has closed l.0) (get_or-map hop_link hops at (no_link, Pop) no_link within))
 
   parted : open_hops closed (drop at hops) ≡ cond (not (has closed (hop_at hops at).0.0)) (hop_at hops at ∷ open_hops closed (drop (at + 1) hops)) (open_hops closed (drop (at + 1) hops))
   parted =

@@ -15,7 +15,7 @@ use Rattle.sr_print.proofs.forwarding.put_hops.Goals as goal
 hop-link : (n : Net) (hops : List (LinkNo × Out)) (i : ℕ) (hop : LinkNo × Out) → AreHopLinks n.graph hops → slice_get hops i ≡ Some hop → hop.0.0 < link_count n.graph
 hop-link n hops i hop are is = subst (λ (h : LinkNo × Out). h.0.0 < link_count n.graph) (get_or_from_slice_get hops i hop hop is) (are i hop (slice_get_within hops i hop is))
 
--- the text of one hop more
+-- one hop more is written
 hop-more : (n : Net) (hops : List (LinkNo × Out)) (i : ℕ) (hop : LinkNo × Out) (old one two : List ℕ) → slice_get hops i ≡ Some hop → one ≡ old ++ flat_map (hop_text n) (take i hops) → two ≡ one ++ hop_text n hop → two ≡ old ++ flat_map (hop_text n) (take (i + 1) hops)
 hop-more n hops i hop old one two is before more =
     let taken : take (i + 1) hops ≡ take i hops ++ hop ∷ [] = take_more hops i hop (slice_get_within hops i hop is) ∙ ap (λ h. take i hops ++ h ∷ []) (get_or_from_slice_get hops i hop hop is) in
