@@ -17,10 +17,23 @@ use Rattle.sr_lanes.specs.Passes.{has_distance}
 use Rattle.sr_lanes.proofs.SizeLemmas.{without-same, without-other, without-inside}
 use Rattle.sr_walks.proofs.Walks.{walk-within}
 use Rattle.sr_laws.proofs.Failures.{failed-one}
-use Rattle.sr_post.specs.Marks.{AreFound, AreWalks, IsOneBefore, LeadsAlong}
+use Rattle.sr_post.specs.Marks.{AreFound, AreWalks, HasNodesBefore, HasTails, IsOneBefore, LeadsAlong}
 use Rattle.sr_post.proofs.OutsideLemmas.{along-outside, source-zero}
 use Rattle.sr_post.proofs.WayLemmas.{IsAlong, near_walk, along-from_way, way-from_along, along-here, along-on, along-cut}
 use Rattle.sr_lanes.proofs.SizeLemmas.{count_below-less}
+
+-- a link that leads along the row to a node begins at one that is reached
+pub nodes-before : (g : Graph) (x : List Bool) (s : ℕ) (cells : List ℕ) (v : ℕ) (tails reached before : NodeBits) → IsGraph g → IsRow g x s cells
+    → HasTails g v tails → ((u : ℕ) → is_in reached u ≡ has_distance cells u) → ((u : ℕ) → is_in before u ≡ (is_in tails u && is_in reached u))
+    → HasNodesBefore g s cells v before
+nodes-before g x s cells v tails reached before graph row has near both u one =
+    let k : IsLink g (link_at g one.link) = graph.each one.link one.within in
+    let top : slice_index cells (head g one.link) ≤ FAR = (row.each (head g one.link) k.1).top in
+    let tail_near : slice_index cells (tail g one.link) < FAR = omega (arith, one.along.tight, top, k.2) in
+    let tail_in : tail g one.link < length cells = omega (arith, k.0, row.long) in
+    let far : has_distance cells (tail g one.link) ≡ true = and_from (nat_lt (tail g one.link) (length cells)) (nat_lt (slice_index cells (tail g one.link)) FAR) (lt-ltb (tail g one.link) (length cells) tail_in) (lt-ltb (slice_index cells (tail g one.link)) FAR tail_near) in
+    let found : is_in before (tail g one.link) ≡ true = both (tail g one.link) ∙ and_from (is_in tails (tail g one.link)) (is_in reached (tail g one.link)) (has one.link one.within one.ends) (near (tail g one.link) ∙ far) in
+    subst (λ w. is_in before w ≡ true) one.begins found
 
 -- from the node nothing has been followed back: it isn't found, or is pending
 abbrev pub is_open : NodeBits → NodeBits → ℕ → Bool

@@ -31,6 +31,10 @@ pub record AreTails (g : Graph) (sets : List NodeBits) : Type 0 where
   pub long : length sets ≡ node_count g
   pub each : (v : ℕ) (set : NodeBits) → slice_get sets v ≡ Some set → HasTails g v set
 
+-- the set has at least the nodes from which a link that leads along the row leads to v
+abbrev pub HasNodesBefore : Graph → ℕ → List ℕ → ℕ → NodeBits → Type 0
+HasNodesBefore g s cells v set = (u : ℕ) → IsOneBefore g s cells v u → is_in set u ≡ true
+
 -- the row has the distances from the source of the case without the links that fail
 abbrev pub IsRowAfter : Graph → Case → List ℕ → Type 0
 IsRowAfter g case cells = (x : List Bool) × IsFailedSet g case x × IsRow g x (source_of g case) cells

@@ -5,7 +5,7 @@ ghost use Rattle.sr_model.specs.Walk.{IsRow};
 ghost use Rattle.sr_model.specs.Case.{IsCase, source_of};
 ghost use Rattle.sr_lanes.specs.Bits.{is_in};
 ghost use Rattle.sr_spf.specs.Trees.{AreTrees};
-ghost use Rattle.sr_post.specs.Marks.{AreTails, AreWalks, HasTails, IsOneBefore, IsRowAfter, LeadsAlong};
+ghost use Rattle.sr_post.specs.Marks.{AreTails, AreWalks, HasNodesBefore, IsOneBefore, IsRowAfter, LeadsAlong};
 
 use crate::destinations::affected_set;
 use sr_graph::Graph;
@@ -30,8 +30,8 @@ fn leads_along(graph: &Graph, source: NodeNo, cells: &[u64], link: LinkNo, found
         && graph.carries(source, edge.from)
 }
 
-/// The nodes that are found, and those from which a link that leads along the row leads to the node. The nodes at which
-/// some link to it begins are among `before`.
+/// The nodes that are found, and those from which a link that leads along the row leads to the node: all of these are among
+/// `before`.
 fn with_nodes_before(
     graph: &Graph,
     source: NodeNo,
@@ -42,7 +42,7 @@ fn with_nodes_before(
 ) -> NodeBits
     requires row { (x : List Bool) × IsRow graph.now x source.0 cells.now }
     requires v { v.0 < node_count graph.now }
-    requires before { HasTails graph.now v.0 before }
+    requires before { HasNodesBefore graph.now source.0 cells.now v.0 before }
     ensures { (u : ℕ) → IsTrue (is_in result u)
         ↔ ((is_in found u ≡ true) ⊎ IsOneBefore graph.now source.0 cells.now v.0 u) }
 {
@@ -97,7 +97,9 @@ pub fn walks(net: &Net, trees: &Trees, case: Case, cells: &[u64], tails: &[NodeB
     let mut found = pending.with(source.0 as usize);
     'pending: while let Some(v) = pending.take_first() {
         let node = NodeNo(v as u16);
-        let now = with_nodes_before(graph, source, cells, node, found, tails[v]);
+        // A node that isn't reached, as one that failed, is never found.
+        let before = tails[v].and(reached);
+        let now = with_nodes_before(graph, source, cells, node, found, before);
         pending = pending.or(now.and_not(found));
         found = now;
         // What is on walks is reached, so that no other node is left. In many cases this comes soon.

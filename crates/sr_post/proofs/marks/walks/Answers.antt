@@ -5,7 +5,7 @@ use Rattle.sr_model.specs.Case.{source_of}
 use Rattle.sr_model.specs.Graph.{node_count}
 use Rattle.sr_lanes.specs.Bits.{is_in}
 use Rattle.sr_post.specs.Marks.{AreFound, IsOneBefore}
-use Rattle.sr_post.proofs.MarkLemmas.{way-within, found-start, found-first, found-next, found-all, found-over, left-none, open-less}
+use Rattle.sr_post.proofs.MarkLemmas.{way-within, found-start, found-first, found-next, found-all, found-over, left-none, nodes-before, open-less}
 use Rattle.sr_post.proofs.marks.walks.Goals as goal
 
 pub returns-in_default : goal.returns-in_default
@@ -46,13 +46,16 @@ bounds-tails-v c =
 
 pub with_nodes_before-now-requires-clause-before : goal.with_nodes_before-now-requires-clause-before
 with_nodes_before-now-requires-clause-before c =
+    let g = c.args.net.now.graph in
     let pending = c.pending.invariant c.requires.row.0 c.requires.row.1 c.requires.row.2 in
-    let within : c.in-Some-take_first.v < node_count c.args.net.now.graph =
+    let within : c.in-Some-take_first.v < node_count g =
     way-within c.args.net.now c.args.case c.requires.row.0 c.args.cells.now c.requires.trees.graph c.requires.case c.requires.row.2 c.in-Some-take_first.v
     (pending.sound c.in-Some-take_first.v (pending.inside c.in-Some-take_first.v c.in-Some-take_first.ensures.first.member)) in
     let at : slice_get c.args.tails.now c.in-Some-take_first.v ≡ Some c.index-tails-v.result =
     slice_get_read c.args.tails.now (length c.args.tails.now) c.in-Some-take_first.v c.index-tails-v.result refl (omega (arith, within, c.requires.tails.long)) c.index-tails-v.is in
-    rw c.graph-graph.ensures.value (c.requires.tails.each c.in-Some-take_first.v c.index-tails-v.result at)
+    let s : c.edge.result.from.0 ≡ source_of g c.args.case = rw c.graph-graph.ensures.value at c.edge.ensures.from in
+    rw (c.graph-graph.ensures.value, s) (nodes-before g c.requires.row.0 (source_of g c.args.case) c.args.cells.now c.in-Some-take_first.v c.index-tails-v.result c.finite-reached.result c.and-before.result
+    c.requires.trees.graph c.requires.row.2 (c.requires.tails.each c.in-Some-take_first.v c.index-tails-v.result at) c.finite-reached.ensures c.and-before.ensures)
 
 pub pending-smaller : goal.pending-smaller
 pending-smaller c =
