@@ -5,8 +5,9 @@ use Rattle.std.proofs.lemmas.Bool.{cases_eq, cases_lt, eqb-false, eq-eqb, ne_eqb
 use Rattle.std.proofs.lemmas.Bool.Decides.{nat_tests}
 use Rattle.std.proofs.lemmas.Grind.{get_or-set_at}
 use Rattle.std.proofs.lemmas.List.{get_or-set_other, get_or_past, length-set}
-use Rattle.std.proofs.lemmas.Nat.{or_lt, le_or_l, le_or_r}
-use Rattle.std.proofs.lemmas.Nat.Bits.{bit_at_and, bit_at_or, bit_at_not, bit_at-lt, bit_at_set_same, bit_at_set_other, bit_at_clear_same, bit_at_clear_other, bit_at-zero, bit_at-trailing_zeros, same_from_bits_below, shr_and_one}
+use Rattle.std.proofs.Math.Pow.{pow-lt}
+use Rattle.std.proofs.lemmas.Nat.{or_lt, le_or_l, le_or_r, pow_pos}
+use Rattle.std.proofs.lemmas.Nat.Bits.{bit_at_and, bit_at_or, bit_at_not, bit_at-lt, bit_at_set_same, bit_at_set_other, bit_at_clear_same, bit_at_clear_other, bit_at-zero, bit_at-trailing_zeros, same_from_bits_below, shr_and_one, and_pow}
 use mir.Syntax.{w64}
 use Rattle.sr_lanes.specs.Words.{AreWords}
 
@@ -16,6 +17,10 @@ tells words v = nat_eq (bit_at (get_or words (v / 64) 0) (v % 64)) 1
 
 both : (a b : ℕ) → a < 2 → b < 2 → nat_eq (min a b) 1 ≡ (nat_eq a 1 && nat_eq b 1)
 both a b small less = grind (arith, nat_tests)
+
+-- the bits of two words that are in both
+pub told-both : (a b i : ℕ) → nat_eq (bit_at (bit_and a b) i) 1 ≡ (nat_eq (bit_at a i) 1 && nat_eq (bit_at b i) 1)
+told-both a b i = rw (bit_at_and a b i) (both (bit_at a i) (bit_at b i) (bit_at-lt a i) (bit_at-lt b i))
 
 either : (a b : ℕ) → a < 2 → b < 2 → nat_eq (max a b) 1 ≡ (nat_eq a 1 || nat_eq b 1)
 either a b small less = grind (arith, nat_tests)
@@ -38,10 +43,7 @@ of_each f xs ys (suc (suc (suc (suc k)))) x4 y4 none =
     rw (x0, y0, none) refl
 
 pub tells-and : (xs ys : List ℕ) (v : ℕ) → AreWords xs → AreWords ys → tells (four_of bit_and xs ys) v ≡ (tells xs v && tells ys v)
-tells-and xs ys v x y =
-    let a = get_or xs (v / 64) 0 in
-    let b = get_or ys (v / 64) 0 in
-    rw (of_each bit_and xs ys (v / 64) x.four y.four refl, bit_at_and a b (v % 64)) (both (bit_at a (v % 64)) (bit_at b (v % 64)) (bit_at-lt a (v % 64)) (bit_at-lt b (v % 64)))
+tells-and xs ys v x y = rw (of_each bit_and xs ys (v / 64) x.four y.four refl) (told-both (get_or xs (v / 64) 0) (get_or ys (v / 64) 0) (v % 64))
 
 pub tells-or : (xs ys : List ℕ) (v : ℕ) → AreWords xs → AreWords ys → tells (four_of bit_or xs ys) v ≡ (tells xs v || tells ys v)
 tells-or xs ys v x y =
@@ -70,6 +72,20 @@ words-or xs ys x y = record {
 
 pub tells-has : (xs : List ℕ) (v : ℕ) → nat_eq (bit_and (get_or xs (v / 64) 0 / 2 ^ (v % 64)) 1) 1 ≡ tells xs v
 tells-has xs v = rw (shr_and_one (get_or xs (v / 64) 0) (v % 64)) refl
+
+-- a bit at the place of a one is not 0
+of_product : (a p : ℕ) → a < 2 → 0 < p → not (nat_eq (a * p) 0) ≡ nat_eq a 1
+of_product zero p small some = grind (arith, nat_tests)
+of_product (suc zero) p small some = grind (arith, nat_tests)
+of_product (suc (suc a)) p small some = absurd (omega arith)
+
+pub tells-masked : (xs : List ℕ) (v : ℕ) → not (nat_eq (bit_and (get_or xs (v / 64) 0) (1 * 2 ^ (v % 64) % 18446744073709551616)) 0) ≡ tells xs v
+tells-masked xs v =
+    let place = v % 64 in
+    let word = get_or xs (v / 64) 0 in
+    let below = pow-lt {i = place} {j = 64} (omega arith) in
+    let whole : 1 * 2 ^ place % 18446744073709551616 ≡ 2 ^ place = omega (arith, below) in
+    rw (whole, and_pow word place) (of_product (bit_at word place) (2 ^ place) (bit_at-lt word place) (pow_pos place))
 
 pub tells-none : (xs : List ℕ) (v : ℕ) → get_or xs (v / 64) 0 ≡ 0 → tells xs v ≡ false
 tells-none xs v is = rw (is, bit_at-zero (v % 64)) refl

@@ -27,6 +27,15 @@ impl NodeBits {
         NodeBits { words: [0; 4] }
     }
 
+    /// This node alone.
+    #[inline(always)]
+    pub fn alone(node: usize) -> NodeBits
+        requires { node < NODES_AT_MOST }
+        ensures { (v : ℕ) → is_in result v ≡ (v == node) }
+    {
+        NodeBits::none().with(node)
+    }
+
     /// All nodes below this number.
     #[inline(always)]
     pub fn below(count: usize) -> NodeBits
@@ -86,6 +95,19 @@ impl NodeBits {
         let mut words = self.words;
         words[node / A_WORD] &= !(1 << (node % A_WORD));
         NodeBits { words }
+    }
+
+    /// Takes the node out of the set. Whether it was in it.
+    #[inline(always)]
+    pub fn remove(&mut self, node: usize) -> bool
+        requires { node < NODES_AT_MOST }
+        ensures was { result ≡ is_in self.old node }
+        ensures left { IsWithout self.old self.new node }
+    {
+        let word = self.words[node / A_WORD];
+        let bit = 1 << (node % A_WORD);
+        self.words[node / A_WORD] = word & !bit;
+        word & bit != 0
     }
 
     /// The nodes that are in both sets.

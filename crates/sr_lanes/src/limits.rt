@@ -17,3 +17,7 @@ pub(crate) const GROUPS: usize = A_WORD / LANES;
 
 /// Of a set of at most this many nodes each is tested alone (this project's rule: that costs less than a pass).
 pub(crate) const FEW: usize = 40;
+
+/// Of the nodes of a word at most this many are each tested alone (this project's rule: that costs less than a pass over the
+/// places of the word).
+pub(crate) const FEW_OF_A_WORD: usize = 14;

@@ -6,8 +6,8 @@ ghost use Rattle.sr_lanes.specs.Bits.{is_in};
 ghost use Rattle.sr_lanes.specs.Passes.{AreCells, is_tight, differs, has_distance};
 ghost use Rattle.sr_lanes.specs.Tests.{AreBitsAmong};
 
-use crate::limits::{A_WORD, CELL_AT_MOST, FEW, NODES_AT_MOST};
-use crate::place_test::places_of;
+use crate::limits::{A_WORD, CELL_AT_MOST, FEW, FEW_OF_A_WORD, GROUPS, NODES_AT_MOST};
+use crate::place_test::{places_of, word_of};
 use crate::row_tests::{OneRow, TwoRows};
 use crate::tight_rows::TightRows;
 use crate::words::NodeBits;
@@ -45,10 +45,27 @@ fn tight_in_word(row: &[u64], cost: u64, base: &[u64], from: usize, among: u64) 
     found
 }
 
-/// Those of the nodes to which the way over the base's node, to which it costs `cost`, costs what the row says. Each is
-/// tested alone, word by word: what is left of a word stands in a register.
-fn tight_singly(row: &[u64], cost: u64, base: &[u64], among: NodeBits) -> NodeBits
+/// Those of the nodes of a word, whose bits tell of nodes from `from` on, to which the way over the base's node, to which it
+/// costs `cost`, costs what the row says. A few nodes are tested one by one, and for more there is a pass over the places of
+/// the word, where the row has them all.
+#[inline(always)]
+fn tight_of_word(row: &[u64], cost: u64, base: &[u64], from: usize, among: u64) -> u64
     requires lengths { length base.now ≡ length row.now }
+    requires cells { (cost ≤ CELL_AT_MOST) × AreCells base.now }
+    requires from { from + A_WORD ≤ NODES_AT_MOST }
+    requires among { (i : ℕ) → i < A_WORD → bit_at among i ≡ 1 → from + i < length row.now }
+    ensures { AreBitsAmong (is_tight row.now cost base.now) from among result }
+{
+    if among.count_ones() as usize <= FEW_OF_A_WORD || row.len() < from + A_WORD {
+        return tight_in_word(row, cost, base, from, among);
+    }
+    among & word_of(&TightRows { row, cost, base }, from, GROUPS)
+}
+
+/// Those of the nodes to which the way over the base's node, to which it costs `cost`, costs what the row says. Each word of
+/// the set is tested as suits it, so that a set with many nodes in one word has a pass over the places of that word alone.
+pub fn tight_among(row: &[u64], cost: u64, base: &[u64], among: NodeBits) -> NodeBits
+    requires lengths { (length base.now ≡ length row.now) × (length row.now ≤ NODES_AT_MOST) }
     requires cost { cost ≤ CELL_AT_MOST }
     requires base { AreCells base.now }
     requires among { (v : ℕ) → is_in among v ≡ true → v < length row.now }
@@ -57,28 +74,12 @@ fn tight_singly(row: &[u64], cost: u64, base: &[u64], among: NodeBits) -> NodeBi
     let [a, b, c, d] = among.words;
     NodeBits {
         words: [
-            tight_in_word(row, cost, base, 0, a),
-            tight_in_word(row, cost, base, A_WORD, b),
-            tight_in_word(row, cost, base, 2 * A_WORD, c),
-            tight_in_word(row, cost, base, 3 * A_WORD, d),
+            tight_of_word(row, cost, base, 0, a),
+            tight_of_word(row, cost, base, A_WORD, b),
+            tight_of_word(row, cost, base, 2 * A_WORD, c),
+            tight_of_word(row, cost, base, 3 * A_WORD, d),
         ],
     }
-}
-
-/// Those of the nodes to which the way over the base's node, to which it costs `cost`, costs what the row says. A few nodes
-/// are tested one by one, and for more there is a pass over the rows.
-#[inline(always)]
-pub fn tight_among(row: &[u64], cost: u64, base: &[u64], among: NodeBits) -> NodeBits
-    requires lengths { (length base.now ≡ length row.now) × (length row.now ≤ NODES_AT_MOST) }
-    requires cost { cost ≤ CELL_AT_MOST }
-    requires base { AreCells base.now }
-    requires among { (v : ℕ) → is_in among v ≡ true → v < length row.now }
-    ensures { (v : ℕ) → is_in result v ≡ (is_in among v && is_tight row.now cost base.now v) }
-{
-    if among.count() <= FEW {
-        return tight_singly(row, cost, base, among);
-    }
-    among.and(tight(row, cost, base))
 }
 
 /// The nodes at which the rows differ.

@@ -30,7 +30,7 @@ pub(crate) trait PlaceTest {
 
 /// What the test says in that many groups of eight places from this one on.
 #[inline(always)]
-fn word_of<T: PlaceTest>(test: &T, from: usize, groups: usize) -> u64
+pub(crate) fn word_of<T: PlaceTest>(test: &T, from: usize, groups: usize) -> u64
     requires places { LANES * groups ≤ T.count test.now - from }
     requires from { from + A_WORD ≤ NODES_AT_MOST }
     requires groups { LANES * groups ≤ A_WORD }
