@@ -2,9 +2,8 @@
 ghost use Rattle.std.specs.Prelude.{◌≡◌, ℕ, ◌<◌, ◌≤◌, true, false, length, IsTrue, Some, slice_get};
 ghost use Rattle.sr_model.specs.Graph.{node_count, link_count};
 ghost use Rattle.sr_model.specs.Label.{Net as Labelled};
-ghost use Rattle.sr_model.specs.Case.{IsCase};
 ghost use Rattle.sr_model.specs.Stay.{HaveSameName, case_with};
-ghost use Rattle.sr_laws.specs.Steady.{IsSteadyCase, pivot_of};
+ghost use Rattle.sr_laws.specs.Steady.{IsSteadyCase};
 ghost use Rattle.sr_lanes.specs.declared.limits.TheConstants.{NODES_AT_MOST as Most};
 ghost use Rattle.sr_lanes.specs.declared.words.NodeBits.{NodeBits as Members};
 ghost use Rattle.sr_lanes.specs.Bits.{is_in};
@@ -19,26 +18,11 @@ use crate::cases::have_same_failures;
 use crate::differences::Changes;
 use crate::old_case::OldCase;
 use crate::staying::Staying;
-use sr_graph::Graph;
 use sr_labels::Net;
 use sr_lanes::NodeBits;
-use sr_model::{Case, Kind, LinkNo, NodeNo};
-use sr_post::affected_set;
+use sr_model::{Case, LinkNo, NodeNo};
+use sr_post::{affected_set, pivot_of};
 use sr_spf::Trees;
-
-/// The node at which the failed links of the case lie: the end of the protected link where that node fails, else its
-/// beginning.
-fn pivot_of(graph: &Graph, case: Case) -> NodeNo
-    requires { IsCase graph.now case }
-    ensures pivot { result.0 ≡ pivot_of graph.now case }
-    ensures within { result.0 < node_count graph.now }
-{
-    let protected = graph.edge(case.link);
-    match case.kind {
-        Kind::Node => protected.to,
-        Kind::Link | Kind::Risk => protected.from,
-    }
-}
 
 /// Whether it is as far as it was from each of the nodes to this one. `moved` has the nodes to which it isn't.
 fn are_as_far(moved: &[NodeBits], nodes: NodeBits, to: NodeNo) -> bool

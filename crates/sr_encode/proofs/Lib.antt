@@ -1,5 +1,6 @@
 pub mod SearchLemmas
 pub mod QueueLemmas
+pub mod PivotLemmas
 pub mod SceneLemmas
 pub mod LookLemmas
 pub mod MarkLemmas

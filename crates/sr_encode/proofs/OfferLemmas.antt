@@ -25,18 +25,14 @@ none-joined after queue d k m before behind j lt ends =
     (cases_lt j k)
 
 -- d alone is found, and is no longer pending
-module _ (d : ℕ) (before served : Served) (none found : NodeBits) (empty : (e : ℕ) → is_in none e ≡ false)
-    (alone : (e : ℕ) → is_in found e ≡ (e == d || is_in none e))
+module _ (d : ℕ) (before served : Served) (found : NodeBits) (alone : (e : ℕ) → is_in found e ≡ (e == d))
     (rest : (e : ℕ) → is_in served.pending e ≡ (is_in before.pending e && not (is_in found e))) where
-  pub only-found : (e : ℕ) → is_in found e ≡ (e == d)
-  only-found e = alone e ∙ ap (λ b. e == d || b) (empty e) ∙ or-false (e == d)
-
   pub d-found : is_in found d ≡ true
-  d-found = only-found d ∙ eq-eqb d d refl
+  d-found = alone d ∙ eq-eqb d d refl
 
   pub others-same : (e : ℕ) → e ≢ d → is_in served.pending e ≡ is_in before.pending e
   others-same e ne =
-      let out : is_in found e ≡ false = only-found e ∙ apart_test e d ne in
+      let out : is_in found e ≡ false = alone e ∙ apart_test e d ne in
       rest e ∙ ap (λ b. is_in before.pending e && not b) out ∙ and-true (is_in before.pending e)
 
   -- it has the place of the first waypoint at which lists can end towards it
@@ -47,7 +43,7 @@ module _ (d : ℕ) (before served : Served) (none found : NodeBits) (empty : (e 
     offered-first least =
         offered-found p before served found rest marked after queue first.within
         (λ e yes.
-        let same : e ≡ d = eqb-true e d (sym (only-found e) ∙ yes) in
+        let same : e ≡ d = eqb-true e d (sym (alone e) ∙ yes) in
         subst (λ v. IsLeast after.net after.failed after.source v (path_to queue p)) (sym same)
         (least.each p first.from first.within d (offered.inside d waits)
         (none-joined after queue d k p (offered.none d waits) first.none) first.ends))

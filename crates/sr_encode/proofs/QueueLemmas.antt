@@ -193,6 +193,27 @@ pub starting-jump : (after : Aftermath) (queue : List Waypoint) (unmet : NodeBit
 starting-jump after queue unmet l next r up none = record { known = r.known; order = r.order; start = start-jump after r.known r.order l next r.start up none; agrees = r.agrees }
 
 -- a first link that leads along no shortest walk, or to a node that was met
+-- to take out a node that isn't in the set changes nothing
+pub starting-still : (after : Aftermath) (queue : List Waypoint) (unmet less : NodeBits) (l v : ℕ) → IsStarting after queue unmet l → IsWithout unmet less v → is_in unmet v ≡ false → IsStarting after queue less l
+starting-still after queue unmet less l v r taken out =
+    let same : (k : ℕ) → is_in less k ≡ is_in unmet k = λ k. ⊎_elim
+    (λ (e : k ≡ v). subst (λ w. is_in less w ≡ is_in unmet w) (sym e) (without-same unmet less v taken ∙ sym out))
+    (λ (ne : k ≢ v). without-other unmet less v k taken ne)
+    (cases_eq k v) in
+    record {
+      known = r.known;
+      order = r.order;
+      start = r.start;
+      agrees = record {
+        long = r.agrees.long;
+        nodes = r.agrees.nodes;
+        paths = r.agrees.paths;
+        parents = r.agrees.parents;
+        inside = λ w yes. r.agrees.inside w (sym (same w) ∙ yes);
+        unmarked = λ w lt. same w ∙ r.agrees.unmarked w lt;
+      };
+    }
+
 pub starting-skip : (after : Aftermath) (queue : List Waypoint) (unmet : NodeBits) (l : ℕ) → IsStarting after queue unmet l → ((w : ℕ) → IsExact after.net after.failed after.source w (record { first = l; segments = [] }) → (w < node_count after.net.graph) × (is_in unmet w ≡ false)) → IsStarting after queue unmet (l + 1)
 starting-skip after queue unmet l r here = record { known = r.known; order = r.order; start = start-more after r.known r.order l r.start (λ w e. list-from r.known r.order queue unmet w r.agrees (let lt : w < node_count after.net.graph = (here w e).0 in omega (arith, r.start.long)) (here w e).1); agrees = r.agrees }
 

@@ -40,10 +40,9 @@ impl Met {
         let Some(node) = scene.begin_over(first) else {
             return Ok(());
         };
-        if !self.unmet.has(node.0 as usize) {
+        if !self.unmet.remove(node.0 as usize) {
             return Ok(());
         }
-        self.unmet = self.unmet.without(node.0 as usize);
         self.queue.push(Waypoint {
             node,
             first,

@@ -21,7 +21,7 @@ use sr_graph::LinkSet;
 use sr_labels::Net;
 use sr_lanes::NodeBits;
 use sr_model::{Case, FAR, NodeNo, Segment};
-use sr_post::{Post, spaces_of};
+use sr_post::{Post, pivot_of, spaces_of};
 use sr_spaces::Spaces;
 use sr_spf::Trees;
 use std::alloc::{AllocError, Global};
@@ -99,7 +99,8 @@ fn answers_for(
     ensures { IfOk result (AreAnswers net.now case) }
 {
     let source = net.graph().link(case.link).from;
-    let scene = Scene::new(net, spaces, post.cells(), source);
+    let pivot = pivot_of(net.graph(), case);
+    let scene = Scene::new(net, spaces, post.cells(), source, pivot);
     let found = search(alloc, &scene, post, wanted)?;
     let KeptAnswers {
         kept,

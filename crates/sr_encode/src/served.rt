@@ -148,7 +148,7 @@ impl Served {
     {
         let _graph = scene.graph();
         if let Some(first) = first_end(scene, queue, k, d) {
-            let found = NodeBits::none().with(d.0 as usize);
+            let found = NodeBits::alone(d.0 as usize);
             self.pending = self.pending.and_not(found);
             mark(&mut self.places, found, first as u16);
         }

@@ -46,14 +46,8 @@ pub record IsAlone (set : NodeBits) (v : ℕ) : Type 0 where
   pub member : is_in set v ≡ true
   pub only : (u : ℕ) → is_in set u ≡ true → u ≡ v
 
-pub alone-from : (none set : NodeBits) (v : ℕ) → ((u : ℕ) → is_in none u ≡ false) → ((u : ℕ) → is_in set u ≡ (u == v || is_in none u)) → IsAlone set v
-alone-from none set v empty is = record {
-  member = is v ∙ ap (λ b. b || is_in none v) (eq-eqb v v refl);
-  only = λ u yes. ⊎_elim
-      (λ (same : (u == v) ≡ true). eqb-true u v same)
-      (λ (no : (u == v) ≡ false). absurd (true≢false (sym yes ∙ is u ∙ ap (λ b. b || is_in none u) no ∙ empty u)))
-      (cases_Bool (u == v));
-}
+pub alone-from : (set : NodeBits) (v : ℕ) → ((u : ℕ) → is_in set u ≡ (u == v)) → IsAlone set v
+alone-from set v is = record { member = is v ∙ eq-eqb v v refl; only = λ u yes. eqb-true u v (sym (is u) ∙ yes) }
 
 -- each link that leads to a node that is left is below l
 pub record IsOver (g : Graph) (x : List Bool) (s l : ℕ) (left : NodeBits) : Type 0 where

@@ -1,6 +1,6 @@
 -- The nodes that keep their distance in a failure: a way leads to each along them.
 use Rattle.std.proofs.Common.{◌≡◌, ℕ, ◌+◌, ◌<◌, ◌≤◌, ◌⊎◌, ⊎_elim, inl, inr, Bool, true, false, List, [], ◌∷◌, ◌++◌, length, refl, arith, ap, sym, ◌∙◌, subst, get_or}
-use Rattle.std.specs.Prelude.{All, Contains, slice_index, if◌then◌else◌}
+use Rattle.std.specs.Prelude.{Contains, slice_index, if◌then◌else◌}
 use Rattle.std.proofs.lemmas.Bool.{cases_eq, cases_lt, cases_Bool}
 use Rattle.std.proofs.lemmas.List.Elements.{Contains-get_or}
 use Rattle.std.proofs.lemmas.List.{length-append, get_or_push, get_or_past, get_or_default}
@@ -17,7 +17,7 @@ use Rattle.sr_lanes.specs.declared.words.NodeBits.{NodeBits}
 use Rattle.sr_lanes.specs.Bits.{is_in}
 use Rattle.sr_post.specs.Kept.{LeadsTo, IsKept, AreLost}
 use Rattle.sr_post.specs.Nodes.{AreThose, listed_at}
-use Rattle.sr_post.specs.Sets.{AreCellsWithout}
+use Rattle.sr_post.specs.Sets.{AreCellsWithout, AreKeptCells}
 use Rattle.sr_seq.proofs.ListLemmas.{last-cut}
 use Rattle.sr_walks.proofs.Walks.{avoids-left}
 
@@ -104,14 +104,6 @@ kept_walk g x s v kept =
     (λ (c : (l : ℕ) × LeadsTo g x s v l). let leads : LeadsTo g x s v c.0 = c.1 in (c.0 ∷ leads.hop.more, leads.hop.shortest.0))
     kept
 
--- the nodes that are kept have their cells of the row, and the others FAR, and are listed
-pub record AreKeptCells (g : Graph) (x : List Bool) (s : ℕ) (row cells : List ℕ) (lost : List NodeNo) : Type 0 where
-  pub long : length cells ≡ node_count g
-  pub each : (v : ℕ) → v < node_count g
-      → (IsKept g x s v × (slice_index cells v ≡ slice_index row v))
-      ⊎ ((IsKept g x s v → ⊥) × (slice_index cells v ≡ FAR) × Contains lost (record { 0 = v }))
-  pub nodes : All (λ (k : NodeNo). k.0 < node_count g) lost
-
 -- a node that is listed stands in the list
 listed-contains : (P : ℕ → Type 0) (m : ℕ) (nodes : List NodeNo) (v : ℕ) → AreThose P m nodes → v < m → P v → Contains nodes (record { 0 = v })
 listed-contains P m nodes v those lt is =
@@ -139,6 +131,9 @@ kept-cells g x s row cells nodes lost graph long are clear those = record {
   nodes = λ k d lt.
       let within : listed_at nodes k < node_count g = (are.within (listed_at nodes k) (those.each k lt).1).0 in
       subst (λ (node : NodeNo). node.0 < node_count g) (get_or_default nodes k (record { 0 = 0 }) d lt) within;
+  gone = λ j lt kept.
+      let yes : is_in lost (listed_at nodes j) ≡ true = (those.each j lt).1 in
+      ⊎_elim (λ (e : listed_at nodes j ≡ s). (are.within (listed_at nodes j) yes).1 e) (λ (c : (l : ℕ) × LeadsTo g x s (listed_at nodes j) l). are.lost (listed_at nodes j) c.0 yes c.1) kept;
 }
 
 module _ (g : Graph) (x : List Bool) (s : ℕ) (row cells : List ℕ) (lost : List NodeNo) (graph : IsGraph g) (within : s < node_count g) (is : IsRow g [] s row) (h : AreKeptCells g x s row cells lost) where

@@ -10,3 +10,4 @@ pub mod DangerLemmas
 pub mod SourceLemmas
 pub mod ListedLemmas
 pub mod DoubtLemmas
+pub mod BypassLemmas

@@ -3,3 +3,4 @@ pub mod Post
 pub mod Marks
 pub mod Kept
 pub mod Sets
+pub mod Bypass

@@ -8,6 +8,7 @@ use Rattle.sr_model.specs.Case.{IsFailedSet, source_of}
 use Rattle.sr_spf.specs.Begun.{IsBegun}
 use Rattle.sr_post.specs.declared.kept.HopNodes.{HopNodes}
 use Rattle.sr_post.specs.Kept.{AreKeptHops}
+use Rattle.sr_post.specs.Sets.{HaveKeptCells}
 
 -- the failed links, the distances from the source without them, and the hops that are kept, each with its nodes
 pub record Remains : Type 0 where
@@ -32,4 +33,5 @@ pub record Beginning : Type 0 where
 pub record IsBeginning (n : Net) (case : Case) (b : Beginning) : Type 0 where
   pub failed : IsFailedSet n.graph case b.failed
   pub known : IsBegun n.graph b.failed (source_of n.graph case) b.cells b.lost
+  pub stay : HaveKeptCells n.graph b.failed (source_of n.graph case) b.cells b.lost
   pub hops : AreKeptHops n.graph b.failed (source_of n.graph case) b.kept

@@ -1,13 +1,16 @@
 -- Lists of cells, and hops that are kept, which sets of nodes change.
-use Rattle.std.specs.Prelude.{◌≡◌, ℕ, ◌⊎◌, Bool, true, not, ◌&&◌, if◌then◌else◌, List, length, Contains, slice_index}
+use Rattle.std.specs.Prelude.{◌≡◌, ℕ, ◌<◌, ◌⊎◌, Bool, true, not, ◌&&◌, if◌then◌else◌, List, [], length, All, Contains, slice_index}
 use Rattle.sr_lanes.specs.Bits.{is_in}
 use Rattle.sr_lanes.specs.declared.words.NodeBits.{NodeBits}
-use Rattle.sr_model.specs.Graph.{Graph}
+use Rattle.sr_model.specs.Graph.{Graph, node_count}
+use Rattle.sr_model.specs.Walk.{IsRow}
 use Rattle.sr_model.specs.declared.link.LinkNo.{LinkNo}
+use Rattle.sr_model.specs.declared.link.NodeNo.{NodeNo}
 use Rattle.sr_model.specs.declared.link.TheConstants.{FAR}
 use Rattle.sr_post.specs.declared.kept.HopNodes.{HopNodes}
 use Rattle.sr_post.specs.declared.kept.KeptHops.{KeptHops}
-use Rattle.sr_post.specs.Kept.{AreKeptHops, AreLost}
+use Rattle.sr_post.specs.Kept.{AreKeptHops, AreLost, IsKept}
+use Rattle.sr_post.specs.Nodes.{listed_at}
 
 -- the cells are those of the row, but FAR at the nodes of the set
 pub record AreCellsWithout (row : List ℕ) (lost : NodeBits) (cells : List ℕ) : Type 0 where
@@ -26,3 +29,16 @@ pub record KeepsHop (before : KeptHops) (hop : LinkNo) (nodes : NodeBits) (after
 pub record AreKeptAndLost (g : Graph) (x : List Bool) (s : ℕ) (hops : KeptHops) : Type 0 where
   pub kept : AreKeptHops g x s hops.kept.items
   pub lost : AreLost g x s hops.left
+
+-- the nodes that are kept have their cells of the row, and the others FAR, and are listed
+pub record AreKeptCells (g : Graph) (x : List Bool) (s : ℕ) (row cells : List ℕ) (lost : List NodeNo) : Type 0 where
+  pub long : length cells ≡ node_count g
+  pub each : (v : ℕ) → v < node_count g
+      → (IsKept g x s v × (slice_index cells v ≡ slice_index row v))
+      ⊎ ((IsKept g x s v → ⊥) × (slice_index cells v ≡ FAR) × Contains lost (record { 0 = v }))
+  pub nodes : All (λ (k : NodeNo). k.0 < node_count g) lost
+  pub gone : (j : ℕ) → j < length lost → IsKept g x s (listed_at lost j) → ⊥
+
+-- they are so for the distances from s in the whole graph
+abbrev pub HaveKeptCells : Graph → List Bool → ℕ → List ℕ → List NodeNo → Type 0
+HaveKeptCells g x s cells lost = (row : List ℕ) × IsRow g [] s row × AreKeptCells g x s row cells lost

@@ -18,11 +18,11 @@ use std::sync::ledger::Ledger;
 /// What is known of a case before its search: the failed links, the distances from the source that stay (`FAR` for the
 /// others), the nodes whose distance doesn't, and the hops that are kept.
 #[derive(Debug, Drop)]
-struct Begun {
-    failed: LinkSet,
-    cells: Vec<u64>,
-    lost: Vec<NodeNo>,
-    kept: Vec<HopNodes>,
+pub(crate) struct Begun {
+    pub(crate) failed: LinkSet,
+    pub(crate) cells: Vec<u64>,
+    pub(crate) lost: Vec<NodeNo>,
+    pub(crate) kept: Vec<HopNodes>,
 }
 
 impl Model for Begun {
@@ -61,7 +61,12 @@ impl Begun {
 }
 
 /// What is known of the case before its search.
-fn begin(alloc: Global, net: &Net, trees: &Trees, case: Case) -> Result<Begun, AllocError>
+pub(crate) fn begin_case(
+    alloc: Global,
+    net: &Net,
+    trees: &Trees,
+    case: Case,
+) -> Result<Begun, AllocError>
     requires trees { AreTrees net.now.graph trees.now }
     requires case { IsCase net.now.graph case }
     ensures { IfOk result (IsBeginning net.now case) }
@@ -98,5 +103,5 @@ pub fn post<L: Ledger>(
     ensures steps { OnOk result (steps.new ≡ steps.old + 1) }
     ensures bounds { (steps.old ≤ steps.new) × (steps.new ≤ steps.old + 1) }
 {
-    begin(alloc, net, trees, case)?.finish(alloc, net, case, steps)
+    begin_case(alloc, net, trees, case)?.finish(alloc, net, case, steps)
 }

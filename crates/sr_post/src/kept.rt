@@ -7,7 +7,7 @@ ghost use Rattle.sr_model.specs.Walk.{IsNextHop};
 ghost use Rattle.sr_spf.specs.Begun.{IsBegun};
 ghost use Rattle.sr_spf.specs.Trees.{AreTrees};
 ghost use Rattle.sr_post.specs.Kept.{AreDoubtful, LeadsTo, LosesHop, AreEndangered, AreKeptHops, AreLost, IsKeptHop};
-ghost use Rattle.sr_post.specs.Sets.{AreCellsWithout, KeepsHop, AreKeptAndLost};
+ghost use Rattle.sr_post.specs.Sets.{AreCellsWithout, HaveKeptCells, KeepsHop, AreKeptAndLost};
 
 use crate::listed::all_listed;
 use sr_graph::LinkRange;
@@ -132,7 +132,7 @@ fn least_hop(
     ensures { MatchOption result ((l : ℕ) → LeadsTo spaces.now.graph spaces.now.failed source.0 v.0 l → ⊥)
         (λ (hop : Number). IsKeptHop spaces.now.graph spaces.now.failed source.0 v.0 hop.0) }
 {
-    let alone = NodeBits::none().with(v.0 as usize);
+    let alone = NodeBits::alone(v.0 as usize);
     for hop in trees.next_hops(source, v) {
         let led = led_by(spaces, trees, doubtful, *hop, alone);
         if !led.is_empty() {
@@ -164,7 +164,7 @@ fn keep_singly(
     let mut untried = endangered;
     'untried: while let Some(node) = untried.take_first() {
         if let Some(hop) = least_hop(spaces, trees, doubtful, source, NodeNo(node as u16)) {
-            hops.keep(hop, NodeBits::none().with(node))?;
+            hops.keep(hop, NodeBits::alone(node))?;
         }
     }
     Ok(hops)
@@ -262,8 +262,9 @@ pub(crate) fn known_distances(
     requires trees { AreTrees spaces.now.graph trees.now }
     requires doubtful { AreDoubtful spaces.now.graph spaces.now.failed source.0 doubtful }
     requires source { source.0 < node_count spaces.now.graph }
-    ensures begun { IfOk result (λ known. IsBegun spaces.now.graph spaces.now.failed source.0 known.cells.items
-        known.lost.items) }
+    ensures begun { IfOk result (λ known.
+        IsBegun spaces.now.graph spaces.now.failed source.0 known.cells.items known.lost.items
+        × HaveKeptCells spaces.now.graph spaces.now.failed source.0 known.cells.items known.lost.items) }
     ensures hops { IfOk result (λ known. AreKeptHops spaces.now.graph spaces.now.failed source.0 known.kept.items) }
 {
     let KeptHops { kept, left } = keep_hops(alloc, spaces, trees, doubtful, source)?;

@@ -3,6 +3,7 @@
 //! destinations.
 #![tactic(auto)]
 
+mod bypass;
 mod destinations;
 mod failure;
 mod kept;
@@ -11,9 +12,10 @@ mod listed;
 mod marks;
 mod spaces;
 
+pub use bypass::post_of_link;
 pub use destinations::{affected, affected_set};
 pub use failure::post;
 pub use kept::HopNodes;
 pub use left::Post;
 pub use marks::{tails, walks};
-pub use spaces::spaces_of;
+pub use spaces::{pivot_of, spaces_of};

@@ -1,14 +1,30 @@
-//! The spaces of a case, and the nodes of which they have to be asked.
-ghost use Rattle.std.specs.Prelude.{◌≡◌, List, Bool};
+//! The spaces of a case, the node at which its failed links lie, and the nodes of which the spaces have to be asked.
+ghost use Rattle.std.specs.Prelude.{◌≡◌, ◌<◌, List, Bool};
 ghost use Rattle.sr_model.specs.Case.{IsCase, IsFailedSet, source_of};
+ghost use Rattle.sr_model.specs.Graph.{node_count};
+ghost use Rattle.sr_laws.specs.Steady.{pivot_of};
 ghost use Rattle.sr_spf.specs.Trees.{AreTrees};
 ghost use Rattle.sr_post.specs.Kept.{AreDoubtful};
 
 use sr_graph::{Graph, LinkSet};
 use sr_lanes::{NodeBits, tight};
-use sr_model::{Case, Kind};
+use sr_model::{Case, Kind, NodeNo};
 use sr_spaces::Spaces;
 use sr_spf::Trees;
+
+/// The node at which the failed links of the case lie: the end of the protected link where that node fails, else its
+/// beginning.
+pub fn pivot_of(graph: &Graph, case: Case) -> NodeNo
+    requires { IsCase graph.now case }
+    ensures pivot { result.0 ≡ pivot_of graph.now case }
+    ensures within { result.0 < node_count graph.now }
+{
+    let protected = graph.edge(case.link);
+    match case.kind {
+        Kind::Node => protected.to,
+        Kind::Link | Kind::Risk => protected.from,
+    }
+}
 
 /// The spaces of the case. Where a node fails they are told by that node alone.
 pub fn spaces_of<'a>(

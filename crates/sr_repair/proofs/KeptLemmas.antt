@@ -1,21 +1,23 @@
 -- The kept answers after the passes over all cases.
 use Rattle.std.proofs.Common.{◌≡◌, ℕ, ◌<◌, List, [], ◌∷◌, ◌++◌, map, arith, sym, ◌∙◌, subst}
-use Rattle.std.specs.Prelude.{Option}
+use Rattle.std.specs.Prelude.{Bool, Option, Some}
+use Rattle.std.proofs.lemmas.Option.{none-some, same_Some}
 use Rattle.std.specs.Arc.{arc_value}
 use Rattle.std.proofs.lemmas.List.{append_assoc, get_or-map, length-map}
 use Rattle.sr_model.specs.declared.case.Case.{Case}
 use Rattle.sr_model.specs.declared.case.Kind.{Kind}
 use Rattle.sr_model.specs.declared.case.Kind.TheVariants.{Link as LinkKind, Node as NodeKind, Risk as RiskKind}
 use Rattle.sr_model.specs.Audit.{rank_of}
-use Rattle.sr_model.specs.Case.{IsCase}
+use Rattle.sr_model.specs.Case.{IsCase, IsFailedSet, source_of}
+use Rattle.sr_model.specs.Walk.{IsRow}
 use Rattle.sr_model.specs.Label.{Net}
 use Rattle.sr_encode.specs.declared.answers.NodeAnswer.{NodeAnswer}
 use Rattle.sr_encode.specs.Answered.{AreAnswers}
 use Rattle.sr_repair.specs.declared.passes.Passed.{Passed}
-use Rattle.sr_repair.specs.declared.passes.Passed.TheVariants.{Nothing, AsLink, Stays, Listed}
+use Rattle.sr_repair.specs.declared.passes.Passed.TheVariants.{Nothing, AsLink, Stays, Told, Listed}
 use Rattle.sr_repair.specs.declared.answers.Found.{Found}
 use Rattle.sr_repair.specs.declared.answers.Found.TheVariants.{Nothing as NothingFound, AsLink as AsLinkFound, Own}
-use Rattle.sr_repair.specs.Answers.{case_count, slot_of, link_case, AffectsSome, AreAllPassed, AreAllFound, IsPassed, IsFound, kept_of, IsAnswered}
+use Rattle.sr_repair.specs.Answers.{case_count, slot_of, link_case, AffectsSome, AreAllPassed, AreAllFound, IsPassed, IsFound, cells_told, kept_of, IsAnswered}
 use Rattle.sr_repair.specs.Spared.{Passage}
 use Rattle.sr_repair.proofs.KindLemmas.{answers-from}
 
@@ -33,7 +35,17 @@ kept-found : (former : Option Passage) (n : Net) (case : Case) (one : Passed) �
 kept-found former n case Nothing none = none
 kept-found former n case AsLink like = like
 kept-found former n case (Stays known) is = is
+kept-found former n case (Told solved) is = record { solution = is; walks = λ set told. cc }
 kept-found former n case (Listed solved search) is = record { solution = is.0; walks = λ set told. cc }
+
+-- distances that the pass over a case tells are those that it leaves
+pub cells-after : (former : Option Passage) (n : Net) (case : Case) (one : Passed) (cells : List ℕ) → IsPassed former n case one → cells_told one ≡ Some cells
+    → (x : List Bool) → IsFailedSet n.graph case x → IsRow n.graph x (source_of n.graph case) cells
+cells-after former n case Nothing cells is told x set = absurd (none-some cells told)
+cells-after former n case AsLink cells is told x set = absurd (none-some cells told)
+cells-after former n case (Stays known) cells is told x set = subst (λ k. IsRow n.graph x (source_of n.graph case) k) (same_Some _ cells told) (is.solution.row x set)
+cells-after former n case (Told solved) cells is told x set = subst (λ k. IsRow n.graph x (source_of n.graph case) k) (same_Some _ cells told) (is.row x set)
+cells-after former n case (Listed solved search) cells is told x set = subst (λ k. IsRow n.graph x (source_of n.graph case) k) (same_Some _ cells told) (is.0.row x set)
 
 -- the records after the passes are those of the cases
 pub all-kept : (former : Option Passage) (n : Net) (m : ℕ) (passed : List Passed) → AreAllPassed former n m passed → AreAllFound n m (map kept_of passed)

@@ -12,7 +12,7 @@ use Rattle.sr_model.specs.Stay.{HaveSameNodes}
 use Rattle.sr_spf.specs.Renewed.{fallen}
 use Rattle.sr_delta.specs.KeptTrees.{AreKeptTrees}
 use Rattle.sr_repair.specs.declared.passes.Passed.{Passed}
-use Rattle.sr_repair.specs.declared.passes.Passed.TheVariants.{Nothing, AsLink, Stays, Listed}
+use Rattle.sr_repair.specs.declared.passes.Passed.TheVariants.{Nothing, AsLink, Stays, Told, Listed}
 use Rattle.sr_repair.specs.Answers.{case_count, slot_of, AreAllPassed, IsPassed, searches_of, pass_searches}
 use Rattle.sr_repair.specs.Spared.{Passage, IsSpared}
 use Rattle.sr_repair.specs.Work.{how_many, IsWithinTrees, IsWithinCases, IsWithinWork}
@@ -45,12 +45,14 @@ abbrev is_listed : Passed → Bool
 is_listed Nothing = false
 is_listed AsLink = false
 is_listed (Stays known) = false
+is_listed (Told solved) = false
 is_listed (Listed solved search) = true
 
 listed-one : (one : Passed) → searches_of one ≡ cond (is_listed one) 1 0
 listed-one Nothing = refl
 listed-one AsLink = refl
 listed-one (Stays known) = refl
+listed-one (Told solved) = refl
 listed-one (Listed solved search) = refl
 
 searches-are : (passed : List Passed) → pass_searches passed ≡ how_many (map is_listed passed)
@@ -61,6 +63,7 @@ listed-searched : (former : Option Passage) (n : Net) (case : Case) (one : Passe
 listed-searched former n case Nothing is listed spared = absurd (let bad : false ≡ true = listed in cc)
 listed-searched former n case AsLink is listed spared = absurd (let bad : false ≡ true = listed in cc)
 listed-searched former n case (Stays known) is listed spared = absurd (let bad : false ≡ true = listed in cc)
+listed-searched former n case (Told solved) is listed spared = absurd (let bad : false ≡ true = listed in cc)
 listed-searched former n case (Listed solved search) is listed spared = is.1 spared
 
 slot-within : (n : Net) (case : Case) → IsCase n.graph case → slot_of case < case_count n.graph

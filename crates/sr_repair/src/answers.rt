@@ -35,6 +35,7 @@ fn kept<L: Ledger>(passed: Passed, steps: &mut Steps<L>) -> Found
         Passed::Nothing => Found::Nothing,
         Passed::AsLink => Found::AsLink,
         Passed::Stays(known) => Found::Own(known),
+        Passed::Told(solved) => Found::Own(KnownCase::new(solved)),
         Passed::Listed(solved, searched) => {
             steps.take_in(searched);
             Found::Own(KnownCase::new(solved))

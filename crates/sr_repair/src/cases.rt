@@ -22,24 +22,6 @@ pub(crate) fn slot_of(graph: &Graph, case: Case) -> u32
     3 * case.link.0 as u32 + rank
 }
 
-/// The case whose slot this is.
-pub(crate) fn case_in(graph: &Graph, slot: u32) -> Case
-    requires { slot < case_count graph.now }
-    ensures case { IsCase graph.now result }
-    ensures slot { slot_of result ≡ slot }
-{
-    let _links = graph.link_count();
-    let kind = match slot % 3 {
-        0 => Kind::Link,
-        1 => Kind::Node,
-        _ => Kind::Risk,
-    };
-    Case {
-        kind,
-        link: LinkNo((slot / 3) as u16),
-    }
-}
-
 /// How many cases there are: one of each kind for each link.
 pub fn case_count(graph: &Graph) -> u32
     ensures count { result ≡ case_count graph.now }

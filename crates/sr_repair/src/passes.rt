@@ -1,19 +1,23 @@
-//! The pass over a case: what stays from the version before, or else its searches, one for distances and one for lists;
-//! and the passes over all cases, in threads.
-ghost use Rattle.std.specs.Prelude.{◌≡◌, ◌*◌, ◌<◌, IfOk, MatchOption};
+//! The pass over a case: what stays from the version before, or else its searches, one for distances and one for lists,
+//! where in a link case the first is mostly spared; and the passes over all cases, in threads.
+ghost use Rattle.std.specs.Prelude.{◌≡◌, ◌*◌, ◌<◌, ◌≤◌, IfOk, MatchOption, option_map};
+ghost use Rattle.sr_model.specs.declared.case.Kind.TheVariants.{Link as LinkKind};
+ghost use Rattle.sr_model.specs.declared.link.TheConstants.{MOST_LINKS as MostLinks};
+ghost use Rattle.sr_model.specs.Graph.{link_count};
+ghost use Rattle.sr_post.specs.Bypass.{node_case};
+ghost use Rattle.sr_post.specs.Marks.{IsRowAfter};
 ghost use Rattle.std.specs.Arc.{arc_value};
 ghost use Rattle.sr_model.specs.Case.{IsCase};
 ghost use Rattle.sr_graph.specs.Failed.{FailsAsLink};
 ghost use Rattle.sr_spf.specs.Trees.{AreTrees};
 ghost use Rattle.sr_post.specs.Post.{IsPost};
 ghost use Rattle.sr_encode.specs.Answered.{AreAffected};
-ghost use Rattle.sr_repair.specs.Answers.{case_count, IsPassed, IsPassedIn, AreAllPassed};
+ghost use Rattle.sr_repair.specs.Answers.{case_count, cells_told, in_slots, AreOfLink, IsPassed, AreAllPassed};
 ghost use Rattle.sr_repair.specs.Former.{IsSearched};
 ghost use Rattle.sr_repair.specs.Solutions.{IsSolution};
 ghost use Rattle.sr_repair.specs.KnownCase.{IsKnownCase};
 ghost use Rattle.sr_repair.specs.Spared.{IsSpared};
 
-use crate::cases::{case_count, case_in};
 use crate::known_case::KnownCase;
 use crate::row::CaseRow;
 use crate::setting::Setting;
@@ -21,8 +25,8 @@ use crate::solved::Solved;
 use sr_encode::lists;
 use sr_labels::Net;
 use sr_lanes::NodeBits;
-use sr_model::Case;
-use sr_post::{Post, affected_set, post};
+use sr_model::{Case, Kind, LinkNo};
+use sr_post::{Post, affected_set, post, post_of_link};
 use sr_spf::{Searched, Steps, Trees};
 use sr_threads::{Share, made_of_each};
 use std::alloc::{AllocError, Global};
@@ -31,10 +35,11 @@ use std::sync::Arc;
 use std::sync::ledger::{Blank, Ledger};
 use std::thread::Threads;
 
-/// How cases are shared among threads. They differ in cost, and the threads end with the last of them.
-const CASES: Share = Share {
-    at_once: 8,
-    worth: 16,
+/// How links are shared among threads, each with its three cases. They differ in cost, and the threads end with the last of
+/// them.
+const LINKS: Share = Share {
+    at_once: 3,
+    worth: 6,
 };
 
 /// What the pass over a case gives.
@@ -46,8 +51,19 @@ pub(crate) enum Passed {
     AsLink,
     /// What is known of it from the version before, since it stays.
     Stays(KnownCase),
+    /// What is computed for a link case from the distances that the failure of the link's end leaves, without a search for
+    /// distances.
+    Told(Arc<Solved>),
     /// What is computed for it, and that one search for distances was counted.
     Listed(Arc<Solved>, Searched),
+}
+
+/// What the passes over the cases of a link give.
+#[derive(Drop)]
+pub(crate) struct OfLink {
+    pub(crate) link: Passed,
+    pub(crate) node: Passed,
+    pub(crate) risk: Passed,
 }
 
 /// The distances that the case leaves, as they are kept.
@@ -65,6 +81,26 @@ fn case_row(
 {
     let source = net.graph().edge(case.link).from;
     CaseRow::new(alloc, trees.held_cells(source)?, post.cells())
+}
+
+/// What is computed for the case, whose affected destinations these are, from what it leaves.
+fn solved_by(
+    alloc: Global,
+    net: &Net,
+    trees: &Trees,
+    post: &Post,
+    case: Case,
+    wanted: NodeBits,
+) -> Result<Arc<Solved>, AllocError>
+    requires trees { AreTrees net.now.graph trees.now }
+    requires case { IsCase net.now.graph case }
+    requires post { IsPost net.now case post.now }
+    requires wanted { AreAffected net.now case wanted }
+    ensures { IfOk result (λ made. IsSolution net.now case (arc_value made)) }
+{
+    let answers = lists(alloc, net, trees, post, case, wanted)?;
+    let cells = case_row(alloc, net, trees, post, case)?;
+    Solved::new(alloc, cells, answers)
 }
 
 /// What is computed for the case, whose affected destinations these are, counted from nothing: by one search for
@@ -85,9 +121,8 @@ fn solved_from<L: Ledger>(
 {
     let mut steps = Steps::<L>::new(blank);
     let post = post(alloc, net, trees, case, &mut steps)?;
-    let answers = lists(alloc, net, trees, &post, case, wanted)?;
-    let cells = case_row(alloc, net, trees, &post, case)?;
-    Ok((Solved::new(alloc, cells, answers)?, steps.give_up()))
+    let solved = solved_by(alloc, net, trees, &post, case, wanted)?;
+    Ok((solved, steps.give_up()))
 }
 
 /// What is computed for the case, whose affected destinations these are, by searches.
@@ -120,6 +155,41 @@ fn listed(alloc: Global, setting: &Setting<'_>, case: Case) -> Result<Passed, Al
     };
     let (solved, searched) = searched(alloc, setting.net, setting.trees, case, wanted)?;
     Ok(Passed::Listed(solved, searched))
+}
+
+/// What is told of the link case, which doesn't stay where it affects some destination, from the distances that the failure
+/// of the link's end leaves.
+fn told(
+    alloc: Global,
+    setting: &Setting<'_>,
+    case: Case,
+    around: &[u64],
+) -> Result<Passed, AllocError>
+    requires case { IsCase setting.now.net.graph case × (case.kind ≡ LinkKind) }
+    requires around { IsRowAfter setting.now.net.graph (node_case case) around.now }
+    ensures { IfOk result (IsPassed setting.now.former setting.now.net case) }
+{
+    let net = setting.net;
+    let wanted = affected_set(net, setting.trees, case);
+    let Some(_) = wanted.first() else {
+        return Ok(Passed::Nothing);
+    };
+    let post = post_of_link(alloc, net, setting.trees, case, around)?;
+    let solved = solved_by(alloc, net, setting.trees, &post, case, wanted)?;
+    Ok(Passed::Told(solved))
+}
+
+/// The distances that the failure of the link's end leaves, if the pass over that case, which is given, tells them.
+fn around(alloc: Global, node: &Passed) -> Result<Option<Vec<u64>>, AllocError>
+    ensures { IfOk result (λ cells. option_map (λ v. v.items) cells ≡ cells_told node.now) }
+{
+    match node {
+        Passed::Nothing => Ok(None),
+        Passed::AsLink => Ok(None),
+        Passed::Stays(known) => Ok(Some(known.solved.cells(alloc)?)),
+        Passed::Told(solved) => Ok(Some(solved.cells(alloc)?)),
+        Passed::Listed(solved, _) => Ok(Some(solved.cells(alloc)?)),
+    }
 }
 
 /// What is known of the case from the version before, if there is one from which the case stays.
@@ -155,15 +225,59 @@ fn pass(alloc: Global, setting: &Setting<'_>, case: Case) -> Result<Passed, Allo
     }
 }
 
-/// What the pass over the case in this slot gives.
-fn pass_in(alloc: Global, setting: &Setting<'_>, slot: u32) -> Result<Passed, AllocError>
-    requires { slot < case_count setting.now.net.graph }
-    ensures { IfOk result (IsPassedIn setting.now.former setting.now.net slot) }
+/// What the pass over the link case gives, after that over the node case of the same link.
+fn pass_link(
+    alloc: Global,
+    setting: &Setting<'_>,
+    case: Case,
+    node: &Passed,
+) -> Result<Passed, AllocError>
+    requires case { IsCase setting.now.net.graph case × (case.kind ≡ LinkKind) }
+    requires node { IsPassed setting.now.former setting.now.net (node_case case) node.now }
+    ensures { IfOk result (IsPassed setting.now.former setting.now.net case) }
 {
-    pass(alloc, setting, case_in(setting.net.graph(), slot))
+    match kept_known(alloc, setting, case)? {
+        Some(kept) => Ok(Passed::Stays(kept)),
+        None => match around(alloc, node)? {
+            None => listed(alloc, setting, case),
+            Some(cells) => told(alloc, setting, case, &cells),
+        },
+    }
 }
 
-/// What the pass over each case gives, in order of slot. The cases are split among threads where there are any.
+/// What the passes over the cases of the link give.
+fn pass_all(alloc: Global, setting: &Setting<'_>, link: LinkNo) -> Result<OfLink, AllocError>
+    requires { link.0 < link_count setting.now.net.graph }
+    ensures { IfOk result (AreOfLink setting.now.former setting.now.net link.0) }
+{
+    let kind = Kind::Node;
+    let node = pass(alloc, setting, Case { kind, link })?;
+    let kind = Kind::Link;
+    let own = pass_link(alloc, setting, Case { kind, link }, &node)?;
+    let kind = Kind::Risk;
+    let risk = pass(alloc, setting, Case { kind, link })?;
+    Ok(OfLink {
+        link: own,
+        node,
+        risk,
+    })
+}
+
+/// What was given for the cases of each link, in order of slot.
+fn in_slots(alloc: Global, all: Vec<OfLink>) -> Result<Vec<Passed>, AllocError>
+    ensures { IfOk result (λ passed. passed.items ≡ in_slots all.items) }
+{
+    let mut passed = Vec::with_capacity(alloc, 3 * all.len())?;
+    for one in all {
+        let OfLink { link, node, risk } = one;
+        passed.push(link)?;
+        passed.push(node)?;
+        passed.push(risk)?;
+    }
+    Ok(passed)
+}
+
+/// What the pass over each case gives, in order of slot. The links are split among threads where there are any.
 pub(crate) fn all_passed(
     rt: &(impl Threads + Sync),
     alloc: Global,
@@ -172,9 +286,11 @@ pub(crate) fn all_passed(
     ensures { IfOk result (λ passed.
         AreAllPassed setting.now.former setting.now.net (case_count setting.now.net.graph) passed.items) }
 {
-    let passed = |slot: u32| -> Result<Passed, AllocError>
-        requires { slot < case_count setting.now.net.graph }
-        ensures { IfOk result (IsPassedIn setting.entry.now.former setting.entry.now.net slot) }
-    { pass_in(alloc, setting, slot) };
-    made_of_each(rt, alloc, case_count(setting.net.graph()), CASES, &passed)
+    let passed = |link: u32| -> Result<OfLink, AllocError>
+        requires few { link_count setting.now.net.graph ≤ MostLinks }
+        requires link { link < link_count setting.now.net.graph }
+        ensures { IfOk result (AreOfLink setting.entry.now.former setting.entry.now.net link) }
+    { pass_all(alloc, setting, LinkNo(link as u16)) };
+    let all = made_of_each(rt, alloc, setting.net.graph().link_count(), LINKS, &passed)?;
+    in_slots(alloc, all)
 }

@@ -18,16 +18,16 @@ last_link : (g : Graph) (u l : ℕ) (p : List ℕ) (v : ℕ) → IsWalk g [] u (
 last_link g u l [] v a = ([], l, refl, a.3)
 last_link g u l (m ∷ p) v a = let r = last_link g (head g l) m p v a.3 in (l ∷ r.0, r.1, ap (λ q. l ∷ q) r.2, r.3)
 
--- a shortest walk between two nodes that reaches f holds a link that begins or ends there
-touching : (g : Graph) (u v f : ℕ) → u ≢ v → (before after : List ℕ) → IsWalk g [] u before f → IsWalk g [] f after v → IsShortest g [] u (before ++ after) v → (l : ℕ) × Touches g l f × OnShortest g [] u v l
-touching g u v f apart [] [] a b s = absurd (apart (a ∙ b))
+-- a shortest walk that reaches f, and doesn't both begin and end there, holds a link that begins or ends there
+pub touching : (g : Graph) (u v f : ℕ) → (u ≡ f → f ≢ v) → (before after : List ℕ) → IsWalk g [] u before f → IsWalk g [] f after v → IsShortest g [] u (before ++ after) v → (l : ℕ) × Touches g l f × OnShortest g [] u v l
+touching g u v f apart [] [] a b s = absurd (apart a b)
 touching g u v f apart (l ∷ p) [] a b s =
     let r = last_link g u l p f a in
     (r.1, inr r.3, record { before = r.0; after = []; shortest = subst (λ q. IsShortest g [] u q v) (append-nil (l ∷ p) ∙ r.2) s })
 touching g u v f apart before (l ∷ q) a b s = (l, inl b.2, record { before = before; after = q; shortest = s })
 
 -- a shortest walk that holds such a link reaches f
-way-from_touching : (g : Graph) (u v f l : ℕ) → Touches g l f → OnShortest g [] u v l → IsOnWay g [] u v f
+pub way-from_touching : (g : Graph) (u v f l : ℕ) → Touches g l f → OnShortest g [] u v l → IsOnWay g [] u v f
 way-from_touching g u v f l touch on =
     ⊎_elim
     (λ (begins : tail g l ≡ f).
@@ -58,7 +58,7 @@ way-from_touching g u v f l touch on =
 -- where just the links at f fail and u isn't v, v is outside P of u where a shortest walk reaches f
 pub way-outside : (g : Graph) (x : List Bool) (u v f : ℕ) → IsAround g x f → u ≢ v → IsOnWay g [] u v f → InP g x u v → ⊥
 way-outside g x u v f around apart way inside =
-    let t = touching g u v f apart way.before way.after way.to way.from way.shortest in
+    let t = touching g u v f (λ begins ends. apart (begins ∙ ends)) way.before way.after way.to way.from way.shortest in
     none-from_InP g x u v t.0 inside ((around t.0 (OnShortest-within g [] u v t.0 t.2)).1 t.1) t.2
 
 -- and inside where u reaches v and none does

@@ -16,7 +16,7 @@ fn only(node: NodeNo, among: NodeBits) -> NodeBits
     requires { node.0 < NODES_AT_MOST }
     ensures { (v : ℕ) → IsTrue (is_in result v) ↔ ((is_in among v ≡ true) × (v ≡ node.0)) }
 {
-    among.and(NodeBits::none().with(node.0 as usize))
+    among.and(NodeBits::alone(node.0 as usize))
 }
 
 /// Those of the nodes to which a shortest walk from u holds the link. `row` has the distances from u.

@@ -2,10 +2,10 @@
 ghost use Rattle.std.specs.Prelude.{◌≡◌, ℕ, ◌<◌, ◌↔◌, [], true, IsTrue};
 ghost use Rattle.sr_lanes.specs.Bits.{is_in};
 ghost use Rattle.sr_model.specs.Graph.{node_count};
-ghost use Rattle.sr_model.specs.Walk.{IsRow};
+ghost use Rattle.sr_model.specs.Walk.{IsOnWay, IsRow};
 ghost use Rattle.sr_model.specs.Space.{InP};
 ghost use Rattle.sr_spf.specs.Trees.{AreTrees};
-ghost use Rattle.sr_spaces.specs.Failure.{IsAround};
+ghost use Rattle.sr_spaces.specs.Failure.{HasWalk, HaveWalks, IsAround};
 
 use crate::among::{avoid_links, through_node};
 use crate::space::{avoids_links, reaches};
@@ -114,6 +114,28 @@ impl<'a> Spaces<'a> {
             return true;
         }
         !reaches(self.graph, self.trees, row, u, v, node)
+    }
+
+    /// Whether a shortest walk from u to v reaches the node, where u reaches v.
+    pub fn reaches(&self, u: NodeNo, v: NodeNo, node: NodeNo) -> bool
+        requires u { u.0 < node_count self.now.graph }
+        requires v { v.0 < node_count self.now.graph }
+        requires node { node.0 < node_count self.now.graph }
+        requires reached { HasWalk self.now.graph u.0 v.0 }
+        ensures { IsTrue result ↔ IsOnWay self.now.graph [] u.0 v.0 node.0 }
+    {
+        reaches(self.graph, self.trees, self.trees.cells(u), u, v, node)
+    }
+
+    /// Those of the nodes to which a shortest walk from u reaches this one, where u reaches each.
+    pub fn reaching(&self, u: NodeNo, node: NodeNo, among: NodeBits) -> NodeBits
+        requires u { u.0 < node_count self.now.graph }
+        requires node { node.0 < node_count self.now.graph }
+        requires reached { HaveWalks self.now.graph u.0 among }
+        ensures { (v : ℕ) → IsTrue (is_in result v)
+            ↔ ((is_in among v ≡ true) × IsOnWay self.now.graph [] u.0 v node.0) }
+    {
+        through_node(self.graph, self.trees, self.trees.cells(u), u, node, among)
     }
 
     /// Those of the nodes that are in P of u. Each is asked alone.

@@ -50,6 +50,11 @@ pub record IsEntered (g : Graph) (x : List Bool) (s : ℕ) (cells : List ℕ) (e
   pub waits : (v : ℕ) → v < node_count g → slice_index cells v < FAR
       → Contains entries (entry (slice_index cells v) v) ⊎ IsSettledBefore g x s cells lost i v
 
+-- a number for each node, of at most FAR
+pub record HasCells (g : Graph) (cells : List ℕ) : Type 0 where
+  pub long : length cells ≡ node_count g
+  pub top : (v : ℕ) → v < node_count g → slice_index cells v ≤ FAR
+
 -- c is the cell of v, or the least sum of the cell of another node and a link from there, if that is less
 pub record IsLeastWay (g : Graph) (x : List Bool) (s : ℕ) (cells : List ℕ) (v c : ℕ) : Type 0 where
   pub cell : c ≤ slice_index cells v

@@ -3,9 +3,8 @@ ghost use Rattle.std.specs.Prelude.{◌≡◌, [], ◌+◌, ◌<◌, OnOk, IfOk}
 ghost use Rattle.std.specs.BinaryHeap.{heap_items};
 ghost use Rattle.sr_model.specs.Graph.{node_count, link_count};
 ghost use Rattle.sr_model.specs.Walk.{IsRow};
-ghost use Rattle.sr_spf.specs.Relax.{IsTentative};
 ghost use Rattle.sr_spf.specs.Queue.{IsQueued};
-ghost use Rattle.sr_spf.specs.Begun.{IsBegun, IsLeastWay};
+ghost use Rattle.sr_spf.specs.Begun.{HasCells, IsBegun, IsLeastWay};
 
 use crate::dijkstra::{Queue, entry, settle};
 use crate::steps::Steps;
@@ -16,11 +15,18 @@ use std::alloc::{AllocError, Global};
 use std::collections::BinaryHeap;
 use std::sync::ledger::Ledger;
 
-/// The least of the node's cell and of the sums of another node's cell and a link from there to the node. The sums are
-/// compared first, since few of them are less.
-fn least_way(graph: &Graph, without: &LinkSet, source: NodeNo, node: NodeNo, cells: &[u64]) -> u64
+/// The least of the node's cell and of the sums of another node's cell and a link from there to the node, which isn't one of
+/// `without`, where a walk from the source may pass that other node. The sums are compared first, since few of them are
+/// less.
+pub fn least_way(
+    graph: &Graph,
+    without: &LinkSet,
+    source: NodeNo,
+    node: NodeNo,
+    cells: &[u64],
+) -> u64
     requires node { node.0 < node_count graph.now }
-    requires kept { IsTentative graph.now without.now source.0 cells.now }
+    requires cells { HasCells graph.now cells.now }
     ensures { IsLeastWay graph.now without.now source.0 cells.now node.0 result }
 {
     let mut least = cells[node.0 as usize];

@@ -12,7 +12,7 @@ mod shared;
 mod steps;
 mod trees;
 
-pub use begun::row_after;
+pub use begun::{least_way, row_after};
 pub use dijkstra::row;
 pub use renewed::are_in_place;
 pub use steps::{Searched, Steps};

@@ -11,8 +11,8 @@ untried-smaller c = size-less c.untried.untried c.take_first.new.self c.in-Some.
 pub untried-preserved-in-Continue-1 : goal.untried-preserved-in-Continue-1
 untried-preserved-in-Continue-1 c =
     but-kept c.args.spaces.now.graph c.args.spaces.now.failed c.args.source.0 c.args.endangered c.untried.untried c.take_first.new.self c.in-Some.node c.untried.hops
-    c.untried.invariant c.in-Some.ensures.left c.in-Some-least_hop.hop c.with.result c.keep.new.self
-    (alone-from c.none.result c.with.result c.in-Some.node c.none.ensures c.with.ensures) c.in-Some-least_hop.ensures c.in_ok-keep.ensures
+    c.untried.invariant c.in-Some.ensures.left c.in-Some-least_hop.hop c.alone.result c.keep.new.self
+    (alone-from c.alone.result c.in-Some.node c.alone.ensures) c.in-Some-least_hop.ensures c.in_ok-keep.ensures
 
 pub untried-preserved : goal.untried-preserved
 untried-preserved c =

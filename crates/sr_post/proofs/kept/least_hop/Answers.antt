@@ -34,7 +34,7 @@ returns-then-not-is_empty c =
     let at : slice_get links i ≡ Some hop = slice_get-get_or links i (record { 0 = 0 }) (omega arith) in
     let are = c.next_hops-hop-items.ensures.hops g c.requires.trees in
     least-at g x s v links are i hop at c.loop-hop.invariant
-    (leads-if g x s v hop.0 c.with-alone.result c.led_by-led.result c.is_empty.result (alone-from c.none.result c.with-alone.result v c.none.ensures c.with-alone.ensures)
+    (leads-if g x s v hop.0 c.alone-alone.result c.led_by-led.result c.is_empty.result (alone-from c.alone-alone.result v c.alone-alone.ensures)
     (hop-from g x s v links are i hop at).1 c.led_by-led.ensures c.is_empty.ensures c.if-not-is_empty.true)
 
 pub loop-hop-preserved : goal.loop-hop-preserved
@@ -49,7 +49,7 @@ loop-hop-preserved c =
     let at : slice_get links i ≡ Some hop = slice_get-get_or links i (record { 0 = 0 }) (omega arith) in
     let are = c.next_hops-hop-items.ensures.hops g c.requires.trees in
     none-more g x s v links are i hop at c.loop-hop.invariant
-    (leads-not g x s v hop.0 c.with-alone.result c.led_by-led.result c.is_empty.result (alone-from c.none.result c.with-alone.result v c.none.ensures c.with-alone.ensures)
+    (leads-not g x s v hop.0 c.alone-alone.result c.led_by-led.result c.is_empty.result (alone-from c.alone-alone.result v c.alone-alone.ensures)
     (hop-from g x s v links are i hop at).1 c.led_by-led.ensures c.is_empty.ensures c.if-not-is_empty.false)
 
 pub returns : goal.returns

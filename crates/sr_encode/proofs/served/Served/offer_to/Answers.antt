@@ -8,17 +8,17 @@ use Rattle.sr_encode.proofs.served.Served.offer_to.Goals as goal
 pub returns-in-Some-clause-offered : goal.returns-in-Some-clause-offered
 returns-in-Some-clause-offered c =
     let written : (with_items c.args.self.now.places c.mark.new.places).items ≡ c.mark.new.places = with_items_is c.args.self.now.places c.mark.new.places (c.mark.ensures.long ∙ c.deref_mut.ensures.len) in
-    let marked : ArePlaced c.args.self.now.places.items c.with-found.result c.in-Some.first c.mark.new.places = rw c.deref_mut.ensures.value at c.mark.ensures in
+    let marked : ArePlaced c.args.self.now.places.items c.alone-found.result c.in-Some.first c.mark.new.places = rw c.deref_mut.ensures.value at c.mark.ensures in
     offered-first c.args.d.0 c.args.self.now (record { places = with_items c.args.self.now.places c.mark.new.places; pending = c.and_not-self.result })
-    c.none.result c.with-found.result c.none.ensures c.with-found.ensures c.and_not-self.ensures
+    c.alone-found.result c.alone-found.ensures c.and_not-self.ensures
     c.args.scene.now c.args.queue.now c.args.k c.in-Some.first c.in-Some.ensures c.requires.offered c.requires.pending
-    (subst (λ l. ArePlaced c.args.self.now.places.items c.with-found.result c.in-Some.first l) (sym written) marked) c.requires.least
+    (subst (λ l. ArePlaced c.args.self.now.places.items c.alone-found.result c.in-Some.first l) (sym written) marked) c.requires.least
 
 pub returns-in-Some-clause-tried : goal.returns-in-Some-clause-tried
 returns-in-Some-clause-tried c =
     let written : (with_items c.args.self.now.places c.mark.new.places).items ≡ c.mark.new.places = with_items_is c.args.self.now.places c.mark.new.places (c.mark.ensures.long ∙ c.deref_mut.ensures.len) in
-    let marked : ArePlaced c.args.self.now.places.items c.with-found.result c.in-Some.first c.mark.new.places = rw c.deref_mut.ensures.value at c.mark.ensures in
+    let marked : ArePlaced c.args.self.now.places.items c.alone-found.result c.in-Some.first c.mark.new.places = rw c.deref_mut.ensures.value at c.mark.ensures in
     tried-first c.args.d.0 c.args.self.now (record { places = with_items c.args.self.now.places c.mark.new.places; pending = c.and_not-self.result })
-    c.none.result c.with-found.result c.none.ensures c.with-found.ensures c.and_not-self.ensures
+    c.alone-found.result c.alone-found.ensures c.and_not-self.ensures
     c.args.scene.now c.args.queue.now c.args.k c.in-Some.first c.in-Some.ensures c.requires.offered c.requires.pending
-    (subst (λ l. ArePlaced c.args.self.now.places.items c.with-found.result c.in-Some.first l) (sym written) marked)
+    (subst (λ l. ArePlaced c.args.self.now.places.items c.alone-found.result c.in-Some.first l) (sym written) marked)

@@ -1,6 +1,6 @@
 use Rattle.sr_model.specs.Case.{IsFailedSet, source_of}
 use Rattle.sr_post.specs.Kept.{AreDoubtful}
-use Rattle.sr_post.proofs.failure.begin.Goals as goal
+use Rattle.sr_post.proofs.failure.begin_case.Goals as goal
 
 pub known_distances-requires-clause-doubtful : goal.known_distances-requires-clause-doubtful
 known_distances-requires-clause-doubtful c =
