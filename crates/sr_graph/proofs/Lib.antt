@@ -11,3 +11,4 @@ pub mod MemberLemmas
 pub mod MarkLemmas
 pub mod GraphLemmas
 pub mod ZipLemmas
+pub mod SameLemmas

@@ -14,6 +14,7 @@ mod mark;
 mod numbers;
 mod order;
 mod ranges;
+mod same;
 mod sharing;
 
 pub use draft::{Draft, DraftLink};

@@ -12,6 +12,7 @@ mod groups;
 mod labels;
 mod lanes;
 mod loads;
+mod same;
 mod shares;
 mod spaces;
 mod walks;

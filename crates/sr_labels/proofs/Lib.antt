@@ -5,3 +5,4 @@ pub mod Places
 pub mod IndexLists
 mod IndexOrder
 pub mod Clashes
+pub mod SameLemmas

@@ -8,6 +8,7 @@ mod keys;
 mod net;
 mod node;
 mod rules;
+mod same;
 mod srgb;
 
 pub use adjacencies::{is_repeated, sort_labels};

@@ -35,8 +35,8 @@ fn indexed(nodes: &[NodeLabels]) -> NodeBits
 #[derive(Debug, Drop)]
 pub struct Net {
     graph: Graph,
-    nodes: Vec<NodeLabels>,
-    adj: Vec<Option<u32>>,
+    pub(crate) nodes: Vec<NodeLabels>,
+    pub(crate) adj: Vec<Option<u32>>,
     announced: Vec<LinkKey>,
     depth: u8,
     /// The nodes that announce an index, so that a search needn't ask each.

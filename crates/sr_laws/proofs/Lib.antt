@@ -21,6 +21,7 @@ pub mod Packets
 pub mod Arrivals
 pub mod Audits
 pub mod Unchanged
+pub mod SameLists
 pub mod Steering
 pub mod KeptWays
 pub mod StacksThere

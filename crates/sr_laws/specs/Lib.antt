@@ -6,4 +6,5 @@ pub mod Tables
 pub mod Auditing
 pub mod Keys
 pub mod Exact
+pub mod Listed
 pub mod Steady

@@ -10,6 +10,7 @@ ghost use Rattle.sr_laws.specs.Labels.{IndicesHaveLabels, LabelsHaveIndices, Ind
 ghost use Rattle.sr_laws.specs.Keys.{KeysAreOrdered, KeysAreTold, PairsAgree, PlacesAreUnique};
 ghost use Rattle.sr_laws.specs.Staying.{RowsStay, NextHopsStay, NextHopsAreThere, NextHopsAreOld, PostRowsStay, AffectedStay, RepairWaysStay, AnswersStay, AnswersAreThere, AnswersCarryOver, NothingChangesInItself, NetsAreUnchanged, UnchangedTreesStay, UnchangedCasesStay};
 ghost use Rattle.sr_laws.specs.Steady.{KeptCasesAreSteady, SteadyRowsStay, SteadyWaysStay, SteadyAnswersStay};
+ghost use Rattle.sr_laws.specs.Listed.{SameListsStay, SameAffectedStay};
 
 /// Every sound list delivers, whichever equal-cost link each node takes, and the way of the packet is loop-free.
 pub fn sound_lists_deliver()
@@ -95,6 +96,13 @@ pub fn steady_cases_stay()
     ensures rows { SteadyRowsStay }
     ensures ways { SteadyWaysStay }
     ensures answers { SteadyAnswersStay }
+{}
+
+/// Where two nets differ at most in how deep lists may be, and in what no list depends on, what is listed in one is listed
+/// in the other, for the same destinations.
+pub fn same_lists_stay()
+    ensures lists { SameListsStay }
+    ensures affected { SameAffectedStay }
 {}
 
 /// Where nothing changed, each tree and each case stays; nothing changes from a graph or a net to itself.
