@@ -56,7 +56,7 @@ fn items_of<'a>(
     alloc: Global,
     net: &Net,
     case: Case,
-    answers: &'a CaseAnswers,
+    answers: &CaseAnswers<'a>,
 ) -> Result<Vec<Item<'a>>, AllocError>
     requires case { IsCase net.now.graph case }
     requires answers { AreAnswers net.now case answers.now }
@@ -80,7 +80,7 @@ fn case_items<'a>(
     ensures audit { IfOk result (λ items. IsCaseAudit version.now.net case items.items) }
     ensures few { IfOk result (λ items. length items.items ≤ 256) }
 {
-    items_of(alloc, version.net(), case, version.answers(case))
+    items_of(alloc, version.net(), case, &version.answers(case))
 }
 
 /// The items of the case at this place.

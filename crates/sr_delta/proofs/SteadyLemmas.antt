@@ -118,7 +118,6 @@ steady-from_parts c m d link is changes same name here affected failures =
       failed = x.1;
       failed' = y.1;
       pairs = same-from_failures c.net.graph c.case x.0 m.graph (case_with c.case link) y.0 x.1 y.1 failures;
-      depth = here.depth;
       affected = λ v within. affected v;
       post = c.cells;
       row = is.row x.0 x.1;

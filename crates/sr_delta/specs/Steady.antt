@@ -4,7 +4,7 @@ use Rattle.sr_model.specs.declared.case.Case.{Case}
 use Rattle.sr_model.specs.Graph.{node_count}
 use Rattle.sr_model.specs.Case.{IsAffected, IsFailedSet, IsOnRepairWay, source_of}
 use Rattle.sr_model.specs.Label.{Net}
-use Rattle.sr_model.specs.Stay.{HasSameDepth, IsKeptTree}
+use Rattle.sr_model.specs.Stay.{IsKeptTree}
 use Rattle.sr_laws.specs.Steady.{HasSameSegments, IsSameFar, pivot_of}
 use Rattle.sr_delta.specs.declared.change.Change.{Change}
 use Rattle.sr_delta.specs.Idle.{AreIdleOrFailed}
@@ -30,11 +30,9 @@ AreStepsKept n m case =
 abbrev pub AreAffectedAlike : Net → Case → Net → Case → Type 0
 AreAffectedAlike n case m there = (d : ℕ) → IsAffected n case d ↔ IsAffected m there d
 
--- what is asked of the old case but of the links that fail and the destinations that are affected in the new net: the
--- source announces the same maximum SID depth, changed links are idle after the failure, and the nodes on the walks
--- have the same segments and keep their steps
+-- what is asked of the old case but of the links that fail and the destinations that are affected in the new net:
+-- changed links are idle after the failure, and the nodes on the walks have the same segments and keep their steps
 pub record IsSteadyHere (c : Computed) (m : Net) (links : List Change) : Type 0 where
-  pub depth : HasSameDepth c.net m (source_of c.net.graph c.case)
   pub idle : AreIdleOrFailed c.net.graph c.case c.cells links
   pub segments : AreSegmentsKept c.net m c.case
   pub steps : AreStepsKept c.net m c.case

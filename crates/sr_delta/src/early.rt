@@ -1,4 +1,4 @@
-//! What costs least to tell of a case that may stay.
+//! What costs least to tell of a case that may be steady.
 ghost use Rattle.std.specs.Prelude.{◌≡◌, List, Bool, true, IsTrue};
 ghost use Rattle.sr_model.specs.Graph.{node_count};
 ghost use Rattle.sr_model.specs.Label.{Net as Labelled};
@@ -12,8 +12,8 @@ use crate::differences::Changes;
 use sr_labels::Net;
 use sr_model::Case;
 
-/// Whether the old case has what costs least to tell of one that stays: the source announces the same maximum SID depth, and
-/// changed links are idle after the failure. `net` is the old net, and `cells` are the distances from the source without
+/// Whether the old case has what costs least to tell of one that stays or is steady: changed links are idle after the
+/// failure. `net` is the old net, and `cells` are the distances from the source without
 /// the links that fail, by number of node. Where this is false the case doesn't stay.
 pub fn may_stay(changes: &Changes, net: &Net, case: Case, cells: &[u64]) -> bool
     requires nodes { changes.now.nodes ≡ node_count net.now.graph }
@@ -23,10 +23,5 @@ pub fn may_stay(changes: &Changes, net: &Net, case: Case, cells: &[u64]) -> bool
     ensures { (m : Labelled) → AreChanges net.now m changes.now → changes.now.same ≡ true
         → IsKeptCase net.now m case → IsTrue result }
 {
-    let graph = net.graph();
-    let source = graph.edge(case.link).from.0 as usize;
-    if !changes.depths_alike().has(source) {
-        return false;
-    }
-    are_idle_or_failed(graph, case, cells, changes.links())
+    are_idle_or_failed(net.graph(), case, cells, changes.links())
 }

@@ -75,18 +75,13 @@ fn is_steady_here(
         → AreMoved old.now.net.graph m.graph moved.now (node_count old.now.net.graph)
         → IsTrue result → IsSteadyHere old.now m changes.now.links }
 {
-    let case = old.case();
-    let source = old.graph().edge(case.link).from.0 as usize;
-    if !changes.depths_alike().has(source) {
-        return false;
-    }
     if !old.walks().and_not(changes.labels_alike()).is_empty() {
         return false;
     }
     if !are_steps_kept(staying, moved, old) {
         return false;
     }
-    are_idle_or_failed(old.graph(), case, old.cells(), changes.links())
+    are_idle_or_failed(old.graph(), old.case(), old.cells(), changes.links())
 }
 
 /// Whether the same destinations are affected in the same case of the new net. `link` is the number of the protected link
@@ -109,8 +104,8 @@ fn are_affected_alike(old: &OldCase<'_>, new: &Net, trees: &Trees, link: LinkNo)
     lost.or(gained).is_empty()
 }
 
-/// Whether the case of the old net is steady: what was computed for it is what would be computed in the new net, links
-/// matched by key, although trees of nodes on its walks may change elsewhere. `staying` are the nodes that stay, `moved` has
+/// Whether the case of the old net is steady: what was listed for it is what would be listed in the new net, links matched by
+/// key, although trees of nodes on its walks may change elsewhere, and its source may let other lists through. `staying` are the nodes that stay, `moved` has
 /// for each node those to which it isn't as far as it was, and `trees` are those of the new net.
 pub fn is_steady(
     changes: &Changes,

@@ -1,4 +1,4 @@
--- How the answers of a case are collected, and what a search by destination finds in them.
+-- How what is listed in a case is collected, and what a search by destination finds in them.
 use Rattle.std.proofs.Common.{◌≡◌, ◌≢◌, ℕ, zero, suc, ◌+◌, ◌<◌, ◌≤◌, ⊎_elim, ◌-◌, Bool, true, false, List, [], ◌∷◌, ◌++◌, length, take, drop, slice_range, get_or, refl, arith, ap, sym, ◌∙◌, subst, Ok, Err}
 use Rattle.std.specs.Prelude.{All}
 use Rattle.std.specs.List.Sorted.{IsBinarySearchResult, IsNonDecreasingBy}
@@ -20,13 +20,13 @@ use Rattle.sr_model.specs.declared.repair.Segment.{Segment}
 use Rattle.sr_model.specs.Graph.{node_count}
 use Rattle.sr_model.specs.Label.{Net, Labels, labels_at, nameless}
 use Rattle.sr_model.specs.Case.{IsFailedSet, IsAffected, source_of}
-use Rattle.sr_model.specs.Repair.{IsAnswer}
+use Rattle.sr_laws.specs.Listed.{IsListed}
 use Rattle.sr_encode.specs.declared.answers.NodeAnswer.{NodeAnswer}
 use Rattle.sr_encode.specs.declared.kept.Outcome.{Outcome}
-use Rattle.sr_encode.specs.declared.kept.Outcome.TheVariants.{Least as ListOutcome, NoPath as NoPathOutcome, NoList as NoListOutcome, TooDeep as DeepOutcome}
+use Rattle.sr_encode.specs.declared.kept.Outcome.TheVariants.{Least as ListOutcome, NoPath as NoPathOutcome, NoList as NoListOutcome}
 use Rattle.sr_encode.specs.declared.kept.Kept.{Kept}
 use Rattle.sr_encode.specs.Kept.{outcome_at, answer_from, entry_from, entries, HasSegments, AreKeptWithin}
-use Rattle.sr_encode.specs.Answered.{node_answer_at, destination_at, AscendByNode, AreAffected, AreAnswers, AreAnswered}
+use Rattle.sr_encode.specs.Answered.{node_answer_at, destination_at, AscendByNode, AreAffected, AreLists, AreListed}
 use Rattle.sr_seq.proofs.ListLemmas.{none-not_some}
 
 -- what stands for an entry past the end of a list
@@ -42,11 +42,11 @@ affected-within n case d long a =
     absurd (none-not_some (labels_at n d).index (ap (λ (k : Labels). k.index) past) a.index))
     (cases_lt d (node_count n.graph))
 
--- the destinations of the set that aren't left are answered, ascending, and those that are left come behind them
-pub record AreAnsweredBut (n : Net) (x : List Bool) (s : ℕ) (wanted left : NodeBits) (list : List NodeAnswer) : Type 0 where
+-- the destinations of the set that aren't left have what is listed for them, ascending, and those that are left come behind them
+pub record AreListedBut (n : Net) (x : List Bool) (s : ℕ) (wanted left : NodeBits) (list : List NodeAnswer) : Type 0 where
   pub ascending : AscendByNode list
   pub inside : (v : ℕ) → is_in left v ≡ true → is_in wanted v ≡ true
-  pub each : All (λ (e : NodeAnswer). (is_in wanted e.destination.0 ≡ true) × IsAnswer n x s e.destination.0 e.answer) list
+  pub each : All (λ (e : NodeAnswer). (is_in wanted e.destination.0 ≡ true) × IsListed n x s e.destination.0 e.answer) list
   pub before : All (λ (e : NodeAnswer). (v : ℕ) → is_in left v ≡ true → e.destination.0 < v) list
   pub all : (d : ℕ) → is_in wanted d ≡ true → is_in left d ≡ false → (i : ℕ) × (i < length list) × (destination_at list i ≡ d)
   pub few : length list + member_count left ≤ NODES_AT_MOST
@@ -62,9 +62,9 @@ count_below-most test (suc n) =
     (λ (no : test n ≡ false). rw no (omega (arith, before)))
     (cases_Bool (test n))
 
-pub answered-start : (n : Net) (x : List Bool) (s : ℕ) (wanted : NodeBits) → AreAnsweredBut n x s wanted wanted []
+pub listed-start : (n : Net) (x : List Bool) (s : ℕ) (wanted : NodeBits) → AreListedBut n x s wanted wanted []
 unfolding member_count
-answered-start n x s wanted = record {
+listed-start n x s wanted = record {
   ascending = λ i j up lt. absurd (omega arith);
   inside = λ v is. is;
   each = λ i e lt. absurd (omega arith);
@@ -82,7 +82,7 @@ first-up left v w first is =
     (cases_lt w v)
 
 -- an entry behind the others is that of the first node that is left
-module _ (n : Net) (x : List Bool) (s : ℕ) (wanted left less : NodeBits) (list : List NodeAnswer) (entry : NodeAnswer) (r : AreAnsweredBut n x s wanted left list) (first : IsFirstIn left entry.destination.0) (taken : IsWithout left less entry.destination.0) where
+module _ (n : Net) (x : List Bool) (s : ℕ) (wanted left less : NodeBits) (list : List NodeAnswer) (entry : NodeAnswer) (r : AreListedBut n x s wanted left list) (first : IsFirstIn left entry.destination.0) (taken : IsWithout left less entry.destination.0) where
   old : (i : ℕ) → i < length list → node_answer_at (list ++ entry ∷ []) i ≡ node_answer_at list i
   old i lt = get_or_append_left list (entry ∷ []) no_entry i lt
 
@@ -123,11 +123,11 @@ module _ (n : Net) (x : List Bool) (s : ℕ) (wanted left less : NodeBits) (list
       omega arith
 
   -- so the others but it are left
-  pub answered-next : IsAnswer n x s entry.destination.0 entry.answer → AreAnsweredBut n x s wanted less (list ++ entry ∷ [])
-  answered-next answer = record {
+  pub listed-next : IsListed n x s entry.destination.0 entry.answer → AreListedBut n x s wanted less (list ++ entry ∷ [])
+  listed-next answer = record {
     ascending = ascends;
     inside = λ v is. r.inside v (without-inside left less entry.destination.0 v taken is).1;
-    each = All-push (λ (e : NodeAnswer). (is_in wanted e.destination.0 ≡ true) × IsAnswer n x s e.destination.0 e.answer) list entry r.each (r.inside entry.destination.0 first.member, answer);
+    each = All-push (λ (e : NodeAnswer). (is_in wanted e.destination.0 ≡ true) × IsListed n x s e.destination.0 e.answer) list entry r.each (r.inside entry.destination.0 first.member, answer);
     before = All-push (λ (e : NodeAnswer). (w : ℕ) → is_in less w ≡ true → e.destination.0 < w) list entry
         (All-weaker (λ (e : NodeAnswer). (w : ℕ) → is_in left w ≡ true → e.destination.0 < w) (λ (e : NodeAnswer). (w : ℕ) → is_in less w ≡ true → e.destination.0 < w) (λ e low w is. low w (without-inside left less entry.destination.0 w taken is).1) list r.before)
         behind;
@@ -136,20 +136,20 @@ module _ (n : Net) (x : List Bool) (s : ℕ) (wanted left less : NodeBits) (list
   }
 
 -- none is left
-pub answered-over : (n : Net) (x : List Bool) (s : ℕ) (wanted left : NodeBits) (list : List NodeAnswer) → AreAnsweredBut n x s wanted left list → ((v : ℕ) → is_in left v ≡ false) → AreAnswered n x s wanted list
-answered-over n x s wanted left list r none = record {
+pub listed-over : (n : Net) (x : List Bool) (s : ℕ) (wanted left : NodeBits) (list : List NodeAnswer) → AreListedBut n x s wanted left list → ((v : ℕ) → is_in left v ≡ false) → AreListed n x s wanted list
+listed-over n x s wanted left list r none = record {
   ascending = r.ascending;
   within = λ i lt. (r.each i no_entry lt).0;
-  answers = λ i lt. (r.each i no_entry lt).1;
+  lists = λ i lt. (r.each i no_entry lt).1;
   all = λ d is. r.all d is (none d);
 }
 
--- all answers of the case
-pub answers-over : (n : Net) (case : Case) (x : List Bool) (wanted : NodeBits) (list : List NodeAnswer) → IsFailedSet n.graph case x → AreAffected n case wanted → AreAnswered n x (source_of n.graph case) wanted list → AreAnswers n case list
-answers-over n case x wanted list set r a = record {
+-- all that is listed in the case
+pub lists-over : (n : Net) (case : Case) (x : List Bool) (wanted : NodeBits) (list : List NodeAnswer) → IsFailedSet n.graph case x → AreAffected n case wanted → AreListed n x (source_of n.graph case) wanted list → AreLists n case list
+lists-over n case x wanted list set r a = record {
   ascending = a.ascending;
   affected = λ i lt. (r (destination_at list i)).0 (a.within i lt);
-  answers = λ i lt. record { failed = x; set = set; answers = a.answers i lt };
+  answers = λ i lt. record { failed = x; set = set; listed = a.lists i lt };
   all = λ d is. a.all d ((r d).1 is);
 }
 
@@ -211,13 +211,11 @@ range-behind xs ys a b begin end =
 answer-kept : (segments more : List Segment) (outcome : Outcome) (cost : ℕ) → HasSegments segments outcome → answer_from (segments ++ more) outcome cost ≡ answer_from segments outcome cost
 answer-kept segments more NoPathOutcome cost within = refl
 answer-kept segments more NoListOutcome cost within = refl
-answer-kept segments more (DeepOutcome needed) cost within = refl
 answer-kept segments more (ListOutcome first begin end) cost within = ap (λ (l : List Segment). Least (record { first = first; segments = l; cost = cost })) (range-kept segments more begin end within.0 within.1)
 
 pub within-more : (segments more : List Segment) (outcome : Outcome) → HasSegments segments outcome → HasSegments (segments ++ more) outcome
 within-more segments more NoPathOutcome within = within
 within-more segments more NoListOutcome within = within
-within-more segments more (DeepOutcome needed) within = within
 within-more segments more (ListOutcome first begin end) within = (within.0, omega (arith, within.1, length-append segments more))
 
 -- an answer stays where segments and outcomes come behind the others
@@ -237,13 +235,13 @@ entries-kept segments more outcomes added (k ∷ ks) lists each =
     ap (λ (e : NodeAnswer). e ∷ entries (segments ++ more) (outcomes ++ added) ks) first ∙ ap (λ (l : List NodeAnswer). entry_from segments outcomes k ∷ l) rest
 
 -- one more is kept, with what it adds behind what the others have
-pub kept-push : (n : Net) (x : List Bool) (s : ℕ) (wanted left less : NodeBits) (segments more : List Segment) (outcomes added : List Outcome) (list : List Kept) (kept : Kept) → AreAnsweredBut n x s wanted left (entries segments outcomes list) → AreKeptWithin segments outcomes list → All (HasSegments (segments ++ more)) (outcomes ++ added) → length added ≤ 1 → kept.outcome < length (outcomes ++ added) → IsFirstIn left kept.destination.0 → IsWithout left less kept.destination.0 → IsAnswer n x s kept.destination.0 (answer_from (segments ++ more) (outcome_at (outcomes ++ added) kept.outcome) kept.cost) → AreAnsweredBut n x s wanted less (entries (segments ++ more) (outcomes ++ added) (list ++ kept ∷ [])) × AreKeptWithin (segments ++ more) (outcomes ++ added) (list ++ kept ∷ [])
-kept-push n x s wanted left less segments more outcomes added list kept answered within lists few below first taken answer =
+pub kept-push : (n : Net) (x : List Bool) (s : ℕ) (wanted left less : NodeBits) (segments more : List Segment) (outcomes added : List Outcome) (list : List Kept) (kept : Kept) → AreListedBut n x s wanted left (entries segments outcomes list) → AreKeptWithin segments outcomes list → All (HasSegments (segments ++ more)) (outcomes ++ added) → length added ≤ 1 → kept.outcome < length (outcomes ++ added) → IsFirstIn left kept.destination.0 → IsWithout left less kept.destination.0 → IsListed n x s kept.destination.0 (answer_from (segments ++ more) (outcome_at (outcomes ++ added) kept.outcome) kept.cost) → AreListedBut n x s wanted less (entries (segments ++ more) (outcomes ++ added) (list ++ kept ∷ [])) × AreKeptWithin (segments ++ more) (outcomes ++ added) (list ++ kept ∷ [])
+kept-push n x s wanted left less segments more outcomes added list kept listed within lists few below first taken answer =
     let same : entries (segments ++ more) (outcomes ++ added) list ≡ entries segments outcomes list = entries-kept segments more outcomes added list within.lists within.each in
     let entry : NodeAnswer = entry_from (segments ++ more) (outcomes ++ added) kept in
     let joined : entries (segments ++ more) (outcomes ++ added) (list ++ kept ∷ []) ≡ entries segments outcomes list ++ entry ∷ [] = map-append (entry_from (segments ++ more) (outcomes ++ added)) list (kept ∷ []) ∙ ap (λ l. l ++ entry ∷ []) same in
     let others : All (λ (o : Kept). o.outcome < length (outcomes ++ added)) list = All-weaker (λ (o : Kept). o.outcome < length outcomes) (λ (o : Kept). o.outcome < length (outcomes ++ added)) (λ (o : Kept) lt. omega (arith, length-append outcomes added)) list within.each in (
-      subst (λ l. AreAnsweredBut n x s wanted less l) (sym joined) (answered-next n x s wanted left less (entries segments outcomes list) entry answered first taken answer),
+      subst (λ l. AreListedBut n x s wanted less l) (sym joined) (listed-next n x s wanted left less (entries segments outcomes list) entry listed first taken answer),
       record {
         lists = lists;
         each = All-push (λ (o : Kept). o.outcome < length (outcomes ++ added)) list kept others below;

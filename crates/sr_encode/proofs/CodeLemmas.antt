@@ -5,7 +5,7 @@ use Rattle.sr_model.specs.declared.repair.Segment.{Segment}
 use Rattle.sr_encode.specs.declared.answers.NodeAnswer.{NodeAnswer}
 use Rattle.sr_encode.specs.declared.kept.Kept.{Kept}
 use Rattle.sr_encode.specs.declared.kept.Outcome.{Outcome}
-use Rattle.sr_encode.specs.declared.kept.Outcome.TheVariants.{Least, NoPath, NoList, TooDeep}
+use Rattle.sr_encode.specs.declared.kept.Outcome.TheVariants.{Least, NoPath, NoList}
 use Rattle.sr_encode.specs.Answered.{answer_at}
 use Rattle.sr_encode.specs.Codes.{AreCodes, codes_of, without_cost}
 use Rattle.sr_encode.specs.Kept.{answer_from, entry_from, entries, outcome_at, AreKeptWithin}
@@ -15,7 +15,6 @@ use Rattle.sr_encode.proofs.AnswerLemmas.{no_kept, kept-at}
 from-outcome : (segments : List Segment) (o : Outcome) (cost : ℕ) → without_cost (answer_from segments o cost) ≡ answer_from segments o 0
 from-outcome segments NoPath cost = refl
 from-outcome segments NoList cost = refl
-from-outcome segments (TooDeep needed) cost = refl
 from-outcome segments (Least first begin end) cost = refl
 
 module _ (segments : List Segment) (outcomes : List Outcome) (kept : List Kept) where

@@ -11,5 +11,6 @@ pub mod AnswerLemmas
 pub mod KeptHops
 pub mod CollectLemmas
 pub mod CodeLemmas
+pub mod LimitLemmas
 pub mod TakeLemmas
 pub mod MovedLemmas

@@ -1,5 +1,5 @@
 -- Answers that are kept with renumbered links are the renumbered answers.
-use Rattle.std.proofs.Common.{◌≡◌, ℕ, ◌<◌, ◌-◌, List, [], ◌∷◌, map, length, take, drop, slice_range, refl, arith, ap, sym, ◌∙◌, subst, cond, Option}
+use Rattle.std.proofs.Common.{◌≡◌, ℕ, ◌<◌, ◌≤◌, ◌-◌, List, [], ◌∷◌, map, length, take, drop, slice_range, refl, arith, ap, sym, ◌∙◌, subst, cond, Option}
 use Rattle.std.specs.Prelude.{All, Bool, count_by}
 use Rattle.std.proofs.lemmas.List.{get_or-map, length-map, drop-map, take-map}
 use Rattle.std.proofs.lemmas.List.Elements.{All-map, All-weaker, All-head, All-tail}
@@ -13,7 +13,7 @@ use Rattle.sr_model.specs.Audit.{is_least, is_no_path, is_no_list, is_too_deep}
 use Rattle.sr_encode.specs.declared.answers.NodeAnswer.{NodeAnswer}
 use Rattle.sr_encode.specs.declared.kept.Kept.{Kept}
 use Rattle.sr_encode.specs.declared.kept.Outcome.{Outcome}
-use Rattle.sr_encode.specs.declared.kept.Outcome.TheVariants.{Least as ListOutcome, NoPath as NoPathOutcome, NoList as NoListOutcome, TooDeep as DeepOutcome}
+use Rattle.sr_encode.specs.declared.kept.Outcome.TheVariants.{Least as ListOutcome, NoPath as NoPathOutcome, NoList as NoListOutcome}
 use Rattle.sr_spf.specs.Renewed.{moved_link}
 use Rattle.sr_encode.specs.Answered.{AscendByNode, counts_in, destination_at}
 use Rattle.sr_encode.specs.Kept.{AreKeptWithin, HasSegments, answer_from, entries, entry_from, outcome_at}
@@ -27,7 +27,6 @@ module _ (links : List (Option LinkNo)) (segments : List Segment) (outcomes : Li
   answer-moved : (o : Outcome) (cost : ℕ) → answer_from (map (moved_segment links) segments) (moved_outcome links o) cost ≡ moved_answer links (answer_from segments o cost)
   answer-moved NoPathOutcome cost = refl
   answer-moved NoListOutcome cost = refl
-  answer-moved (DeepOutcome needed) cost = refl
   answer-moved (ListOutcome first begin end) cost = ap (λ (l : List Segment). Least (record { first = moved_link links first; segments = l; cost = cost })) (range-moved begin end)
 
   outcome-moved : (r : ℕ) → r < length outcomes → outcome_at (map (moved_outcome links) outcomes) r ≡ moved_outcome links (outcome_at outcomes r)
@@ -45,7 +44,6 @@ module _ (links : List (Option LinkNo)) (segments : List Segment) (outcomes : Li
   segments-within : (o : Outcome) → HasSegments segments o → HasSegments (map (moved_segment links) segments) (moved_outcome links o)
   segments-within NoPathOutcome within = within
   segments-within NoListOutcome within = within
-  segments-within (DeepOutcome needed) within = within
   segments-within (ListOutcome first begin end) within = (within.0, omega (arith, within.1, length-map segments (moved_segment links)))
 
   moved-within : (kept : List Kept) → AreKeptWithin segments outcomes kept → AreKeptWithin (map (moved_segment links) segments) (map (moved_outcome links) outcomes) kept
@@ -111,12 +109,13 @@ entries-as links s s' o o' k k' r segments outcomes kept =
     ∙ entries-moved links s o k r.each
 
 -- and what is true of kept answers stays so
-pub kept-as : (links : List (Option LinkNo)) (s s' : List Segment) (o o' : List Outcome) (k k' : List Kept) (counts : Counts) → AreKeptWithin s o k → AscendByNode (entries s o k) → counts ≡ counts_in (entries s o k) → s' ≡ map (moved_segment links) s → o' ≡ map (moved_outcome links) o → k' ≡ k → AreKeptWithin s' o' k' × AscendByNode (entries s' o' k') × (counts ≡ counts_in (entries s' o' k'))
-kept-as links s s' o o' k k' counts r up are segments outcomes kept =
+pub kept-as : (links : List (Option LinkNo)) (s s' : List Segment) (o o' : List Outcome) (k k' : List Kept) (counts : Counts) → AreKeptWithin s o k → AscendByNode (entries s o k) → counts ≡ counts_in (entries s o k) → length k ≤ 256 → s' ≡ map (moved_segment links) s → o' ≡ map (moved_outcome links) o → k' ≡ k → AreKeptWithin s' o' k' × AscendByNode (entries s' o' k') × (counts ≡ counts_in (entries s' o' k')) × (length k' ≤ 256)
+kept-as links s s' o o' k k' counts r up are few segments outcomes kept =
     let same = entries-as links s s' o o' k k' r segments outcomes kept in (
       subst (λ x. AreKeptWithin x o' k') (sym segments)
           (subst (λ x. AreKeptWithin (map (moved_segment links) s) x k') (sym outcomes)
           (subst (λ x. AreKeptWithin (map (moved_segment links) s) (map (moved_outcome links) o) x) (sym kept) (moved-within links s o k r))),
       subst (λ list. AscendByNode list) (sym same) (ascend-moved links (entries s o k) up),
       are ∙ sym (ap counts_in same ∙ counts-moved links (entries s o k)),
+      omega (arith, few, ap length kept),
     )

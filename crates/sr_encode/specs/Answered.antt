@@ -1,4 +1,4 @@
--- The answers of a case.
+-- What is listed in a case, and its answers.
 use Rattle.std.specs.Prelude.{◌≡◌, ◌≢◌, ◌↔◌, ℕ, ◌<◌, Bool, true, List, length, count_by, slice_index_or, IsTrue}
 use Rattle.sr_lanes.specs.Bits.{is_in}
 use Rattle.sr_lanes.specs.declared.words.NodeBits.{NodeBits}
@@ -9,7 +9,8 @@ use Rattle.sr_model.specs.declared.audit.Counts.{Counts}
 use Rattle.sr_model.specs.Audit.{is_least, is_no_path, is_no_list, is_too_deep}
 use Rattle.sr_model.specs.Label.{Net}
 use Rattle.sr_model.specs.Case.{IsAffected}
-use Rattle.sr_model.specs.Repair.{IsAnswer, IsCaseAnswer}
+use Rattle.sr_model.specs.Repair.{IsCaseAnswer}
+use Rattle.sr_laws.specs.Listed.{IsCaseListed, IsListed}
 use Rattle.sr_encode.specs.declared.answers.NodeAnswer.{NodeAnswer}
 
 -- the answer at place i, with its destination
@@ -49,16 +50,24 @@ counts_in list = record {
 abbrev pub AreAffected : Net → Case → NodeBits → Type 0
 AreAffected n case wanted = (v : ℕ) → IsTrue (is_in wanted v) ↔ IsAffected n case v
 
--- the list has the affected destinations of the case, ascending, each with its answer
-pub record AreAnswers (n : Net) (case : Case) (list : List NodeAnswer) : Type 0 where
+-- the list has the affected destinations of the case, ascending, each with an answer that belongs to it
+pub record AreForAffected (Belongs : ℕ → Answer → Type 0) (n : Net) (case : Case) (list : List NodeAnswer) : Type 0 where
   pub ascending : AscendByNode list
   pub affected : (i : ℕ) → i < length list → IsAffected n case (destination_at list i)
-  pub answers : (i : ℕ) → i < length list → IsCaseAnswer n case (destination_at list i) (answer_at list i)
+  pub answers : (i : ℕ) → i < length list → Belongs (destination_at list i) (answer_at list i)
   pub all : (d : ℕ) → IsAffected n case d → (i : ℕ) × (i < length list) × (destination_at list i ≡ d)
 
--- the list has the destinations of the set, ascending, each with its answer
-pub record AreAnswered (n : Net) (x : List Bool) (s : ℕ) (wanted : NodeBits) (list : List NodeAnswer) : Type 0 where
+-- the list has the affected destinations of the case, ascending, each with its answer
+abbrev pub AreAnswers : Net → Case → List NodeAnswer → Type 0
+AreAnswers n case = AreForAffected (IsCaseAnswer n case) n case
+
+-- the list has the affected destinations of the case, ascending, each with what is listed for it, however deep
+abbrev pub AreLists : Net → Case → List NodeAnswer → Type 0
+AreLists n case = AreForAffected (IsCaseListed n case) n case
+
+-- the list has the destinations of the set, ascending, each with what is listed for it
+pub record AreListed (n : Net) (x : List Bool) (s : ℕ) (wanted : NodeBits) (list : List NodeAnswer) : Type 0 where
   pub ascending : AscendByNode list
   pub within : (i : ℕ) → i < length list → is_in wanted (destination_at list i) ≡ true
-  pub answers : (i : ℕ) → i < length list → IsAnswer n x s (destination_at list i) (answer_at list i)
+  pub lists : (i : ℕ) → i < length list → IsListed n x s (destination_at list i) (answer_at list i)
   pub all : (d : ℕ) → is_in wanted d ≡ true → (i : ℕ) × (i < length list) × (destination_at list i ≡ d)

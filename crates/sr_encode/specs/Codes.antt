@@ -13,7 +13,7 @@ without_cost NoPath = NoPath
 without_cost NoList = NoList
 without_cost (TooDeep needed) = TooDeep needed
 
--- the codes of the answers that are kept so: the places of their outcomes
+-- the codes of what is listed so: the places of the outcomes
 abbrev pub codes_of : List Kept → List ℕ
 codes_of kept = map (λ (k : Kept). k.outcome) kept
 

@@ -1,18 +1,14 @@
 -- How the outcomes of a search are collected, each once.
 use Rattle.std.specs.Prelude.{◌≡◌, ℕ, ◌*◌, ◌^◌, ◌<◌, ◌≤◌, List, ◌++◌, length, Option, Some, None, slice_index_or, slice_range, All}
-use Rattle.sr_model.specs.declared.link.NodeNo.{NodeNo}
 use Rattle.sr_model.specs.declared.link.TheConstants.{FAR}
 use Rattle.sr_model.specs.declared.repair.Segment.{Segment}
-use Rattle.sr_model.specs.Graph.{node_count}
-use Rattle.sr_model.specs.Label.{Net}
-use Rattle.sr_model.specs.Repair.{Fits}
 use Rattle.sr_encode.specs.declared.collected.Collected.{Collected}
 use Rattle.sr_encode.specs.declared.kept.Outcome.{Outcome}
-use Rattle.sr_encode.specs.declared.kept.Outcome.TheVariants.{Least, NoPath, NoList, TooDeep}
+use Rattle.sr_encode.specs.declared.kept.Outcome.TheVariants.{Least, NoPath, NoList}
 use Rattle.sr_encode.specs.declared.kept.TheConstants.{NO_PATH, NO_LIST}
 use Rattle.sr_encode.specs.declared.waypoint.Waypoint.{Waypoint}
 use Rattle.sr_encode.specs.Kept.{outcome_at, HasSegments}
-use Rattle.sr_encode.specs.Waypoints.{waypoint_at, path_to, AreParents}
+use Rattle.sr_encode.specs.Waypoints.{path_to, AreParents}
 
 -- a search has at most this many outcomes, since it has at most two more than there are nodes (this project's rule)
 abbrev pub most_outcomes : ℕ
@@ -22,14 +18,12 @@ most_outcomes = 300
 abbrev pub most_segments : ℕ
 most_segments = 2 ^ 16
 
--- the outcome is the list to the waypoint at place k where it fits at the source, and else how many segments it has
+-- the outcome is the list to the waypoint at place k
 abbrev pub IsOutcomeOf : Collected → ℕ → Outcome → Type 0
 IsOutcomeOf g k NoPath = ⊥
 IsOutcomeOf g k NoList = ⊥
-IsOutcomeOf g k (TooDeep needed) = ((waypoint_at g.queue.now k).depth ≡ needed) × (Fits g.net.now g.source.0 needed → ⊥)
 IsOutcomeOf g k (Least first begin end) =
-    (path_to g.queue.now k ≡ record { first = first.0; segments = slice_range g.segments.items begin end })
-    × Fits g.net.now g.source.0 (waypoint_at g.queue.now k).depth
+    path_to g.queue.now k ≡ record { first = first.0; segments = slice_range g.segments.items begin end }
 
 -- the outcome at place r is that of the waypoint at this place, and else no path where the cost is FAR, or no list
 abbrev pub IsOutcomeFor : Collected → ℕ → Option ℕ → ℕ → Type 0
@@ -39,7 +33,6 @@ IsOutcomeFor g cost (Some k) r = IsOutcomeOf g k (outcome_at g.outcomes.items r)
 
 -- first stand no path and no list, and where a waypoint has an outcome, it stands at the place that is known
 pub record IsCollected (g : Collected) : Type 0 where
-  pub source : g.source.0 < node_count g.net.now.graph
   pub parents : AreParents g.queue.now
   pub lists : All (HasSegments g.segments.items) g.outcomes.items
   pub two : 2 ≤ length g.outcomes.items
@@ -50,15 +43,9 @@ pub record IsCollected (g : Collected) : Type 0 where
   pub each : (k r : ℕ) → slice_index_or g.known.items k None ≡ Some r
       → (r < length g.outcomes.items) × IsOutcomeOf g k (outcome_at g.outcomes.items r)
 
--- both are of the same search
-pub record IsOfSame (before after : Collected) : Type 0 where
-  pub net : after.net.now ≡ before.net.now
-  pub source : after.source ≡ before.source
-  pub queue : after.queue.now ≡ before.queue.now
-
 -- the segments of at most one list were put behind the others
 pub record HasMoreSegments (before after : Collected) : Type 0 where
-  pub same : IsOfSame before after
+  pub queue : after.queue.now ≡ before.queue.now
   pub outcomes : after.outcomes.items ≡ before.outcomes.items
   pub known : after.known.items ≡ before.known.items
   pub more : List Segment
@@ -68,7 +55,7 @@ pub record HasMoreSegments (before after : Collected) : Type 0 where
 -- an outcome stands at place r afterwards, and at most one came behind the others
 pub record Gains (before after : Collected) (r : ℕ) : Type 0 where
   pub collected : IsCollected after
-  pub same : IsOfSame before after
+  pub queue : after.queue.now ≡ before.queue.now
   pub more : List Segment
   pub segments : after.segments.items ≡ before.segments.items ++ more
   pub added : List Outcome
@@ -77,9 +64,7 @@ pub record Gains (before after : Collected) (r : ℕ) : Type 0 where
   pub within : r < length after.outcomes.items
 
 -- no waypoint of the search has an outcome yet
-pub record IsStarted (n : Net) (s : NodeNo) (waypoints : List Waypoint) (g : Collected) : Type 0 where
+pub record IsStarted (waypoints : List Waypoint) (g : Collected) : Type 0 where
   pub collected : IsCollected g
-  pub net : g.net.now ≡ n
-  pub source : g.source ≡ s
   pub queue : g.queue.now ≡ waypoints
   pub few : length g.outcomes.items ≡ 2

@@ -7,4 +7,5 @@ pub mod Kept
 pub mod Collected
 pub mod Repairs
 pub mod Codes
+pub mod Limited
 pub mod Renumbered

@@ -8,7 +8,7 @@ use Rattle.sr_model.specs.declared.repair.Answer.TheVariants.{Least, NoPath, NoL
 use Rattle.sr_spf.specs.Renewed.{moved_link}
 use Rattle.sr_encode.specs.declared.answers.NodeAnswer.{NodeAnswer}
 use Rattle.sr_encode.specs.declared.kept.Outcome.{Outcome}
-use Rattle.sr_encode.specs.declared.kept.Outcome.TheVariants.{Least as ListOutcome, NoPath as NoPathOutcome, NoList as NoListOutcome, TooDeep as DeepOutcome}
+use Rattle.sr_encode.specs.declared.kept.Outcome.TheVariants.{Least as ListOutcome, NoPath as NoPathOutcome, NoList as NoListOutcome}
 
 -- the segment, its link renumbered
 abbrev pub moved_segment : List (Option LinkNo) → Segment → Segment
@@ -35,5 +35,4 @@ moved_entry links entry = record { destination = entry.destination; answer = mov
 abbrev pub moved_outcome : List (Option LinkNo) → Outcome → Outcome
 moved_outcome links NoPathOutcome = NoPathOutcome
 moved_outcome links NoListOutcome = NoListOutcome
-moved_outcome links (DeepOutcome needed) = DeepOutcome needed
 moved_outcome links (ListOutcome first begin end) = ListOutcome (moved_link links first) begin end

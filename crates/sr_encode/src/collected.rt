@@ -1,35 +1,18 @@
 //! The outcomes of a search as they are collected, each once.
-ghost use Rattle.std.specs.Prelude.{◌≡◌, ◌<◌, ◌≤◌, ◌↔◌, length, IsTrue, IfOk, OnOk, Some};
-ghost use Rattle.sr_model.specs.Graph.{node_count};
-ghost use Rattle.sr_model.specs.Repair.{Fits};
+ghost use Rattle.std.specs.Prelude.{◌≡◌, ◌<◌, ◌≤◌, length, IfOk, OnOk, Some};
 ghost use Rattle.sr_encode.specs.Collected.{most_outcomes, IsOutcomeOf, IsOutcomeFor, IsCollected, IsStarted, HasMoreSegments, Gains};
 ghost use Rattle.sr_encode.specs.Kept.{HasSegments, outcome_at};
 ghost use Rattle.sr_encode.specs.Waypoints.{AreParents};
 
 use crate::kept::{NO_LIST, NO_PATH, Outcome};
 use crate::waypoint::{Waypoint, read_segments};
-use sr_labels::Net;
-use sr_model::{FAR, NodeNo, Segment};
+use sr_model::{FAR, Segment};
 use std::alloc::{AllocError, Global};
 
-/// Whether a list of that many segments is let through at the node (RFC 8491, 5; this project's
-/// rule).
-fn fits(net: &Net, node: NodeNo, depth: u16) -> bool
-    requires { node.0 < node_count net.now.graph }
-    ensures { IsTrue result ↔ Fits net.now node.0 depth }
-{
-    match net.labels(node).imposes() {
-        Some(most) => depth < most as u16,
-        None => depth <= net.depth() as u16,
-    }
-}
-
-/// The outcomes of a search from `source`, whose waypoints stand in `queue`, and the segments of their lists. A waypoint
-/// gets its outcome when it first serves a destination, so that no list stands there twice.
+/// The outcomes of a search, whose waypoints stand in `queue`, and the segments of their lists. A waypoint gets its outcome
+/// when it first serves a destination, so that no list stands there twice.
 #[derive(Drop)]
 pub(crate) struct Collected<'a> {
-    net: &'a Net,
-    source: NodeNo,
     queue: &'a [Waypoint],
     pub(crate) outcomes: Vec<Outcome>,
     /// The segments of the lists, one list after the other.
@@ -42,22 +25,14 @@ pub(crate) struct Collected<'a> {
 
 impl<'a> Collected<'a> {
     /// Of a search whose waypoints haven't served any destination yet.
-    pub(crate) fn new(
-        alloc: Global,
-        net: &'a Net,
-        source: NodeNo,
-        queue: &'a [Waypoint],
-    ) -> Result<Collected<'a>, AllocError>
-        requires source { source.0 < node_count net.now.graph }
-        requires parents { AreParents queue.now }
-        ensures { IfOk result (IsStarted net.now source queue.now) }
+    pub(crate) fn new(alloc: Global, queue: &'a [Waypoint]) -> Result<Collected<'a>, AllocError>
+        requires { AreParents queue.now }
+        ensures { IfOk result (IsStarted queue.now) }
     {
         let mut outcomes = Vec::with_capacity(alloc, 8)?;
         outcomes.push(Outcome::NoPath)?;
         outcomes.push(Outcome::NoList)?;
         Ok(Collected {
-            net,
-            source,
             queue,
             outcomes,
             segments: Vec::new(alloc),
@@ -76,17 +51,12 @@ impl<'a> Collected<'a> {
         ensures outcome { IfOk result (λ made.
             IsOutcomeOf self.new place made × HasSegments self.new.segments.items made) }
     {
-        let waypoint = self.queue[place as usize];
-        if !fits(self.net, self.source, waypoint.depth) {
-            return Ok(Outcome::TooDeep {
-                needed: waypoint.depth as u32,
-            });
-        }
+        let first = self.queue[place as usize].first;
         read_segments(self.queue, place as usize, &mut self.list)?;
         let begin = self.segments.len() as u32;
         self.segments.extend_from_slice(&self.list)?;
         Ok(Outcome::Least {
-            first: waypoint.first,
+            first,
             begin,
             end: self.segments.len() as u32,
         })

@@ -54,7 +54,6 @@ fn moved_outcome(links: &[Option<LinkNo>], outcome: Outcome) -> Outcome
         },
         Outcome::NoPath => Outcome::NoPath,
         Outcome::NoList => Outcome::NoList,
-        Outcome::TooDeep { needed } => Outcome::TooDeep { needed },
     }
 }
 

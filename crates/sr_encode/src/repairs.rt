@@ -1,4 +1,4 @@
-//! The answers of a case, from its search.
+//! What is listed in a case, from its search.
 ghost use Rattle.std.specs.Prelude.{◌≡◌, ℕ, ◌<◌, ◌^◌, true, IfOk};
 ghost use Rattle.sr_model.specs.declared.link.TheConstants.{FAR as Far};
 ghost use Rattle.sr_model.specs.Graph.{node_count};
@@ -8,10 +8,10 @@ ghost use Rattle.sr_spf.specs.Trees.{AreTrees};
 ghost use Rattle.sr_post.specs.Post.{IsPost};
 ghost use Rattle.sr_lanes.specs.Bits.{is_in};
 ghost use Rattle.sr_encode.specs.Serve.{AreResolved};
-ghost use Rattle.sr_encode.specs.Answered.{AreAffected, AreAnswers};
+ghost use Rattle.sr_encode.specs.Answered.{AreAffected, AreLists};
 ghost use Rattle.sr_encode.specs.Repairs.{AreAllKept};
 
-use crate::answers::CaseAnswers;
+use crate::case_lists::CaseLists;
 use crate::collected::Collected;
 use crate::kept::{Kept, Outcome};
 use crate::scene::Scene;
@@ -26,9 +26,9 @@ use sr_spaces::Spaces;
 use sr_spf::Trees;
 use std::alloc::{AllocError, Global};
 
-/// Answers as they are kept, the outcomes that they share, and the segments of their lists.
+/// What is listed, as it is kept: the outcomes that destinations share, and the segments of their lists.
 #[derive(Drop)]
-struct KeptAnswers {
+struct KeptLists {
     kept: Vec<Kept>,
     outcomes: Vec<Outcome>,
     segments: Vec<Segment>,
@@ -45,8 +45,8 @@ fn whole_cost(cost: u64) -> u32
     cost as u32
 }
 
-/// The answers for the destinations, ascending.
-fn kept_answers(
+/// What is listed for the destinations, ascending.
+fn kept_lists(
     alloc: Global,
     net: &Net,
     cells: &[u64],
@@ -54,7 +54,7 @@ fn kept_answers(
     source: NodeNo,
     wanted: NodeBits,
     found: &Serving,
-) -> Result<KeptAnswers, AllocError>
+) -> Result<KeptLists, AllocError>
     requires cells { IsRow net.now.graph failed.now source.0 cells.now }
     requires source { source.0 < node_count net.now.graph }
     requires wanted { (v : ℕ) → is_in wanted v ≡ true → v < node_count net.now.graph }
@@ -64,7 +64,7 @@ fn kept_answers(
 {
     let _graph = net.graph();
     let mut kept = Vec::with_capacity(alloc, wanted.count())?;
-    let mut collected = Collected::new(alloc, net, source, &found.queue)?;
+    let mut collected = Collected::new(alloc, &found.queue)?;
     let mut left = wanted;
     'left: while let Some(node) = left.take_first() {
         let cost = cells[node];
@@ -75,38 +75,38 @@ fn kept_answers(
             cost: whole_cost(cost),
         })?;
     }
-    Ok(KeptAnswers {
+    Ok(KeptLists {
         kept,
         outcomes: collected.outcomes,
         segments: collected.segments,
     })
 }
 
-/// The answers of the case, whose affected destinations these are. `post` is what the case leaves, and `spaces` has the
+/// What is listed in the case, whose affected destinations these are. `post` is what the case leaves, and `spaces` has the
 /// links that fail in it.
-fn answers_for(
+fn lists_for(
     alloc: Global,
     net: &Net,
     spaces: &Spaces,
     post: &Post,
     case: Case,
     wanted: NodeBits,
-) -> Result<CaseAnswers, AllocError>
+) -> Result<CaseLists, AllocError>
     requires spaces { spaces.now ≡ record { graph = net.now.graph; failed = post.now.failed } }
     requires case { IsCase net.now.graph case }
     requires post { IsPost net.now case post.now }
     requires wanted { AreAffected net.now case wanted }
-    ensures { IfOk result (AreAnswers net.now case) }
+    ensures { IfOk result (AreLists net.now case) }
 {
     let source = net.graph().link(case.link).from;
     let pivot = pivot_of(net.graph(), case);
     let scene = Scene::new(net, spaces, post.cells(), source, pivot);
     let found = search(alloc, &scene, post, wanted)?;
-    let KeptAnswers {
+    let KeptLists {
         kept,
         outcomes,
         segments,
-    } = kept_answers(
+    } = kept_lists(
         alloc,
         net,
         post.cells(),
@@ -115,11 +115,11 @@ fn answers_for(
         wanted,
         &found,
     )?;
-    Ok(CaseAnswers::new(kept, outcomes, segments))
+    Ok(CaseLists::new(kept, outcomes, segments))
 }
 
-/// The answer of the case for each affected destination, ascending: the least sound list, or why
-/// there is none. `post` is what the case leaves, and `wanted` has the affected destinations.
+/// What is listed in the case for each affected destination, ascending: the least sound list, however deep, or why there is
+/// none. `post` is what the case leaves, and `wanted` has the affected destinations.
 pub fn lists(
     alloc: Global,
     net: &Net,
@@ -127,13 +127,13 @@ pub fn lists(
     post: &Post,
     case: Case,
     wanted: NodeBits,
-) -> Result<CaseAnswers, AllocError>
+) -> Result<CaseLists, AllocError>
     requires trees { AreTrees net.now.graph trees.now }
     requires case { IsCase net.now.graph case }
     requires post { IsPost net.now case post.now }
     requires wanted { AreAffected net.now case wanted }
-    ensures { IfOk result (AreAnswers net.now case) }
+    ensures { IfOk result (AreLists net.now case) }
 {
     let spaces = spaces_of(net.graph(), trees, post.failed(), case);
-    answers_for(alloc, net, &spaces, post, case, wanted)
+    lists_for(alloc, net, &spaces, post, case, wanted)
 }

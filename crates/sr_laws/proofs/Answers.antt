@@ -10,6 +10,7 @@ use Rattle.sr_model.specs.declared.repair.Answer.TheVariants.{Least, NoPath, NoL
 use Rattle.sr_model.specs.Case.{source_of}
 use Rattle.sr_model.specs.Label.{Net}
 use Rattle.sr_model.specs.Repair.{Path, SegmentLt, SegmentsLt, PathLe, IsLeast, Fits, path_of, IsAnswer, IsCaseAnswer}
+use Rattle.sr_laws.specs.Listed.{IsListed}
 use Rattle.sr_walks.proofs.Distances.{distance-unique}
 use Rattle.sr_laws.proofs.Order.{PathLe-antisym}
 use Rattle.sr_laws.proofs.Failures.{failed-one}
@@ -99,6 +100,23 @@ answer-one n x s d (Least a) (TooDeep k) p q =
     absurd (q.3 (subst (λ j. Fits n s j) (ap (λ (b : Path). length b.segments) (least-one n x s d (path_of a) q.0 p.0 q.1) ∙ q.2) p.1))
 answer-one n x s d (Least a) (Least b) p q =
     ap Least (list_is a b (least-one n x s d (path_of a) (path_of b) p.0 q.0) (distance-unique n.graph x s d a.cost b.cost p.2 q.2))
+
+-- and one thing is listed
+pub listed-one : (n : Net) (x : List Bool) (s d : ℕ) (a b : Answer) → IsListed n x s d a → IsListed n x s d b → a ≡ b
+listed-one n x s d NoPath NoPath p q = refl
+listed-one n x s d NoPath NoList p q = absurd (p q.0.0 q.0.1)
+listed-one n x s d NoPath (TooDeep k) p q = absurd q
+listed-one n x s d NoPath (Least b) p q = absurd (p q.1.reached.0 q.1.reached.1)
+listed-one n x s d NoList NoPath p q = absurd (q p.0.0 p.0.1)
+listed-one n x s d NoList NoList p q = refl
+listed-one n x s d NoList (TooDeep k) p q = absurd q
+listed-one n x s d NoList (Least b) p q = absurd (p.1 (path_of b) q.0.sound)
+listed-one n x s d (TooDeep k) b p q = absurd p
+listed-one n x s d (Least a) NoPath p q = absurd (q p.1.reached.0 p.1.reached.1)
+listed-one n x s d (Least a) NoList p q = absurd (q.1 (path_of a) p.0.sound)
+listed-one n x s d (Least a) (TooDeep k) p q = absurd q
+listed-one n x s d (Least a) (Least b) p q =
+    ap Least (list_is a b (least-one n x s d (path_of a) (path_of b) p.0 q.0) (distance-unique n.graph x s d a.cost b.cost p.1 q.1))
 
 -- also of a case
 pub case-answer-one : (n : Net) (case : Case) (d : ℕ) (a b : Answer) → IsCaseAnswer n case d a → IsCaseAnswer n case d b → a ≡ b

@@ -11,24 +11,25 @@ use Rattle.sr_model.specs.declared.repair.RepairList.{RepairList}
 use Rattle.sr_model.specs.declared.repair.Answer.{Answer}
 use Rattle.sr_model.specs.declared.repair.Answer.TheVariants.{Least, NoPath, NoList, TooDeep}
 use Rattle.sr_model.specs.Key.{KeyLt}
-use Rattle.sr_model.specs.Graph.{Graph, node_count, link_count, link_at, tail, head, IsGraph, IsLink, IsNamed}
+use Rattle.sr_model.specs.Graph.{Graph, node_count, link_count, link_at, tail, head, metric, IsGraph, IsLink, IsNamed}
 use Rattle.sr_model.specs.Walk.{IsOnWay, IsWalk, cost, IsDistance, IsNextHop, IsRow}
 use Rattle.sr_model.specs.Case.{Touches, IsAffected, key_at, IsFailedSet, IsOutside, source_of}
 use Rattle.sr_model.specs.Label.{Net}
 use Rattle.sr_model.specs.Rule.{IsNet}
-use Rattle.sr_model.specs.Repair.{Fits, path_of, IsAnswer, IsCaseAnswer}
-use Rattle.sr_model.specs.Stay.{HaveSameName, HaveSamePairs, IsKeptTree, HasSameDepth, IsKeptCase, case_with, AreSegmentsSame, IsSameAnswer}
+use Rattle.sr_model.specs.Repair.{Fits, path_of, IsAnswer, IsCaseAnswer, IsLeast}
+use Rattle.sr_model.specs.Stay.{HaveSameName, HaveSamePairs, IsKeptTree, HasSameDepth, IsKeptCase, case_with, AreSegmentsSame, IsSameAnswer, IsSameList}
 use Rattle.sr_walks.proofs.Walks.{IsWalk-append, cost-append, Begins, begins-self}
 use Rattle.sr_walks.proofs.Distances.{distance-self, distance-from_shortest, IsShortest-from_cost, walk-into}
 use Rattle.sr_laws.proofs.Keys.{KeyLt-trans, KeyLt-irrefl, key-one, nodes-same, name-ends, pairs-agree, IsPairSet}
 use Rattle.sr_walks.proofs.Rows.{Keeps, AreLike, AgreeOnLoad, agree-sym, way-kept, row-one, row-stays}
+use Rattle.sr_laws.specs.Listed.{IsCaseListed, IsListed}
 use Rattle.sr_laws.specs.Steady.{IsSameFar, IsSteadyCase, KeepsStep, pivot_of}
 use Rattle.sr_laws.proofs.Pivots.{far-sym, lie-at_pivot, pivot-by_ends, pivot-known, pivot-within, step-by_pivot}
 use Rattle.sr_laws.proofs.KeptLists.{in_row, step-by_tree, TreeStays, tree-sym, OnWay, Stays, AreSegmentsAlike}
 use Rattle.sr_laws.proofs.KeptOrder.{Ordered, length-alike, least-kept, none-kept}
 use Rattle.sr_laws.proofs.Failures.{failed-one, failed-pairs}
 use Rattle.sr_laws.proofs.Changes.{AreVersions, NamesAgree, keeps-there, keeps-back}
-use Rattle.sr_laws.proofs.Answers.{answer-one}
+use Rattle.sr_laws.proofs.Answers.{answer-one, listed-one}
 use Rattle.sr_laws.proofs.Parts.{link_is}
 
 pub nothing-pairs : (g : Graph) → IsPairSet g []
@@ -170,7 +171,6 @@ steady-from_kept n m nn nm case c = record {
   failed = c.failed;
   failed' = c.failed';
   pairs = c.pairs;
-  depth = c.depth;
   affected = λ d within. (affected_there n m case nn nm c d within, affected_back n m case nn nm c d within);
   post = c.post;
   row = c.row;
@@ -279,9 +279,20 @@ module _ (n m : Net) (case : Case) (nn : IsNet n) (nm : IsNet m) (c : IsSteadyCa
       let i : (slice_index c.post d < FAR) × (slice_index c.post d ≡ e) = in_row n.graph c.x (tail n.graph case.link.0) d e c.post c.row within f in
       subst (λ j. IsDistance m.graph c.y (tail n.graph case.link.0) d j) i.1 ((post-stays.each d (omega (arith, nodes_same))).near i.0)
 
-  -- the answer of the old net, with the links of the new one, is an answer of the new net
-  pub answer-kept : (d : ℕ) → d < node_count n.graph → IsAffected n case d → (a : Answer) → IsAnswer n c.x (tail n.graph case.link.0) d a → (b : Answer) × IsSameAnswer n.graph m.graph a b × IsAnswer m c.y (tail n.graph case.link.0) d b
-  answer-kept d within af NoPath a = (
+  -- the least list stays, with the links of the new net
+  least-there : (d : ℕ) → d < node_count n.graph → IsAffected n case d → (p : RepairList) → IsLeast n c.x (tail n.graph case.link.0) d (path_of p) → IsDistance n.graph c.x (tail n.graph case.link.0) d p.cost → (q : RepairList) × IsSameList n.graph m.graph p q × IsLeast m c.y (tail n.graph case.link.0) d (path_of q) × IsDistance m.graph c.y (tail n.graph case.link.0) d q.cost × (length p.segments ≡ length q.segments)
+  least-there d within af p least far =
+      let b = least-kept n c.x m c.y (tail n.graph case.link.0) d c.post (stays-at d within af) (names-ordered n.graph m.graph nn.named nm.named) within (path_of p) least in (
+        record { first = record { 0 = b.0.first }; segments = b.0.segments; cost = p.cost },
+        record { first = (b.2.0, b.2.1, ap (λ j. j.key) b.2.2); segments = segments-same n.graph m.graph p.segments b.0.segments b.3; cost = refl },
+        b.1,
+        distance_there d p.cost within far,
+        length-alike n.graph m.graph p.segments b.0.segments b.3,
+      )
+
+  -- what is listed in the old net, with the links of the new one, is listed in the new net
+  pub listed-kept : (d : ℕ) → d < node_count n.graph → IsAffected n case d → (a : Answer) → IsListed n c.x (tail n.graph case.link.0) d a → (b : Answer) × IsSameAnswer n.graph m.graph a b × IsListed m c.y (tail n.graph case.link.0) d b
+  listed-kept d within af NoPath a = (
     NoPath,
     refl,
     ⊎_elim
@@ -289,7 +300,7 @@ module _ (n m : Net) (case : Case) (nn : IsNet n) (nm : IsNet m) (c : IsSteadyCa
         (λ far. (post-stays.each d (omega (arith, nodes_same))).far far)
         (cases_lt (slice_index c.post d) FAR),
   )
-  answer-kept d within af NoList a = (
+  listed-kept d within af NoList a = (
     NoList,
     refl,
     (
@@ -300,17 +311,26 @@ module _ (n m : Net) (case : Case) (nn : IsNet n) (nm : IsNet m) (c : IsSteadyCa
       none-kept n c.x m c.y (tail n.graph case.link.0) d c.post (stays-at d within af) within a.1,
     ),
   )
-  answer-kept d within af (TooDeep i) a =
-      let b = least-kept n c.x m c.y (tail n.graph case.link.0) d c.post (stays-at d within af) (names-ordered n.graph m.graph nn.named nm.named) within a.0 a.1 in
-      (TooDeep i, refl, (b.0, b.1, sym (length-alike n.graph m.graph a.0.segments b.0.segments b.3) ∙ a.2, λ f. a.3 (fits-back n m (tail n.graph case.link.0) i c.depth f)))
-  answer-kept d within af (Least p) a =
-      let b = least-kept n c.x m c.y (tail n.graph case.link.0) d c.post (stays-at d within af) (names-ordered n.graph m.graph nn.named nm.named) within (path_of p) a.0 in
-      let long : length p.segments ≡ length b.0.segments = length-alike n.graph m.graph p.segments b.0.segments b.3 in
-      let q : RepairList = record { first = record { 0 = b.0.first }; segments = b.0.segments; cost = p.cost } in (
-        Least q,
-        (q, refl, record { first = (b.2.0, b.2.1, ap (λ j. j.key) b.2.2); segments = segments-same n.graph m.graph p.segments b.0.segments b.3; cost = refl }),
-        (b.1, subst (λ j. Fits m (tail n.graph case.link.0) j) long (fits-there n m (tail n.graph case.link.0) (length p.segments) c.depth a.1), distance_there d p.cost within a.2),
-      )
+  listed-kept d within af (TooDeep i) a = absurd a
+  listed-kept d within af (Least p) a =
+      let b = least-there d within af p a.0 a.1 in
+      (Least b.0, (b.0, refl, b.1), (b.2, b.3))
+
+  -- and so is the answer of the old net in the new one, where the source lets the same lists through
+  pub answer-kept : HasSameDepth n m (tail n.graph case.link.0) → (d : ℕ) → d < node_count n.graph → IsAffected n case d → (a : Answer) → IsAnswer n c.x (tail n.graph case.link.0) d a → (b : Answer) × IsSameAnswer n.graph m.graph a b × IsAnswer m c.y (tail n.graph case.link.0) d b
+  answer-kept depth d within af NoPath a =
+      let b = listed-kept d within af NoPath a in
+      (NoPath, refl, subst (λ j. IsListed m c.y (tail n.graph case.link.0) d j) b.1 b.2)
+  answer-kept depth d within af NoList a =
+      let b = listed-kept d within af NoList a in
+      (NoList, refl, subst (λ j. IsListed m c.y (tail n.graph case.link.0) d j) b.1 b.2)
+  answer-kept depth d within af (TooDeep i) a =
+      let p : RepairList = record { first = record { 0 = a.0.first }; segments = a.0.segments; cost = metric n.graph a.0.first + a.1.sound.middle + a.1.sound.rest } in
+      let b = least-there d within af p a.1 a.1.sound.fits in
+      (TooDeep i, refl, (path_of b.0, b.2, sym b.4 ∙ a.2, λ f. a.3 (fits-back n m (tail n.graph case.link.0) i depth f)))
+  answer-kept depth d within af (Least p) a =
+      let b = least-there d within af p a.0 a.2 in
+      (Least b.0, (b.0, refl, b.1), (b.2, subst (λ j. Fits m (tail n.graph case.link.0) j) b.4 (fits-there n m (tail n.graph case.link.0) (length p.segments) depth a.1), b.3))
 
 one_like : (g h : Graph) → IsNamed h → (l : ℕ) (j k : LinkNo) → HaveSameName g h l j.0 → HaveSameName g h l k.0 → j ≡ k
 one_like g h named l j k p q = link_is j k (key-one h named j.0 k.0 p.1 q.1 (p.2 ∙ sym q.2))
@@ -380,10 +400,31 @@ hop-there g h gg ng gh nh u w l at within t hop =
 pub affected-same : (n m : Net) → IsNet n → IsNet m → (case : Case) → (c : IsSteadyCase n m case) → (d : ℕ) → d < node_count n.graph → IsAffected n case d ↔ IsAffected m (case_with case c.link) d
 affected-same n m nn nm case c d within = (affected-there n m case nn nm c d within, affected-back n m case nn nm c d within)
 
+-- what was listed, with the links of the new net, is what is listed there
+pub listed-renumbered : (n m : Net) → IsNet n → IsNet m → (case : Case) → (c : IsSteadyCase n m case) → (d : ℕ) → d < node_count n.graph → IsAffected n case d → (a b : Answer) → IsCaseListed n case d a → IsSameAnswer n.graph m.graph a b → IsCaseListed m (case_with case c.link) d b
+listed-renumbered n m nn nm case c d within af a b old same =
+    let r = listed-kept n m case nn nm c d within af a (subst (λ j. IsListed n j (tail n.graph case.link.0) d a) (failed-one n.graph case old.failed c.x old.set c.failed) old.listed) in
+    let ends = name-ends n.graph m.graph nn.graph nm.graph nn.named nm.named c.nodes case.link.0 c.link.0 c.protected in
+    let e : r.0 ≡ b = like-one n.graph m.graph nm.named a r.0 b r.1 same in
+    record {
+      failed = c.y;
+      set = c.failed';
+      listed = subst (λ j. IsListed m c.y (tail m.graph c.link.0) d j) e (subst (λ j. IsListed m c.y j d r.0) (sym ends.0) r.2);
+    }
+
+-- so what was listed is what is listed afresh
+pub listed-same : (n m : Net) → IsNet n → IsNet m → (case : Case) → (c : IsSteadyCase n m case) → (d : ℕ) → d < node_count n.graph → IsAffected n case d → (a b : Answer) → IsCaseListed n case d a → IsCaseListed m (case_with case c.link) d b → IsSameAnswer n.graph m.graph a b
+listed-same n m nn nm case c d within af a b old new =
+    let r = listed-kept n m case nn nm c d within af a (subst (λ j. IsListed n j (tail n.graph case.link.0) d a) (failed-one n.graph case old.failed c.x old.set c.failed) old.listed) in
+    let ends = name-ends n.graph m.graph nn.graph nm.graph nn.named nm.named c.nodes case.link.0 c.link.0 c.protected in
+    let new' : IsListed m c.y (tail m.graph c.link.0) d b = subst (λ j. IsListed m j (tail m.graph c.link.0) d b) (failed-one m.graph (case_with case c.link) new.failed c.y new.set c.failed') new.listed in
+    let same : r.0 ≡ b = listed-one m c.y (tail n.graph case.link.0) d r.0 b r.2 (subst (λ j. IsListed m c.y j d b) ends.0 new') in
+    subst (λ j. IsSameAnswer n.graph m.graph a j) same r.1
+
 -- the old answer with the links of the new net is the new answer
-pub answer-renumbered : (n m : Net) → IsNet n → IsNet m → (case : Case) → (c : IsSteadyCase n m case) → (d : ℕ) → d < node_count n.graph → IsAffected n case d → (a b : Answer) → IsCaseAnswer n case d a → IsSameAnswer n.graph m.graph a b → IsCaseAnswer m (case_with case c.link) d b
+pub answer-renumbered : (n m : Net) → IsNet n → IsNet m → (case : Case) → (c : IsKeptCase n m case) → (d : ℕ) → d < node_count n.graph → IsAffected n case d → (a b : Answer) → IsCaseAnswer n case d a → IsSameAnswer n.graph m.graph a b → IsCaseAnswer m (case_with case c.link) d b
 answer-renumbered n m nn nm case c d within af a b old same =
-    let r = answer-kept n m case nn nm c d within af a (subst (λ j. IsAnswer n j (tail n.graph case.link.0) d a) (failed-one n.graph case old.failed c.x old.set c.failed) old.answers) in
+    let r = answer-kept n m case nn nm (steady-from_kept n m nn nm case c) c.depth d within af a (subst (λ j. IsAnswer n j (tail n.graph case.link.0) d a) (failed-one n.graph case old.failed c.x old.set c.failed) old.answers) in
     let ends = name-ends n.graph m.graph nn.graph nm.graph nn.named nm.named c.nodes case.link.0 c.link.0 c.protected in
     let e : r.0 ≡ b = like-one n.graph m.graph nm.named a r.0 b r.1 same in
     record {
@@ -393,9 +434,9 @@ answer-renumbered n m nn nm case c d within af a b old same =
     }
 
 -- so what was kept is what is computed afresh
-pub answers-same : (n m : Net) → IsNet n → IsNet m → (case : Case) → (c : IsSteadyCase n m case) → (d : ℕ) → d < node_count n.graph → IsAffected n case d → (a b : Answer) → IsCaseAnswer n case d a → IsCaseAnswer m (case_with case c.link) d b → IsSameAnswer n.graph m.graph a b
+pub answers-same : (n m : Net) → IsNet n → IsNet m → (case : Case) → (c : IsKeptCase n m case) → (d : ℕ) → d < node_count n.graph → IsAffected n case d → (a b : Answer) → IsCaseAnswer n case d a → IsCaseAnswer m (case_with case c.link) d b → IsSameAnswer n.graph m.graph a b
 answers-same n m nn nm case c d within af a b old new =
-    let r = answer-kept n m case nn nm c d within af a (subst (λ j. IsAnswer n j (tail n.graph case.link.0) d a) (failed-one n.graph case old.failed c.x old.set c.failed) old.answers) in
+    let r = answer-kept n m case nn nm (steady-from_kept n m nn nm case c) c.depth d within af a (subst (λ j. IsAnswer n j (tail n.graph case.link.0) d a) (failed-one n.graph case old.failed c.x old.set c.failed) old.answers) in
     let ends = name-ends n.graph m.graph nn.graph nm.graph nn.named nm.named c.nodes case.link.0 c.link.0 c.protected in
     let new' : IsAnswer m c.y (tail m.graph c.link.0) d b = subst (λ j. IsAnswer m j (tail m.graph c.link.0) d b) (failed-one m.graph (case_with case c.link) new.failed c.y new.set c.failed') new.answers in
     let same : r.0 ≡ b = answer-one m c.y (tail n.graph case.link.0) d r.0 b r.2 (subst (λ j. IsAnswer m c.y j d b) ends.0 new') in

@@ -12,16 +12,17 @@ use Rattle.sr_model.specs.Case.{IsAffected, IsFailedSet, IsOnRepairWay}
 use Rattle.sr_model.specs.Label.{Labels, Net, labels_at, nameless}
 use Rattle.sr_model.specs.Rule.{IsNet}
 use Rattle.sr_model.specs.Repair.{IsAnswer, IsCaseAnswer}
-use Rattle.sr_model.specs.Stay.{HaveSameName, IsKeptTree, case_with, IsSameAnswer}
+use Rattle.sr_model.specs.Stay.{HaveSameName, IsKeptCase, IsKeptTree, case_with, IsSameAnswer}
 use Rattle.sr_walks.proofs.Walks.{cost-append, walk-end, walk-within, Begins, begins-self, begins-passes}
 use Rattle.sr_walks.proofs.Distances.{shortest-cut, distance-from_shortest}
 use Rattle.sr_walks.proofs.Rows.{agree-sym}
+use Rattle.sr_laws.specs.Listed.{IsCaseListed, IsListed}
 use Rattle.sr_laws.specs.Steady.{IsSteadyCase}
 use Rattle.sr_laws.proofs.Keys.{nodes-same}
 use Rattle.sr_laws.proofs.KeptLists.{TreeStays, tree-sym, OnWay, Stays}
 use Rattle.sr_laws.proofs.KeptOrder.{way-sym, stays-sym}
 use Rattle.sr_laws.proofs.Failures.{failed-one}
-use Rattle.sr_laws.proofs.Kept.{nodes_same, source_within, ends, kept-tree, hop-stays, on-way, stays-at, affected-there, affected-back, answer-kept}
+use Rattle.sr_laws.proofs.Kept.{nodes_same, source_within, ends, kept-tree, hop-stays, on-way, stays-at, affected-there, affected-back, answer-kept, listed-kept, steady-from_kept}
 
 -- each next hop of the new graph is a link of the old one
 pub hop-old : (g h : Graph) → IsGraph g → IsNamed g → IsGraph h → IsNamed h → (u w k : ℕ) → u < node_count g → w < node_count g → IsKeptTree g h u → IsNextHop h [] u w k → (l : ℕ) × HaveSameName g h l k
@@ -32,10 +33,16 @@ hop-old g h gg ng gh nh u w k at within t hop =
     let inside : k < link_count h = hop.shortest.0.0 in
     (r.0, (r.1, inside, ap (λ j. j.key) (sym r.2)))
 
+-- what was listed has its like
+pub listed-there : (n m : Net) → IsNet n → IsNet m → (case : Case) → (c : IsSteadyCase n m case) → (d : ℕ) → d < node_count n.graph → IsAffected n case d → (a : Answer) → IsCaseListed n case d a → (b : Answer) × IsSameAnswer n.graph m.graph a b
+listed-there n m nn nm case c d within af a old =
+    let r = listed-kept n m case nn nm c d within af a (subst (λ j. IsListed n j (tail n.graph case.link.0) d a) (failed-one n.graph case old.failed c.x old.set c.failed) old.listed) in
+    (r.0, r.1)
+
 -- the old answer has its like
-pub answer-there : (n m : Net) → IsNet n → IsNet m → (case : Case) → (c : IsSteadyCase n m case) → (d : ℕ) → d < node_count n.graph → IsAffected n case d → (a : Answer) → IsCaseAnswer n case d a → (b : Answer) × IsSameAnswer n.graph m.graph a b
+pub answer-there : (n m : Net) → IsNet n → IsNet m → (case : Case) → (c : IsKeptCase n m case) → (d : ℕ) → d < node_count n.graph → IsAffected n case d → (a : Answer) → IsCaseAnswer n case d a → (b : Answer) × IsSameAnswer n.graph m.graph a b
 answer-there n m nn nm case c d within af a old =
-    let r = answer-kept n m case nn nm c d within af a (subst (λ j. IsAnswer n j (tail n.graph case.link.0) d a) (failed-one n.graph case old.failed c.x old.set c.failed) old.answers) in
+    let r = answer-kept n m case nn nm (steady-from_kept n m nn nm case c) c.depth d within af a (subst (λ j. IsAnswer n j (tail n.graph case.link.0) d a) (failed-one n.graph case old.failed c.x old.set c.failed) old.answers) in
     (r.0, r.1)
 
 -- what has an index is a node

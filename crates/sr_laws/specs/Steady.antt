@@ -11,9 +11,9 @@ use Rattle.sr_model.specs.Walk.{IsDistance, IsRow, NoWalk}
 use Rattle.sr_model.specs.Space.{InP}
 use Rattle.sr_model.specs.Case.{IsAffected, IsCase, IsFailedSet, IsOnRepairWay, source_of}
 use Rattle.sr_model.specs.Label.{Net, labels_at, adj_at}
-use Rattle.sr_model.specs.Repair.{IsCaseAnswer}
 use Rattle.sr_model.specs.Rule.{IsNet}
-use Rattle.sr_model.specs.Stay.{HasSameDepth, HaveSameName, HaveSameNodes, HaveSamePairs, IsChanged, IsIdle, IsKeptCase, IsKeptTree, IsOfFailedPair, IsSameAnswer, case_with}
+use Rattle.sr_model.specs.Stay.{HaveSameName, HaveSameNodes, HaveSamePairs, IsChanged, IsIdle, IsKeptCase, IsKeptTree, IsOfFailedPair, IsSameAnswer, case_with}
+use Rattle.sr_laws.specs.Listed.{IsCaseListed}
 
 -- from u to v it is as far in one graph as in the other, or there is no walk in either
 abbrev pub IsSameFar : Graph → Graph → ℕ → ℕ → Type 0
@@ -44,11 +44,11 @@ pub record HasSameSegments (n m : Net) (w : ℕ) : Type 0 where
   pub adj : (l k : ℕ) → HaveSameName n.graph m.graph l k → tail n.graph l ≡ w → adj_at n l ≡ adj_at m k
 
 -- a case of the old net is steady: the protected key is a link of both nets; the failed links are of the same pairs;
--- the source announces the same maximum SID depth, or none and the nets have the same depth; the same destinations are
--- affected; each changed link that isn't of a failed pair is idle for the old distances from the source without the
--- failed links; and each node on a shortest walk without the failed links from the source to an affected destination
--- has the same segments, and it is the source, or its tree stays, or it is as far as it was to the node at which the
--- failed links lie, as that node is to each of these nodes
+-- the same destinations are affected; each changed link that isn't of a failed pair is idle for the old distances from
+-- the source without the failed links; and each node on a shortest walk without the failed links from the source to an
+-- affected destination has the same segments, and it is the source, or its tree stays, or it is as far as it was to the
+-- node at which the failed links lie, as that node is to each of these nodes. How deep a list may be is not asked, since
+-- that is decided when an answer is read
 pub record IsSteadyCase (n m : Net) (case : Case) : Type 0 where
   pub within : IsCase n.graph case
   pub nodes : HaveSameNodes n.graph m.graph
@@ -59,7 +59,6 @@ pub record IsSteadyCase (n m : Net) (case : Case) : Type 0 where
   pub failed : IsFailedSet n.graph case x
   pub failed' : IsFailedSet m.graph (case_with case link) y
   pub pairs : HaveSamePairs n.graph x m.graph y
-  pub depth : HasSameDepth n m (source_of n.graph case)
   pub affected : (d : ℕ) → d < node_count n.graph → IsAffected n case d ↔ IsAffected m (case_with case link) d
   pub post : List ℕ
   pub row : IsRow n.graph x (source_of n.graph case) post
@@ -89,9 +88,9 @@ SteadyWaysStay =
     → IsFailedSet n.graph case x → IsFailedSet m.graph (case_with case c.link) y → (w : ℕ)
     → IsOnRepairWay n case x w ↔ IsOnRepairWay m (case_with case c.link) y w
 
--- the answers of the new net are those of the old one, links matched by key
-abbrev pub SteadyAnswersStay : Type 0
-SteadyAnswersStay =
+-- what is listed in the new net is what is listed in the old one, links matched by key
+abbrev pub SteadyListsStay : Type 0
+SteadyListsStay =
     (n m : Net) → IsNet n → IsNet m → (case : Case) → (c : IsSteadyCase n m case) → (d : ℕ) → d < node_count n.graph
-    → IsAffected n case d → (a b : Answer) → IsCaseAnswer n case d a → IsCaseAnswer m (case_with case c.link) d b
+    → IsAffected n case d → (a b : Answer) → IsCaseListed n case d a → IsCaseListed m (case_with case c.link) d b
     → IsSameAnswer n.graph m.graph a b

@@ -9,7 +9,7 @@ ghost use Rattle.sr_laws.specs.Order.{ListsAreOrdered, OrderIsStrict, LeastLists
 ghost use Rattle.sr_laws.specs.Labels.{IndicesHaveLabels, LabelsHaveIndices, IndicesAreUnique, LabelsAreFree, AcceptedNetsAreNets};
 ghost use Rattle.sr_laws.specs.Keys.{KeysAreOrdered, KeysAreTold, PairsAgree, PlacesAreUnique};
 ghost use Rattle.sr_laws.specs.Staying.{RowsStay, NextHopsStay, NextHopsAreThere, NextHopsAreOld, PostRowsStay, AffectedStay, RepairWaysStay, AnswersStay, AnswersAreThere, AnswersCarryOver, NothingChangesInItself, NetsAreUnchanged, UnchangedTreesStay, UnchangedCasesStay};
-ghost use Rattle.sr_laws.specs.Steady.{KeptCasesAreSteady, SteadyRowsStay, SteadyWaysStay, SteadyAnswersStay};
+ghost use Rattle.sr_laws.specs.Steady.{KeptCasesAreSteady, SteadyRowsStay, SteadyWaysStay, SteadyListsStay};
 ghost use Rattle.sr_laws.specs.Listed.{SameListsStay, SameAffectedStay};
 
 /// Every sound list delivers, whichever equal-cost link each node takes, and the way of the packet is loop-free.
@@ -89,13 +89,13 @@ pub fn answers_stay()
     ensures carried { AnswersCarryOver }
 {}
 
-/// Steady cases have the same distances after the failure, nodes on repair ways and answers. Cases that stay are steady, and
-/// others too: on their walks a tree may change elsewhere.
+/// Steady cases have the same distances after the failure, nodes on repair ways and lists, however deep. Cases that stay are
+/// steady, and others too: on their walks a tree may change elsewhere.
 pub fn steady_cases_stay()
     ensures kept { KeptCasesAreSteady }
     ensures rows { SteadyRowsStay }
     ensures ways { SteadyWaysStay }
-    ensures answers { SteadyAnswersStay }
+    ensures lists { SteadyListsStay }
 {}
 
 /// Where two nets differ at most in how deep lists may be, and in what no list depends on, what is listed in one is listed

@@ -25,5 +25,5 @@ pub fn put_case(
 {
     let net = version.net();
     let case = case_at(net.graph(), place);
-    put_answers(net, names, case, version.answers(case), out)
+    put_answers(net, names, case, &version.answers(case), out)
 }

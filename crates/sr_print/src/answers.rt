@@ -157,7 +157,7 @@ fn put_lines(
     names: &Names,
     case: Case,
     head: &[u8],
-    answers: &CaseAnswers,
+    answers: &CaseAnswers<'_>,
     out: &mut Vec<u8>,
 ) -> Result<(), AllocError>
     requires names { AreNames net.now names.now }
@@ -183,7 +183,7 @@ pub fn put_answers(
     net: &Net,
     names: &Names,
     case: Case,
-    answers: &CaseAnswers,
+    answers: &CaseAnswers<'_>,
     out: &mut Vec<u8>,
 ) -> Result<(), AllocError>
     requires case { IsCase net.now.graph case }

@@ -1,4 +1,4 @@
--- The kept answers after the passes over all cases.
+-- The records after the passes over all cases.
 use Rattle.std.proofs.Common.{◌≡◌, ℕ, ◌<◌, List, [], ◌∷◌, ◌++◌, map, arith, sym, ◌∙◌, subst}
 use Rattle.std.specs.Prelude.{Bool, Option, Some}
 use Rattle.std.proofs.lemmas.Option.{none-some, same_Some}
@@ -12,18 +12,20 @@ use Rattle.sr_model.specs.Case.{IsCase, IsFailedSet, source_of}
 use Rattle.sr_model.specs.Walk.{IsRow}
 use Rattle.sr_model.specs.Label.{Net}
 use Rattle.sr_encode.specs.declared.answers.NodeAnswer.{NodeAnswer}
-use Rattle.sr_encode.specs.Answered.{AreAnswers}
+use Rattle.sr_encode.specs.Answered.{AreLists}
+use Rattle.sr_encode.specs.Limited.{limit_at, limited_entries}
+use Rattle.sr_encode.proofs.LimitLemmas.{answers-limited}
 use Rattle.sr_repair.specs.declared.passes.Passed.{Passed}
 use Rattle.sr_repair.specs.declared.passes.Passed.TheVariants.{Nothing, AsLink, Stays, Told, Listed}
 use Rattle.sr_repair.specs.declared.answers.Found.{Found}
 use Rattle.sr_repair.specs.declared.answers.Found.TheVariants.{Nothing as NothingFound, AsLink as AsLinkFound, Own}
 use Rattle.sr_repair.specs.Answers.{case_count, slot_of, link_case, AffectsSome, AreAllPassed, AreAllFound, IsPassed, IsFound, cells_told, kept_of, IsAnswered}
 use Rattle.sr_repair.specs.Spared.{Passage}
-use Rattle.sr_repair.proofs.KindLemmas.{answers-from}
+use Rattle.sr_repair.proofs.KindLemmas.{lists-from}
 
--- a case that affects no destination has no answers
-pub none-answers : (n : Net) (case : Case) → (AffectsSome n case → ⊥) → AreAnswers n case []
-none-answers n case none = record {
+-- in a case that affects no destination nothing is listed
+pub none-listed : (n : Net) (case : Case) → (AffectsSome n case → ⊥) → AreLists n case []
+none-listed n case none = record {
   ascending = λ i j lt end. absurd (omega arith);
   affected = λ i lt. absurd (omega arith);
   answers = λ i lt. absurd (omega arith);
@@ -64,24 +66,28 @@ rank-small LinkKind = omega arith
 rank-small NodeKind = omega arith
 rank-small RiskKind = omega arith
 
--- the answers found for a case
+-- the record of a case
 found-for : (n : Net) (found : List Found) → AreAllFound n (case_count n.graph) found → (case : Case) → IsCase n.graph case → (one : Found) × IsFound n case one
 found-for n found all case within = (_, all.each case within (let small : rank_of case.kind < 3 = rank-small case.kind in omega (arith, small, within)))
 
--- a link case has answers of its own
-own-answers : (n : Net) (case : Case) (one : Found) → IsFound n (link_case case) one → (answers : List NodeAnswer) × AreAnswers n (link_case case) answers
-own-answers n case NothingFound none = ([], none-answers n (link_case case) none)
-own-answers n case (Own known) a = ((arc_value known.solved).answers, a.solution.answers)
-own-answers n case AsLinkFound like = absurd (let bad : LinkKind ≡ RiskKind = like.risk in cc)
+-- a link case has lists of its own
+own-lists : (n : Net) (case : Case) (one : Found) → IsFound n (link_case case) one → (list : List NodeAnswer) × AreLists n (link_case case) list
+own-lists n case NothingFound none = ([], none-listed n (link_case case) none)
+own-lists n case (Own known) a = ((arc_value known.solved).lists, a.solution.lists)
+own-lists n case AsLinkFound like = absurd (let bad : LinkKind ≡ RiskKind = like.risk in cc)
 
--- and each case has its answers
-their-answers : (n : Net) (case : Case) → IsCase n.graph case → (found : List Found) → AreAllFound n (case_count n.graph) found → (one : Found) → IsFound n case one → (answers : List NodeAnswer) × AreAnswers n case answers
-their-answers n case within found all NothingFound none = ([], none-answers n case none)
-their-answers n case within found all (Own known) a = ((arc_value known.solved).answers, a.solution.answers)
-their-answers n case within found all AsLinkFound like =
+-- and each case has its lists
+their-lists : (n : Net) (case : Case) → IsCase n.graph case → (found : List Found) → AreAllFound n (case_count n.graph) found → (one : Found) → IsFound n case one → (list : List NodeAnswer) × AreLists n case list
+their-lists n case within found all NothingFound none = ([], none-listed n case none)
+their-lists n case within found all (Own known) a = ((arc_value known.solved).lists, a.solution.lists)
+their-lists n case within found all AsLinkFound like =
     let link = found-for n found all (link_case case) within in
-    let answers = own-answers n case link.0 link.1 in
-    (answers.0, answers-from n case like answers.0 answers.1)
+    let list = own-lists n case link.0 link.1 in
+    (list.0, lists-from n case like list.0 list.1)
 
+-- so it has its answers
 pub answers-there : (n : Net) (found : List Found) → AreAllFound n (case_count n.graph) found → IsAnswered n
-answers-there n found all case within = let one = found-for n found all case within in their-answers n case within found all one.0 one.1
+answers-there n found all case within =
+    let one = found-for n found all case within in
+    let list = their-lists n case within found all one.0 one.1 in
+    (limited_entries (limit_at n (source_of n.graph case)) list.0, answers-limited n case list.0 list.1)

@@ -1,4 +1,4 @@
--- An SRLG case that fails with the links of the link case has its answers.
+-- An SRLG case that fails with the links of the link case has its lists.
 use Rattle.std.proofs.Common.{◌≡◌, ℕ, Bool, List, sym, ◌∙◌}
 use Rattle.sr_model.specs.declared.case.Case.{Case}
 use Rattle.sr_model.specs.declared.case.Kind.TheVariants.{Link as LinkKind, Node as NodeKind, Risk as RiskKind}
@@ -6,7 +6,7 @@ use Rattle.sr_model.specs.Label.{Net}
 use Rattle.sr_model.specs.Case.{IsFailedSet, IsAffected}
 use Rattle.sr_graph.specs.Failed.{FailsAsLink}
 use Rattle.sr_encode.specs.declared.answers.NodeAnswer.{NodeAnswer}
-use Rattle.sr_encode.specs.Answered.{AreAnswers}
+use Rattle.sr_encode.specs.Answered.{AreLists}
 use Rattle.sr_repair.specs.Answers.{link_case}
 
 module _ (n : Net) (case : Case) (like : FailsAsLink n.graph case) where
@@ -30,10 +30,10 @@ module _ (n : Net) (case : Case) (like : FailsAsLink n.graph case) where
     each = λ l lt. (λ is. (like.same l lt).1 ((s.each l lt).0 is), λ fails. (s.each l lt).1 ((like.same l lt).0 fails));
   }
 
-  pub answers-from : (list : List NodeAnswer) → AreAnswers n (link_case case) list → AreAnswers n case list
-  answers-from list r = record {
+  pub lists-from : (list : List NodeAnswer) → AreLists n (link_case case) list → AreLists n case list
+  lists-from list r = record {
     ascending = r.ascending;
     affected = λ i lt. affected-from _ (r.affected i lt);
-    answers = λ i lt. let a = r.answers i lt in record { failed = a.failed; set = set-from a.failed a.set; answers = a.answers };
+    answers = λ i lt. let a = r.answers i lt in record { failed = a.failed; set = set-from a.failed a.set; listed = a.listed };
     all = λ d is. r.all d (affected-to d is);
   }

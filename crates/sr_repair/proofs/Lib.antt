@@ -2,6 +2,7 @@ pub mod PlaceLemmas
 pub mod KindLemmas
 pub mod KeptLemmas
 pub mod StayLemmas
+pub mod ShareLemmas
 pub mod WorkLemmas
 pub mod StackLemmas
 pub mod DeliveryLemmas

@@ -16,17 +16,17 @@ use Rattle.sr_model.specs.Walk.{IsRow}
 use Rattle.sr_model.specs.Case.{key_at, IsFailedSet, IsAffected, IsOnRepairWay, FailsWith, source_of}
 use Rattle.sr_model.specs.Label.{Net}
 use Rattle.sr_model.specs.Rule.{IsNet}
-use Rattle.sr_model.specs.Repair.{IsCaseAnswer}
 use Rattle.sr_model.specs.Stay.{HaveSameName, IsKeptCase, case_with, AreSegmentsSame, IsSameList, IsSameAnswer}
 use Rattle.sr_laws.proofs.Keys.{key-one, nodes-same, pair-trans}
+use Rattle.sr_laws.specs.Listed.{IsCaseListed}
 use Rattle.sr_laws.specs.Steady.{IsSteadyCase}
-use Rattle.sr_laws.proofs.Kept.{affected-same, answer-renumbered, post-same, steady-from_kept}
-use Rattle.sr_laws.proofs.KeptWays.{answer-there, ways-same}
+use Rattle.sr_laws.proofs.Kept.{affected-same, listed-renumbered, post-same, steady-from_kept}
+use Rattle.sr_laws.proofs.KeptWays.{listed-there, ways-same}
 use Rattle.sr_spf.specs.Renewed.{moved_link, AreInPlace}
 use Rattle.sr_graph.specs.Failed.{FailsAsLink}
 use Rattle.sr_delta.specs.Partners.{ArePartners, IsPartner, partner_at}
 use Rattle.sr_encode.specs.declared.answers.NodeAnswer.{NodeAnswer}
-use Rattle.sr_encode.specs.Answered.{AreAnswers, destination_at, answer_at, node_answer_at}
+use Rattle.sr_encode.specs.Answered.{AreLists, destination_at, answer_at, node_answer_at}
 use Rattle.sr_encode.specs.Renumbered.{moved_segment, moved_answer, moved_entry}
 use Rattle.sr_encode.proofs.AnswerLemmas.{affected-within, no_entry}
 use Rattle.sr_delta.specs.declared.staying.Staying.{Staying}
@@ -66,7 +66,7 @@ module _ (links : List (Option LinkNo)) (place : AreInPlace links) where
       rw (let q : moved_entry links e ≡ record { destination = e.destination; answer = e.answer } = rw (answer-placed e.answer) refl in q, entries-placed list) refl
 
   pub solution-placed : (s : Solution) → moved_solution links s ≡ s
-  solution-placed s = let q : record { cells = s.cells; answers = map (moved_entry links) s.answers } ≡ record { cells = s.cells; answers = s.answers } = rw (entries-placed s.answers) refl in q
+  solution-placed s = let q : record { cells = s.cells; lists = map (moved_entry links) s.lists } ≡ record { cells = s.cells; lists = s.lists } = rw (entries-placed s.lists) refl in q
 
 -- the numbers of links in the new net are those of their partners there
 module _ (n m : Net) (links : List (Option LinkNo)) (partners : ArePartners n.graph m.graph links) where
@@ -129,15 +129,15 @@ module _ (n m : Net) (links : List (Option LinkNo)) (partners : ArePartners n.gr
     affected-from : (d : ℕ) → d < node_count n.graph → IsAffected m new d → IsAffected n old d
     affected-from d lt a = (affected-same n m N M old stays d lt).1 (subst (λ c. IsAffected m c d) (sym is-new) a)
 
-    answer-to : (d : ℕ) → IsAffected n old d → (a : Answer) → IsCaseAnswer n old d a → IsCaseAnswer m new d (moved_answer links a)
-    answer-to d affected a is =
+    listed-to : (d : ℕ) → IsAffected n old d → (a : Answer) → IsCaseListed n old d a → IsCaseListed m new d (moved_answer links a)
+    listed-to d affected a is =
         let lt : d < node_count n.graph = affected-within n old d N.nodes affected in
-        let there = answer-there n m N M old stays d lt affected a is in
-        subst (λ c. IsCaseAnswer m c d (moved_answer links a)) is-new
-        (answer-renumbered n m N M old stays d lt affected a (moved_answer links a) is (answer-moved a there.0 there.1))
+        let there = listed-there n m N M old stays d lt affected a is in
+        subst (λ c. IsCaseListed m c d (moved_answer links a)) is-new
+        (listed-renumbered n m N M old stays d lt affected a (moved_answer links a) is (answer-moved a there.0 there.1))
 
-    answers-moved : (list : List NodeAnswer) → AreAnswers n old list → AreAnswers m new (map (moved_entry links) list)
-    answers-moved list r =
+    lists-moved : (list : List NodeAnswer) → AreLists n old list → AreLists m new (map (moved_entry links) list)
+    lists-moved list r =
         let long : length (map (moved_entry links) list) ≡ length list = length-map list (moved_entry links) in
         record {
           ascending = λ i j lt end.
@@ -149,7 +149,7 @@ module _ (n m : Net) (links : List (Option LinkNo)) (partners : ArePartners n.gr
               subst (λ d. IsAffected m new d) (sym (destination-moved list i lt)) (affected-to (destination_at list i) (affected-within n old (destination_at list i) N.nodes a) a);
           answers = λ i end.
               let lt : i < length list = omega (arith, long) in
-              subst (λ (e : NodeAnswer). IsCaseAnswer m new e.destination.0 e.answer) (sym (moved-at list i lt)) (answer-to (destination_at list i) (r.affected i lt) (answer_at list i) (r.answers i lt));
+              subst (λ (e : NodeAnswer). IsCaseListed m new e.destination.0 e.answer) (sym (moved-at list i lt)) (listed-to (destination_at list i) (r.affected i lt) (answer_at list i) (r.answers i lt));
           all = λ d affected.
               let within : d < node_count m.graph = affected-within m new d M.nodes affected in
               let at = r.all d (affected-from d (omega (arith, within, nodes)) affected) in
@@ -157,7 +157,7 @@ module _ (n m : Net) (links : List (Option LinkNo)) (partners : ArePartners n.gr
         }
 
     pub solution-moved : (s : Solution) → IsSolution n old s → IsSolution m new (moved_solution links s)
-    solution-moved s r = record { row = row-moved s.cells r.row; answers = answers-moved s.answers r.answers }
+    solution-moved s r = record { row = row-moved s.cells r.row; lists = lists-moved s.lists r.lists }
 
     -- the same nodes are on the walks of both
     pub walks-moved : (set : NodeBits) → AreWalks n old set → AreWalks m new set

@@ -2,7 +2,6 @@
 use Rattle.std.specs.Prelude.{◌≡◌, ℕ, ◌+◌, ◌*◌, ◌<◌, List, [], ◌∷◌, length, Option, Some, None, slice_index_or}
 use Rattle.std.specs.Arc.{arc_value}
 use Rattle.sr_model.specs.declared.case.Case.{Case}
-use Rattle.sr_model.specs.declared.case.Kind.{Kind}
 use Rattle.sr_model.specs.declared.case.Kind.TheVariants.{Link as LinkKind, Node as NodeKind, Risk as RiskKind}
 use Rattle.sr_model.specs.Audit.{rank_of}
 use Rattle.sr_model.specs.Case.{IsCase, IsAffected}
@@ -11,7 +10,7 @@ use Rattle.sr_model.specs.Label.{Net}
 use Rattle.sr_graph.specs.Failed.{FailsAsLink}
 use Rattle.sr_encode.specs.declared.answers.NodeAnswer.{NodeAnswer}
 use Rattle.sr_encode.specs.Answered.{AreAnswers}
-use Rattle.sr_repair.specs.declared.passes.OfLink.{OfLink}
+use Rattle.sr_repair.specs.declared.passes.LinkPasses.{LinkPasses}
 use Rattle.sr_repair.specs.declared.passes.Passed.{Passed}
 use Rattle.sr_repair.specs.declared.passes.Passed.TheVariants.{Nothing, AsLink, Stays, Told, Listed}
 use Rattle.sr_repair.specs.declared.answers.Found.{Found}
@@ -46,7 +45,7 @@ AffectsSome n case = (d : ℕ) × IsAffected n case d
 abbrev pub link_case : Case → Case
 link_case case = record { kind = LinkKind; link = case.link }
 
--- what the pass over the case gives: nothing where it affects no destination, that its answers are those of the link
+-- what the pass over the case gives: nothing where it affects no destination, that its lists are those of the link
 -- case where it fails as that does, what stays, what is told of it without a search, or what a search found where the
 -- case isn't spared
 abbrev pub IsPassed : Option Passage → Net → Case → Passed → Type 0
@@ -57,14 +56,14 @@ IsPassed former n case (Told solved) = IsSolution n case (arc_value solved)
 IsPassed former n case (Listed solved search) = IsSolution n case (arc_value solved) × (IsSpared former case → ⊥)
 
 -- what the passes over the cases of link l give
-abbrev pub AreOfLink : Option Passage → Net → ℕ → OfLink → Type 0
+abbrev pub AreOfLink : Option Passage → Net → ℕ → LinkPasses → Type 0
 AreOfLink former n l passed =
     IsPassed former n (record { kind = LinkKind; link = record { 0 = l } }) passed.link
     × IsPassed former n (record { kind = NodeKind; link = record { 0 = l } }) passed.node
     × IsPassed former n (record { kind = RiskKind; link = record { 0 = l } }) passed.risk
 
 -- what was given for the cases of each link, in order of slot
-abbrev pub in_slots : List OfLink → List Passed
+abbrev pub in_slots : List LinkPasses → List Passed
 in_slots [] = []
 in_slots (one ∷ rest) = one.link ∷ one.node ∷ one.risk ∷ in_slots rest
 

@@ -2,13 +2,13 @@
 ghost use Rattle.std.specs.Prelude.{◌≡◌, ◌+◌, ◌*◌, ◌≤◌, [], map, IfOk, OnOk};
 ghost use Rattle.sr_model.specs.declared.case.Kind.TheVariants.{Link as LinkKind};
 ghost use Rattle.sr_model.specs.Case.{IsCase};
-ghost use Rattle.sr_encode.specs.Answered.{AreAnswers};
+ghost use Rattle.sr_encode.specs.Answered.{AreLists};
 ghost use Rattle.sr_repair.specs.Answers.{case_count, kept_of, searches_of, pass_searches, AreAllFound, IsFound};
 
 use crate::cases::{link_case, slot_of};
 use crate::known_case::KnownCase;
 use crate::passes::Passed;
-use sr_encode::CaseAnswers;
+use sr_encode::CaseLists;
 use sr_labels::Net;
 use sr_model::Case;
 use sr_spf::Steps;
@@ -20,7 +20,7 @@ use std::sync::ledger::Ledger;
 pub(crate) enum Found {
     /// That it affects no destination.
     Nothing,
-    /// That its answers are those of the link case.
+    /// That its lists are those of the link case.
     AsLink,
     /// What is known of it.
     Own(KnownCase),
@@ -70,41 +70,41 @@ pub(crate) fn found_of<'a>(net: &Net, found: &'a [Found], case: Case) -> &'a Fou
     &found[slot_of(net.graph(), case) as usize]
 }
 
-/// The answers of a link case, among the records. `none` are those of a case that affects no destination.
-fn answers_of_link<'a>(
+/// What is listed in a link case, among the records. `none` is what is in a case that affects no destination.
+fn lists_of_link<'a>(
     net: &Net,
     found: &'a [Found],
-    none: &'a CaseAnswers,
+    none: &'a CaseLists,
     case: Case,
-) -> &'a CaseAnswers
+) -> &'a CaseLists
     requires case { IsCase net.now.graph case }
     requires kind { case.kind ≡ LinkKind }
     requires found { AreAllFound net.now (case_count net.now.graph) found.now }
     requires none { none.now ≡ [] }
-    ensures { AreAnswers net.now case result.now }
+    ensures { AreLists net.now case result.now }
 {
     match found_of(net, found, case) {
         Found::Nothing => none,
-        Found::Own(known) => known.solved.answers(),
+        Found::Own(known) => known.solved.lists(),
         Found::AsLink => unreachable!(),
     }
 }
 
-/// The answers of the case, among the records. `none` are those of a case that affects no destination.
-pub(crate) fn answers_of<'a>(
+/// What is listed in the case, among the records. `none` is what is in a case that affects no destination.
+pub(crate) fn lists_of<'a>(
     net: &Net,
     found: &'a [Found],
-    none: &'a CaseAnswers,
+    none: &'a CaseLists,
     case: Case,
-) -> &'a CaseAnswers
+) -> &'a CaseLists
     requires case { IsCase net.now.graph case }
     requires found { AreAllFound net.now (case_count net.now.graph) found.now }
     requires none { none.now ≡ [] }
-    ensures { AreAnswers net.now case result.now }
+    ensures { AreLists net.now case result.now }
 {
     match found_of(net, found, case) {
         Found::Nothing => none,
-        Found::Own(known) => known.solved.answers(),
-        Found::AsLink => answers_of_link(net, found, none, link_case(case)),
+        Found::Own(known) => known.solved.lists(),
+        Found::AsLink => lists_of_link(net, found, none, link_case(case)),
     }
 }

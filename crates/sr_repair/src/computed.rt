@@ -4,18 +4,19 @@ ghost use Rattle.sr_model.specs.Case.{IsCase};
 ghost use Rattle.sr_model.specs.Graph.{node_count, link_count};
 ghost use Rattle.sr_model.specs.Rule.{IsNet};
 ghost use Rattle.sr_spf.specs.Trees.{AreTrees};
-ghost use Rattle.sr_fib.specs.Tables.{IsFib};
-ghost use Rattle.sr_encode.specs.Answered.{AreAnswers};
+ghost use Rattle.sr_fib.specs.Tables.{AreSids, IsFib};
+ghost use Rattle.sr_encode.specs.Answered.{AreAnswers, AreLists};
 ghost use Rattle.sr_delta.specs.Changes.{AreChanges};
-ghost use Rattle.sr_repair.specs.Answers.{IsAnswered, IsFound};
+ghost use Rattle.sr_laws.specs.Listed.{HaveSameLists};
+ghost use Rattle.sr_repair.specs.Answers.{AreAllFound, IsAnswered, IsFound, case_count};
 ghost use Rattle.sr_repair.specs.Work.{IsWithinWork};
 
-use crate::answers::{Found, answers_of, found_of};
+use crate::answers::{Found, found_of, lists_of};
 use crate::former::Former;
 use crate::made::{Made, made_of};
 use crate::setting::Setting;
 use sr_delta::{Changes, changes, kept_trees, moved_distances};
-use sr_encode::CaseAnswers;
+use sr_encode::{CaseAnswers, CaseLists};
 use sr_fib::{Fib, Sids};
 use sr_labels::Net;
 use sr_model::Case;
@@ -23,23 +24,31 @@ use sr_post::tails;
 use sr_spf::{Steps, Trees};
 use std::alloc::{AllocError, Global};
 use std::marker::Model;
+use std::sync::Arc;
 use std::sync::ledger::Ledger;
 use std::thread::Threads;
 
-/// A net with its trees, its nodes and links by their labels, and the answers of all cases. Contracts see it as the net:
-/// the rest is determined by that.
+/// What nets share that differ at most in what no list depends on: the distances and next hops, and the records of all cases.
+#[derive(Drop)]
+struct Shared {
+    trees: Trees,
+    found: Vec<Found>,
+    /// What is listed in a case that affects no destination.
+    none: CaseLists,
+}
+
+/// A net with its nodes and links by their labels, its trees, and the records of all cases. Contracts see it as the net: the
+/// rest is determined by that.
 #[derive(Drop)]
 pub(crate) struct Computed {
     net: Net,
-    trees: Trees,
     sids: Sids,
-    found: Vec<Found>,
-    /// The answers of a case that affects no destination.
-    none: CaseAnswers,
+    shared: Arc<Shared>,
 }
 
 impl Model for Computed {
     ghost use Rattle.std.specs.Prelude.{◌≡◌, []};
+    ghost use Rattle.std.specs.Arc.{arc_value};
     ghost use Rattle.sr_model.specs.Label.{Net};
     ghost use Rattle.sr_spf.specs.Trees.{AreTrees};
     ghost use Rattle.sr_fib.specs.Tables.{AreSids};
@@ -49,13 +58,26 @@ impl Model for Computed {
 
     ghost view = { λ c. c.net };
 
-    ghost invariant = { λ c. AreTrees c.net.graph c.trees
+    ghost invariant = { λ c. AreTrees c.net.graph (arc_value c.shared).trees
         × AreSids c.net c.sids
-        × AreAllFound c.net (case_count c.net.graph) c.found.items
-        × (c.none ≡ []) };
+        × AreAllFound c.net (case_count c.net.graph) (arc_value c.shared).found.items
+        × ((arc_value c.shared).none ≡ []) };
 }
 
 impl Computed {
+    /// This net with these trees, and what was made of both.
+    fn made(alloc: Global, net: Net, trees: Trees, made: Made) -> Result<Computed, AllocError>
+        requires trees { AreTrees net.graph trees }
+        requires sids { AreSids net made.sids }
+        requires found { AreAllFound net (case_count net.graph) made.found.items }
+        ensures { IfOk result (λ c. c ≡ net) }
+    {
+        let Made { sids, found } = made;
+        let none = CaseLists::none(alloc);
+        let shared = Arc::new(alloc, Shared { trees, found, none })?;
+        Ok(Computed { net, sids, shared })
+    }
+
     /// All that is computed of this net. At most one search is counted for each node, and one for each case. The cases
     /// are split among threads where there are any.
     pub(crate) fn of<L: Ledger>(
@@ -69,14 +91,15 @@ impl Computed {
         ensures least { steps.old ≤ steps.new }
     {
         let trees = Trees::build(rt, alloc, net.graph(), steps)?;
-        let Made { sids, found } = made_of(rt, alloc, &Setting::first(&net, &trees), steps)?;
-        Ok(Computed {
-            net,
-            trees,
-            sids,
-            found,
-            none: CaseAnswers::none(alloc),
-        })
+        let made = made_of(rt, alloc, &Setting::first(&net, &trees), steps)?;
+        Computed::made(alloc, net, trees, made)
+    }
+
+    /// The distances and next hops of the net.
+    pub(crate) fn trees(&self) -> &Trees
+        ensures { AreTrees self.now.graph result.now }
+    {
+        &self.shared.trees
     }
 
     /// All that is computed of this net, which has the nodes of the net before. What stays from there is taken over.
@@ -94,25 +117,29 @@ impl Computed {
         ensures searches { (w : ℕ) × (steps.new ≡ steps.old + w) × IsWithinWork self.now net w }
     {
         let tails = tails(alloc, self.net.graph())?;
-        let kept = kept_trees(alloc, changes, &self.trees)?;
-        let trees = self
-            .trees
-            .renew(rt, alloc, net.graph(), &kept, changes.partners(), steps)?;
-        let farther = moved_distances(alloc, &self.trees, &trees)?;
+        let old = self.trees();
+        let kept = kept_trees(alloc, changes, old)?;
+        let trees = old.renew(rt, alloc, net.graph(), &kept, changes.partners(), steps)?;
+        let farther = moved_distances(alloc, old, &trees)?;
         let former = Former::new(self, &net, changes, &kept, &trees, &farther, &tails);
         let setting = Setting::after(&net, &trees, former);
-        let Made { sids, found } = made_of(rt, alloc, &setting, steps)?;
-        Ok(Computed {
-            net,
-            trees,
-            sids,
-            found,
-            none: CaseAnswers::none(alloc),
-        })
+        let made = made_of(rt, alloc, &setting, steps)?;
+        Computed::made(alloc, net, trees, made)
     }
 
-    /// All that is computed of the net after this one. What stays is taken over: at most one search is counted for each
-    /// node whose tree doesn't stay, and one for each case that isn't an old case that stays.
+    /// All that is computed of this net, in which the same is listed: it shares what was computed before.
+    fn relabelled(&self, alloc: Global, net: Net) -> Result<Computed, AllocError>
+        requires { HaveSameLists self.now net }
+        ensures { IfOk result (λ c. c ≡ net) }
+    {
+        let sids = Sids::build(alloc, &net)?;
+        let shared = Arc::try_clone(&self.shared)?;
+        Ok(Computed { net, sids, shared })
+    }
+
+    /// All that is computed of the net after this one. Where the same is listed, all is shared, and no search is counted. What
+    /// stays is taken over: at most one search is counted for each node whose tree doesn't stay, and one for each case that
+    /// isn't an old case that stays.
     pub(crate) fn next<L: Ledger>(
         &self,
         rt: &(impl Threads + Sync),
@@ -122,7 +149,11 @@ impl Computed {
     ) -> Result<Computed, AllocError>
         ensures net { IfOk result (λ c. c ≡ net) }
         ensures searches { (w : ℕ) × (steps.new ≡ steps.old + w) × IsWithinWork self.now net w }
+        ensures same { HaveSameLists self.now net → steps.new ≡ steps.old }
     {
+        if self.net.has_same_lists(&net) {
+            return self.relabelled(alloc, net);
+        }
         let changes = changes(alloc, &self.net, &net)?;
         if changes.same_nodes() {
             return self.over(rt, alloc, net, &changes, steps);
@@ -139,26 +170,28 @@ impl Computed {
         &self.net
     }
 
-    /// The distances and next hops of the net.
-    pub(crate) fn trees(&self) -> &Trees
-        ensures { AreTrees self.now.graph result.now }
-    {
-        &self.trees
-    }
-
     /// The label tables of the net.
     pub(crate) fn fib(&self) -> Fib<'_>
         ensures { IsFib self.now result }
     {
-        Fib::new(&self.net, &self.trees, &self.sids)
+        Fib::new(&self.net, &self.shared.trees, &self.sids)
+    }
+
+    /// What is listed in the case for the destinations that it affects, ascending.
+    pub(crate) fn lists(&self, case: Case) -> &CaseLists
+        requires case { IsCase self.now.graph case }
+        ensures { AreLists self.now case result.now }
+    {
+        let shared = &self.shared;
+        lists_of(&self.net, &shared.found, &shared.none, case)
     }
 
     /// The answers of the case for the destinations that it affects, ascending.
-    pub(crate) fn answers(&self, case: Case) -> &CaseAnswers
+    pub(crate) fn answers(&self, case: Case) -> CaseAnswers<'_>
         requires case { IsCase self.now.graph case }
-        ensures { AreAnswers self.now case result.now }
+        ensures { AreAnswers self.now case result }
     {
-        answers_of(&self.net, &self.found, &self.none, case)
+        self.lists(case).answers(&self.net, case)
     }
 
     /// The record of the case.
@@ -166,13 +199,13 @@ impl Computed {
         requires { IsCase self.now.graph case }
         ensures { IsFound self.now case result.now }
     {
-        found_of(&self.net, &self.found, case)
+        found_of(&self.net, &self.shared.found, case)
     }
 
     /// A law with nothing to run: each case has its answers.
     pub(crate) fn is_answered(&self)
         ensures { IsAnswered self.now }
     {
-        let _found = &self.found;
+        let _shared = &self.shared;
     }
 }

@@ -60,7 +60,7 @@ pub(crate) enum Passed {
 
 /// What the passes over the cases of a link give.
 #[derive(Drop)]
-pub(crate) struct OfLink {
+pub(crate) struct LinkPasses {
     pub(crate) link: Passed,
     pub(crate) node: Passed,
     pub(crate) risk: Passed,
@@ -98,9 +98,9 @@ fn solved_by(
     requires wanted { AreAffected net.now case wanted }
     ensures { IfOk result (λ made. IsSolution net.now case (arc_value made)) }
 {
-    let answers = lists(alloc, net, trees, post, case, wanted)?;
+    let listed = lists(alloc, net, trees, post, case, wanted)?;
     let cells = case_row(alloc, net, trees, post, case)?;
-    Solved::new(alloc, cells, answers)
+    Solved::new(alloc, cells, listed)
 }
 
 /// What is computed for the case, whose affected destinations these are, counted from nothing: by one search for
@@ -246,7 +246,7 @@ fn pass_link(
 }
 
 /// What the passes over the cases of the link give.
-fn pass_all(alloc: Global, setting: &Setting<'_>, link: LinkNo) -> Result<OfLink, AllocError>
+fn pass_all(alloc: Global, setting: &Setting<'_>, link: LinkNo) -> Result<LinkPasses, AllocError>
     requires { link.0 < link_count setting.now.net.graph }
     ensures { IfOk result (AreOfLink setting.now.former setting.now.net link.0) }
 {
@@ -256,7 +256,7 @@ fn pass_all(alloc: Global, setting: &Setting<'_>, link: LinkNo) -> Result<OfLink
     let own = pass_link(alloc, setting, Case { kind, link }, &node)?;
     let kind = Kind::Risk;
     let risk = pass(alloc, setting, Case { kind, link })?;
-    Ok(OfLink {
+    Ok(LinkPasses {
         link: own,
         node,
         risk,
@@ -264,12 +264,12 @@ fn pass_all(alloc: Global, setting: &Setting<'_>, link: LinkNo) -> Result<OfLink
 }
 
 /// What was given for the cases of each link, in order of slot.
-fn in_slots(alloc: Global, all: Vec<OfLink>) -> Result<Vec<Passed>, AllocError>
+fn in_slots(alloc: Global, all: Vec<LinkPasses>) -> Result<Vec<Passed>, AllocError>
     ensures { IfOk result (λ passed. passed.items ≡ in_slots all.items) }
 {
     let mut passed = Vec::with_capacity(alloc, 3 * all.len())?;
     for one in all {
-        let OfLink { link, node, risk } = one;
+        let LinkPasses { link, node, risk } = one;
         passed.push(link)?;
         passed.push(node)?;
         passed.push(risk)?;
@@ -286,7 +286,7 @@ pub(crate) fn all_passed(
     ensures { IfOk result (λ passed.
         AreAllPassed setting.now.former setting.now.net (case_count setting.now.net.graph) passed.items) }
 {
-    let passed = |link: u32| -> Result<OfLink, AllocError>
+    let passed = |link: u32| -> Result<LinkPasses, AllocError>
         requires few { link_count setting.now.net.graph ≤ MostLinks }
         requires link { link < link_count setting.now.net.graph }
         ensures { IfOk result (AreOfLink setting.entry.now.former setting.entry.now.net link) }

@@ -4,18 +4,18 @@ ghost use Rattle.std.specs.Arc.{arc_value};
 ghost use Rattle.sr_repair.specs.Solutions.{moved_solution};
 
 use crate::row::CaseRow;
-use sr_encode::CaseAnswers;
+use sr_encode::CaseLists;
 use sr_model::LinkNo;
 use std::alloc::{AllocError, Global};
 use std::marker::Model;
 use std::sync::Arc;
 
 /// What is computed for a case: the distances from the source without the failed links, by which the next version tells
-/// whether the case stays, and the answers.
+/// whether the case stays, and what is listed.
 #[derive(Drop)]
 pub(crate) struct Solved {
     cells: CaseRow,
-    answers: CaseAnswers,
+    lists: CaseLists,
 }
 
 impl Model for Solved {
@@ -23,19 +23,19 @@ impl Model for Solved {
 
     ghost Value = { Solution };
 
-    ghost view = { λ s. record { cells = s.cells; answers = s.answers } };
+    ghost view = { λ s. record { cells = s.cells; lists = s.lists } };
 }
 
 impl Solved {
-    /// These distances and answers.
+    /// These distances and lists.
     pub(crate) fn new(
         alloc: Global,
         cells: CaseRow,
-        answers: CaseAnswers,
+        lists: CaseLists,
     ) -> Result<Arc<Solved>, AllocError>
-        ensures { IfOk result (λ solved. arc_value solved ≡ record { cells = cells; answers = answers }) }
+        ensures { IfOk result (λ solved. arc_value solved ≡ record { cells = cells; lists = lists }) }
     {
-        Ok(Arc::new(alloc, Solved { cells, answers })?)
+        Ok(Arc::new(alloc, Solved { cells, lists })?)
     }
 
     /// The distances from the source without the failed links, by number; `FAR` where there is no walk.
@@ -45,11 +45,11 @@ impl Solved {
         self.cells.restored(alloc)
     }
 
-    /// The answers.
-    pub(crate) fn answers(&self) -> &CaseAnswers
-        ensures { result.now ≡ self.now.answers }
+    /// What is listed.
+    pub(crate) fn lists(&self) -> &CaseLists
+        ensures { result.now ≡ self.now.lists }
     {
-        &self.answers
+        &self.lists
     }
 
     /// The same where links have these numbers, and the distances are kept in this row.
@@ -62,7 +62,7 @@ impl Solved {
         requires { cells ≡ self.now.cells }
         ensures { IfOk result (λ solved. arc_value solved ≡ moved_solution links.now self.now) }
     {
-        let answers = self.answers.renumbered(alloc, links)?;
-        Solved::new(alloc, cells, answers)
+        let lists = self.lists.renumbered(alloc, links)?;
+        Solved::new(alloc, cells, lists)
     }
 }

@@ -9,6 +9,7 @@ ghost use Rattle.sr_spf.specs.Trees.{AreTrees};
 ghost use Rattle.sr_fib.specs.Tables.{IsFib};
 ghost use Rattle.sr_encode.specs.Answered.{AreAnswers};
 ghost use Rattle.sr_repair.specs.Answers.{IsAnswered};
+ghost use Rattle.sr_laws.specs.Listed.{HaveSameLists, IsCaseListed};
 ghost use Rattle.sr_repair.specs.Version.{version_of};
 ghost use Rattle.sr_repair.specs.Stack.{HasNoList, IsStackOf};
 ghost use Rattle.sr_repair.specs.Work.{IsWithinWork};
@@ -74,7 +75,8 @@ impl Version {
 
     /// The version after this one, of this net: the same as `opening` gives, but for the number. What stays from this
     /// version's net is taken over: at most one search is counted for each node whose tree doesn't stay, and one for each
-    /// case that isn't an old case that stays (this project's rule).
+    /// case that isn't an old case that stays (this project's rule). Where the same is listed in both nets, as where lists may
+    /// be deeper, all is shared and none is counted.
     pub fn next<L: Ledger>(
         &self,
         rt: &(impl Threads + Sync),
@@ -85,6 +87,7 @@ impl Version {
         requires { self.now.number < MOST_VERSION }
         ensures version { IfOk result (λ v. v ≡ version_of (self.now.number + 1) net) }
         ensures searches { (w : ℕ) × (steps.new ≡ steps.old + w) × IsWithinWork self.now.net net w }
+        ensures same { HaveSameLists self.now.net net → steps.new ≡ steps.old }
     {
         let computed = self.computed.next(rt, alloc, net, steps)?;
         Ok(Version {
@@ -136,9 +139,9 @@ impl Version {
     }
 
     /// The answers of the case for the destinations that it affects, ascending.
-    pub fn answers(&self, case: Case) -> &CaseAnswers
+    pub fn answers(&self, case: Case) -> CaseAnswers<'_>
         requires case { IsCase self.now.net.graph case }
-        ensures { AreAnswers self.now.net case result.now }
+        ensures { AreAnswers self.now.net case result }
     {
         self.computed.answers(case)
     }
@@ -160,6 +163,18 @@ impl Version {
             × IsCaseAnswer self.now.net case destination.0 answer) }
     {
         self.answers(case).answer_for(destination)
+    }
+
+    /// What is listed in the case for the destination, however deep: the least list also where it is too deep (this project's
+    /// rule). None exactly where the destination isn't affected.
+    pub fn listed(&self, case: Case, destination: NodeNo) -> Option<Answer<'_>>
+        requires case { IsCase self.now.net.graph case }
+        ensures { MatchOption result
+            (IsAffected self.now.net case destination.0 → ⊥)
+            (λ answer. IsAffected self.now.net case destination.0
+            × IsCaseListed self.now.net case destination.0 answer) }
+    {
+        self.computed.lists(case).listed(destination)
     }
 
     /// The labels on the first link of the repair, the top last: they deliver, whichever equal-cost links the other nodes

@@ -1,11 +1,9 @@
 pub mod AcceptedLemmas
 pub mod CaseLemmas
 pub mod CoverLemmas
-pub mod DepthLemmas
 pub mod LawLemmas
 pub mod ListedLemmas
 pub mod PushLemmas
 pub mod ReachedLemmas
 pub mod ReasonLemmas
 pub mod SoundLemmas
-pub mod UnlimitedLemmas

@@ -6,14 +6,12 @@ use Rattle.sr_model.specs.declared.repair.RepairList.{RepairList}
 use Rattle.sr_model.specs.Graph.{Graph}
 use Rattle.sr_model.specs.Label.{Net}
 use Rattle.sr_model.specs.Case.{IsFailedSet, source_of}
-use Rattle.sr_model.specs.Repair.{Path, IsCaseAnswer, IsLeast}
-use Rattle.sr_laws.proofs.Failures.{failed-one}
+use Rattle.sr_model.specs.Repair.{Path, IsCaseAnswer}
 use Rattle.sr_laws.proofs.Answers.{least-one}
 use Rattle.sr_why.specs.declared.reason.Cause.TheVariants.{Covered, NoPath as NoPathLeft, NoList as NoListSound, TooDeep as ListTooDeep}
 use Rattle.sr_why.specs.declared.whole.WholeList.{WholeList}
-use Rattle.sr_why.specs.Labelled.{IsLabelled, IsUnlimited}
+use Rattle.sr_why.specs.Labelled.{IsLabelled}
 use Rattle.sr_why.specs.Reasons.{IsLeastList, IsReachedCount, IsReason, path_of_list}
-use Rattle.sr_why.proofs.SoundLemmas.{agree-unlimited, agree-sym, list-agree}
 
 module _ (n : Net) (case : Case) (d : ℕ) where
   pub reason-covered : (list : RepairList) → IsCaseAnswer n case d (Least list) → IsReason n case d Covered
@@ -32,19 +30,15 @@ module _ (n : Net) (case : Case) (d : ℕ) where
     explains = (m, labelled, subst (λ (g : Graph). IsLeastList m x (source_of g case) d list) labelled.graph is);
   }
 
-  -- the least list is the net's own, of the segments that the answer counts
-  pub reason-too_deep : (m : Net) → IsUnlimited n m → (x : List Bool) → IsFailedSet n.graph case x → (k : ℕ) → IsCaseAnswer n case d (TooDeep k) → (list : WholeList) → IsLeastList m x (source_of m.graph case) d list → IsReason n case d (ListTooDeep list)
-  reason-too_deep m other x set k i list is =
-      let s : ℕ = source_of n.graph case in
-      let there : IsLeastList m x s d list = subst (λ (g : Graph). IsLeastList m x (source_of g case) d list) other.graph is in
-      let here : IsLeastList n x s d list = list-agree m n (agree-sym n m (agree-unlimited n m other)) x s d list there in
-      let least : IsLeast n x s d i.answers.0 = subst (λ y. IsLeast n y s d i.answers.0) (failed-one n.graph case i.failed x i.set set) i.answers.1 in
-      let same : path_of_list list ≡ i.answers.0 = least-one n x s d (path_of_list list) i.answers.0 here.least least in
+  -- the least list has the segments that the answer counts
+  pub reason-too_deep : (k : ℕ) → (i : IsCaseAnswer n case d (TooDeep k)) → (list : WholeList) → IsLeastList n i.failed (source_of n.graph case) d list → IsReason n case d (ListTooDeep list)
+  reason-too_deep k i list is =
+      let same : path_of_list list ≡ i.answers.0 = least-one n i.failed (source_of n.graph case) d (path_of_list list) i.answers.0 is.least i.answers.1 in
       record {
         answer = TooDeep k;
         answer_is = i;
         of = (list, refl, ap (λ (a : Path). length a.segments) same ∙ i.answers.2);
-        failed = x;
-        set = set;
-        explains = here;
+        failed = i.failed;
+        set = i.set;
+        explains = is;
       }

@@ -1,5 +1,5 @@
 -- Nets of one graph in which the same nodes have an index and the same links a label have the same sound lists.
-use Rattle.std.proofs.Common.{◌≡◌, ℕ, ◌<◌, Bool, List, [], ◌∷◌, ap, sym, ◌∙◌, subst}
+use Rattle.std.proofs.Common.{◌≡◌, ℕ, ◌<◌, Bool, List, [], ◌∷◌, sym, ◌∙◌, subst}
 use Rattle.std.specs.Prelude.{is_some}
 use Rattle.sr_model.specs.declared.repair.Segment.{Segment}
 use Rattle.sr_model.specs.declared.repair.Segment.TheVariants.{Node, Adj}
@@ -8,7 +8,7 @@ use Rattle.sr_model.specs.Label.{Net, labels_at, adj_at}
 use Rattle.sr_model.specs.Repair.{Path, Leads, Clear, IsSound, IsLeast}
 use Rattle.sr_model.specs.Walk.{IsDistance}
 use Rattle.sr_why.specs.declared.whole.WholeList.{WholeList}
-use Rattle.sr_why.specs.Labelled.{IsLabelled, IsUnlimited}
+use Rattle.sr_why.specs.Labelled.{IsLabelled}
 use Rattle.sr_why.specs.Reasons.{path_of_list, IsLeastList}
 
 -- the nets have one graph, in which the same nodes have an index and the same links a label
@@ -34,14 +34,6 @@ agree-labelled n m k a b = record {
   labels = λ l within.
       let w : l < link_count n.graph = subst (λ (g : Graph). l < link_count g) a.graph within in
       b.labels l w ∙ sym (a.labels l w);
-}
-
--- and with a net whose nodes impose as much as can be
-pub agree-unlimited : (n m : Net) → IsUnlimited n m → AgreeOnLabels n m
-agree-unlimited n m a = record {
-  graph = a.graph;
-  indices = λ v within. ap is_some (a.indices v within);
-  labels = λ l within. ap is_some (a.labels l within);
 }
 
 -- the net over another graph

@@ -1,4 +1,4 @@
--- What the nets are made of in which nothing is lacking, or in which nodes impose as many labels as can be announced.
+-- What the nets are made of in which nothing is lacking.
 use Rattle.std.specs.Prelude.{◌≡◌, ℕ, ◌+◌, ◌<◌, false, List, [], ◌∷◌, length, Option, Some, None, slice_index_or}
 use Rattle.sr_model.specs.declared.label.Range.{Range}
 use Rattle.sr_model.specs.declared.name.LinkKey.{LinkKey}
@@ -6,20 +6,19 @@ use Rattle.sr_model.specs.Graph.{Graph, no_link}
 use Rattle.sr_model.specs.Label.{Labels}
 use Rattle.sr_model.specs.Rule.{node_at}
 use Rattle.sr_model.specs.Case.{key_at}
-use Rattle.sr_why.specs.declared.labelled.TheConstants.{MOST_IMPOSED}
 
 -- a label for each of that many nodes, from the first that isn't reserved on (RFC 3032, 2.1)
 abbrev pub whole_range : ℕ → Range
 whole_range count = record { first = 16; size = count }
 
--- what node v of that many announces: such a range, its number as its index, and the most labels to impose
+-- what node v of that many announces: such a range, and its number as its index
 abbrev pub whole_labels : ℕ → ℕ → Labels
 whole_labels count v = record {
   srgb = whole_range count ∷ [];
   index = Some v;
   keep = false;
   explicit = false;
-  imposes = Some MOST_IMPOSED;
+  imposes = None;
 }
 
 -- the first m of that many nodes announce that
@@ -31,17 +30,6 @@ pub record AreWholeNodes (count m : ℕ) (nodes : List Labels) : Type 0 where
 pub record AreWholeLinks (count m : ℕ) (adj : List (Option ℕ)) : Type 0 where
   pub long : length adj ≡ m
   pub each : (l : ℕ) → l < m → slice_index_or adj l None ≡ Some (16 + count + l)
-
--- what a node announces is that of another, but that it imposes the most labels
-pub record IsUnlimitedNode (one other : Labels) : Type 0 where
-  pub srgb : other.srgb ≡ one.srgb
-  pub index : other.index ≡ one.index
-  pub imposes : other.imposes ≡ Some MOST_IMPOSED
-
--- so it is with the first m nodes
-pub record AreUnlimitedNodes (nodes : List Labels) (m : ℕ) (others : List Labels) : Type 0 where
-  pub long : length others ≡ m
-  pub each : (v : ℕ) → v < m → IsUnlimitedNode (node_at nodes v) (node_at others v)
 
 -- the keys are those of the first m links, in their order
 pub record AreLinkKeys (g : Graph) (m : ℕ) (keys : List LinkKey) : Type 0 where

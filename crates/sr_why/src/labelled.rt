@@ -1,15 +1,12 @@
 //! The net as if no index and no label were lacking.
 ghost use Rattle.std.specs.Prelude.{◌≡◌, ◌<◌, ◌≤◌, [], ◌∷◌, IfOk};
 ghost use Rattle.sr_model.specs.declared.link.TheConstants.{MOST_LINKS as MostLinks};
-ghost use Rattle.sr_why.specs.Labelled.{AreUnlimited, IsLabelled};
+ghost use Rattle.sr_why.specs.Labelled.{IsLabelled};
 ghost use Rattle.sr_why.specs.Whole.{whole_range, AreWholeLinks, AreWholeNodes};
 
 use crate::keys::link_keys;
 use sr_labels::{FIRST_FREE, Net, NodeLabels, Range, Srgb};
 use std::alloc::{AllocError, Global};
-
-/// The most labels that a node can announce that it imposes (RFC 8491, 5).
-pub(crate) const MOST_IMPOSED: u8 = 255;
 
 /// The SRGB that has a label for each of that many nodes.
 fn whole_srgb(alloc: Global, count: u32) -> Result<Srgb, AllocError>
@@ -25,7 +22,7 @@ fn whole_srgb(alloc: Global, count: u32) -> Result<Srgb, AllocError>
     Ok(Srgb::new(ranges).unwrap())
 }
 
-/// What that many nodes announce: each has its number as its index, and imposes the most labels.
+/// What that many nodes announce: each has its number as its index.
 fn whole_nodes(alloc: Global, count: u32) -> Result<Vec<NodeLabels>, AllocError>
     requires { count ≤ 256 }
     ensures { IfOk result (λ nodes. AreWholeNodes count count nodes.items) }
@@ -33,7 +30,7 @@ fn whole_nodes(alloc: Global, count: u32) -> Result<Vec<NodeLabels>, AllocError>
     let mut nodes = Vec::with_capacity(alloc, count as usize)?;
     for node in 0..count {
         let srgb = whole_srgb(alloc, count)?;
-        nodes.push(NodeLabels::new(srgb, Some(node), false, false, Some(MOST_IMPOSED)))?;
+        nodes.push(NodeLabels::new(srgb, Some(node), false, false, None))?;
     }
     Ok(nodes)
 }
@@ -51,9 +48,9 @@ fn whole_links(alloc: Global, nodes: u32, links: u32) -> Result<Vec<Option<u32>>
     Ok(adj)
 }
 
-/// The net as if each node had an index and each link a label, and each node imposed the most labels.
+/// The net as if each node had an index and each link a label.
 pub(crate) fn labelled_net(alloc: Global, net: &Net) -> Result<Net, AllocError>
-    ensures { IfOk result (λ labelled. IsLabelled net.now labelled × AreUnlimited labelled) }
+    ensures { IfOk result (IsLabelled net.now) }
 {
     let graph = net.graph();
     let nodes = whole_nodes(alloc, graph.node_count())?;

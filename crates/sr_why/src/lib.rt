@@ -8,7 +8,6 @@ mod laws;
 mod listed;
 mod reached;
 mod reason;
-mod unlimited;
 mod whole;
 
 pub use laws::reasons_are_determined;

@@ -1,9 +1,9 @@
-//! The list of a case in another net of the same graph.
+//! The least list of a case in another net of the same graph.
 ghost use Rattle.std.specs.Prelude.{IfOk};
 ghost use Rattle.sr_model.specs.Case.{IsCase, source_of};
 ghost use Rattle.sr_spf.specs.Trees.{AreTrees};
 ghost use Rattle.sr_post.specs.Post.{IsPost};
-ghost use Rattle.sr_why.specs.Listed.{IsAnsweredByList};
+ghost use Rattle.sr_why.specs.Listed.{HasList};
 ghost use Rattle.sr_why.specs.Reasons.{IsLeastList};
 
 use crate::whole::{WholeList, whole_list};
@@ -14,8 +14,8 @@ use sr_post::{Post, affected_set};
 use sr_spf::Trees;
 use std::alloc::{AllocError, Global};
 
-/// The least sound list of the case to the destination in the net, where the case's answer is a list there. `post` is
-/// what the case leaves.
+/// The least sound list of the case to the destination in the net, where the case has one there. `post` is what the case
+/// leaves.
 pub(crate) fn least_list(
     alloc: Global,
     net: &Net,
@@ -27,11 +27,11 @@ pub(crate) fn least_list(
     requires trees { AreTrees net.now.graph trees.now }
     requires case { IsCase net.now.graph case }
     requires post { IsPost net.now case post.now }
-    requires listed { IsAnsweredByList net.now case destination.0 }
+    requires listed { HasList net.now case destination.0 }
     ensures { IfOk result
         (IsLeastList net.now post.now.failed (source_of net.now.graph case) destination.0) }
 {
     let wanted = affected_set(net, trees, case);
-    let answers = lists(alloc, net, trees, post, case, wanted)?;
-    whole_list(alloc, answers.answer_for(destination).unwrap())
+    let found = lists(alloc, net, trees, post, case, wanted)?;
+    whole_list(alloc, found.listed(destination).unwrap())
 }

@@ -9,8 +9,7 @@ ghost use Rattle.sr_why.specs.Reasons.{IsReason};
 use crate::labelled::labelled_net;
 use crate::listed::least_list;
 use crate::reached::reached_count;
-use crate::unlimited::unlimited_net;
-use crate::whole::WholeList;
+use crate::whole::{WholeList, whole_list};
 use sr_model::{Answer, Case, NodeNo};
 use sr_post::post;
 use sr_repair::Version;
@@ -74,29 +73,25 @@ fn without_list<L: Ledger>(
     Ok(Cause::NoList(list))
 }
 
-/// What is told where the least list is too deep: that list.
-fn too_deep<L: Ledger>(
+/// What is told where the least list is too deep: that list, which the version keeps.
+fn too_deep(
     alloc: Global,
     version: &Version,
     case: Case,
     destination: NodeNo,
-    steps: &mut Steps<L>,
 ) -> Result<Cause, AllocError>
     requires case { IsCase version.now.net.graph case }
     requires destination { destination.0 < node_count version.now.net.graph }
     requires answer { IsAffected version.now.net case destination.0
         × ((k : ℕ) × IsCaseAnswer version.now.net case destination.0 (ListTooDeep k)) }
-    ensures reason { IfOk result (IsReason version.now.net case destination.0) }
-    ensures searches { (steps.old ≤ steps.new) × (steps.new ≤ steps.old + 1) }
+    ensures { IfOk result (IsReason version.now.net case destination.0) }
 {
-    let trees = version.trees();
-    let left = post(alloc, version.net(), trees, case, steps)?;
-    let unlimited = unlimited_net(alloc, version.net())?;
-    let list = least_list(alloc, &unlimited, trees, &left, case, destination)?;
+    let listed = version.listed(case, destination).unwrap();
+    let list = whole_list(alloc, listed)?;
     Ok(Cause::TooDeep(list))
 }
 
-/// The reason of the answer. A search is counted unless the answer is a list.
+/// The reason of the answer. A search is counted where there is no path and where there is no list.
 fn reason_of<L: Ledger>(
     alloc: Global,
     version: &Version,
@@ -116,7 +111,7 @@ fn reason_of<L: Ledger>(
         Answer::Least(_) => Ok(Cause::Covered),
         Answer::NoPath => without_path(alloc, version, case, destination, steps),
         Answer::NoList => without_list(alloc, version, case, destination, steps),
-        Answer::TooDeep { .. } => too_deep(alloc, version, case, destination, steps),
+        Answer::TooDeep { .. } => too_deep(alloc, version, case, destination),
     }
 }
 

@@ -10,7 +10,7 @@ pub returns : goal.returns
 returns c =
     let net = c.args.version.now.net in
     let case = c.case_at-case.result in
-    let answers = c.answers.result.now in
+    let answers = c.answers.result in
     let graph : c.graph.result.now ≡ net.graph = c.graph.ensures.value ∙ ap (λ n. n.graph) c.net.ensures.value in
     let within = subst (λ (g : Graph). IsCase g case) graph c.case_at-case.ensures.case in
     let there = items-there net case answers c.net.ensures.net c.answers.ensures in

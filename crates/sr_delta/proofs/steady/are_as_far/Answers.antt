@@ -1,4 +1,4 @@
-use Rattle.std.proofs.Common.{◌≡◌, length, inl, refl, sym, ◌∙◌, ⊎_elim, true, false}
+use Rattle.std.proofs.Common.{◌≡◌, length, inl, refl, sym, ◌∙◌, ⊎_elim, true}
 use Rattle.std.proofs.lemmas.Bool.{true≢false}
 use Rattle.std.proofs.lemmas.Option.{slice_get_read}
 use Rattle.sr_lanes.specs.Bits.{is_in}

@@ -1,8 +1,7 @@
-use Rattle.std.proofs.Common.{◌≡◌, ◌↔◌, ℕ, IsTrue, length, true, arith, ap}
+use Rattle.std.proofs.Common.{◌≡◌, ◌↔◌, ℕ, IsTrue, length, arith, ap}
 use Rattle.std.specs.Prelude.{◌&&◌, not}
-use Rattle.sr_model.specs.Graph.{IsLink, link_at, node_count}
+use Rattle.sr_model.specs.Graph.{node_count}
 use Rattle.sr_model.specs.Label.{Net}
-use Rattle.sr_model.specs.Case.{source_of}
 use Rattle.sr_lanes.specs.Bits.{is_in}
 use Rattle.sr_delta.specs.Idle.{AreIdleOrFailed}
 use Rattle.sr_delta.specs.Cases.{Computed, IsComputed}
@@ -13,7 +12,7 @@ use Rattle.sr_delta.proofs.steady.is_steady_here.Goals as goal
 pub are_idle_or_failed-requires-clause-within : goal.are_idle_or_failed-requires-clause-within
 are_idle_or_failed-requires-clause-within c = λ k lt.
     let ends = c.links.ensures.within k lt in
-    let long : length c.args.old.now.cells ≡ node_count c.args.old.now.net.graph = cells-long c.args.old.now c.case-case.ensures.computed in
+    let long : length c.args.old.now.cells ≡ node_count c.args.old.now.net.graph = cells-long c.args.old.now c.case.ensures.computed in
     let there : length c.cells.result.now ≡ length c.args.old.now.cells = ap length c.cells.ensures.cells in
     (omega (arith, ends.0, long, there, c.requires.nodes), omega (arith, ends.1, long, there, c.requires.nodes))
 
@@ -21,17 +20,11 @@ pub returns : goal.returns
 returns c = λ m changes same stay are yes'.
     let old : Computed = c.args.old.now in
     let n : Net = old.net in
-    let s : ℕ = source_of n.graph old.case in
-    let all : IsComputed old = c.case-case.ensures.computed in
-    let at : c.edge-source.result.from.0 ≡ s = rw (c.graph.ensures.graph, c.case-case.ensures.case) at c.edge-source.ensures.from in
-    let ends : IsLink n.graph (link_at n.graph old.case.link.0) = all.trees.graph.each old.case.link.0 all.within in
-    let set : c.has.result ≡ is_in c.args.changes.now.alike.depths s = rw (at, c.depths_alike.ensures) at c.has.ensures in
-    let deep : is_in c.args.changes.now.alike.depths s ≡ true = (let has = c.if-not-has.false in cc) in
+    let all : IsComputed old = c.case.ensures.computed in
     let idle : IsTrue c.are_idle_or_failed.result ↔ AreIdleOrFailed n.graph old.case old.cells c.args.changes.now.links =
-    rw (c.graph-2.ensures.graph, c.case-case.ensures.case, c.cells.ensures.cells, c.links.ensures.links) at c.are_idle_or_failed.ensures in
+    rw (c.graph.ensures.graph, c.case.ensures.case, c.cells.ensures.cells, c.links.ensures.links) at c.are_idle_or_failed.ensures in
     let minus : (v : ℕ) → is_in c.and_not.result v ≡ (is_in old.walks v && not (is_in c.args.changes.now.alike.labels v)) = rw (c.walks.ensures.walks, c.labels_alike.ensures) at c.and_not.ensures in
     record {
-      depth = ((changes.alike same).depths.each s ends.0).0 deep;
       idle = idle.0 yes';
       segments = segments-from_none old m c.args.changes.now.alike.labels c.and_not.result all (changes.alike same).labels minus (c.is_empty.ensures.0 (let not = c.if-not-is_empty.false in cc));
       steps = c.are_steps_kept.ensures m stay are (let not = c.if-not-are_steps_kept.false in cc);

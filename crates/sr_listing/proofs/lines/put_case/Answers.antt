@@ -14,5 +14,5 @@ returns-clause-lines c =
     let within = subst (λ (g : Graph). IsCase g case) graph c.case_at-case.ensures.case in
     let at = subst (λ (g : Graph). place_of g case ≡ c.args.place) graph c.case_at-case.ensures.place in
     on_ok_weaker c.put_answers.result
-    (λ puts. case-put net c.args.place case c.answers.result.now c.args.out.now.items c.put_answers.new.out.items c.net-net.ensures.net within at c.answers.ensures puts)
+    (λ puts. case-put net c.args.place case c.answers.result c.args.out.now.items c.put_answers.new.out.items c.net-net.ensures.net within at c.answers.ensures puts)
     (rw c.net-net.ensures.value at c.put_answers.ensures.line)

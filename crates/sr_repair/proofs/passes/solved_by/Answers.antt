@@ -12,6 +12,6 @@ returns c =
     (λ made is. subst (λ (s : Solution). IsSolution n case s) (sym is)
     (record {
       row = λ x set. rw c.in_ok-cells.ensures (row-from_post n case c.args.post.now c.requires.post x set);
-      answers = c.in_ok-answers.ensures;
+      lists = c.in_ok-listed.ensures;
     }))
     c.new.ensures

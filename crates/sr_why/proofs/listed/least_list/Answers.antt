@@ -2,12 +2,12 @@ use Rattle.std.proofs.Common.{subst}
 use Rattle.std.proofs.lemmas.Result.{IfOk-weaker}
 use Rattle.sr_model.specs.declared.repair.Answer.{Answer}
 use Rattle.sr_model.specs.declared.repair.RepairList.{RepairList}
-use Rattle.sr_model.specs.Repair.{IsCaseAnswer}
+use Rattle.sr_model.specs.Case.{source_of}
+use Rattle.sr_laws.specs.Listed.{IsCaseListed}
 use Rattle.sr_why.specs.declared.whole.WholeList.{WholeList}
 use Rattle.sr_why.specs.Reasons.{IsLeastList}
-use Rattle.sr_model.specs.Case.{source_of}
-use Rattle.sr_why.proofs.CaseLemmas.{answer-found}
-use Rattle.sr_why.proofs.ListedLemmas.{list-from_answer}
+use Rattle.sr_why.proofs.CaseLemmas.{listed-found}
+use Rattle.sr_why.proofs.ListedLemmas.{list-from_listed}
 use Rattle.sr_why.proofs.listed.least_list.Goals as goal
 
 pub returns : goal.returns
@@ -16,9 +16,9 @@ returns c =
     let case = c.args.case in
     let d = c.args.destination.0 in
     let x = c.args.post.now.failed in
-    let found : IsCaseAnswer m case d c.unwrap.result = answer-found m case d c.in_ok-answers.answers c.in_ok-answers.ensures c.answer_for.result c.answer_for.ensures c.unwrap.result c.unwrap.ensures in
+    let found : IsCaseListed m case d c.unwrap.result = listed-found m case d c.in_ok-found.found c.in_ok-found.ensures c.listed.result c.listed.ensures c.unwrap.result c.unwrap.ensures in
     IfOk-weaker c.whole_list.result _ (IsLeastList m x (source_of m.graph case) d)
     (λ (whole : WholeList) e.
     let list : RepairList = record { first = whole.first; segments = whole.segments; cost = whole.cost } in
-    list-from_answer m case x c.requires.post.failed d list (subst (λ (a : Answer). IsCaseAnswer m case d a) e found))
+    list-from_listed m case x c.requires.post.failed d list (subst (λ (a : Answer). IsCaseListed m case d a) e found))
     c.whole_list.ensures

@@ -1,4 +1,4 @@
-use Rattle.sr_why.specs.Labelled.{AreUnlimited, IsLabelled}
+use Rattle.sr_why.specs.Labelled.{IsLabelled}
 use Rattle.sr_post.specs.Post.{IsPost}
 use Rattle.sr_why.proofs.ListedLemmas.{labelled-listed}
 use Rattle.sr_why.proofs.ReasonLemmas.{reason-no_list}
@@ -11,8 +11,8 @@ least_list-requires-clause-listed g c =
     let left = c.in_ok-left.left in
     let m = c.in_ok-labelled.labelled in
     let post : IsPost n case left = rw c.net.ensures.value at c.in_ok-left.ensures.post in
-    let labelled : IsLabelled n m × AreUnlimited m = rw c.net-2.ensures.value at c.in_ok-labelled.ensures in
-    labelled-listed n m c.trees-trees.ensures.graph labelled.0 labelled.1 case c.requires.case left.failed post.failed left.cells post.row c.args.destination.0 c.requires.destination c.requires.answer.0 c.requires.answer.1
+    let labelled : IsLabelled n m = rw c.net-2.ensures.value at c.in_ok-labelled.ensures in
+    labelled-listed n m c.trees-trees.ensures.graph labelled case left.failed post.failed left.cells post.row c.args.destination.0 c.requires.destination c.requires.answer.0 c.requires.answer.1
 
 pub returns-clause-reason : goal.returns-clause-reason
 returns-clause-reason g c =
@@ -21,5 +21,5 @@ returns-clause-reason g c =
     let left = c.in_ok-left.left in
     let m = c.in_ok-labelled.labelled in
     let post : IsPost n case left = rw c.net.ensures.value at c.in_ok-left.ensures.post in
-    let labelled : IsLabelled n m × AreUnlimited m = rw c.net-2.ensures.value at c.in_ok-labelled.ensures in
-    reason-no_list n case c.args.destination.0 m labelled.0 left.failed post.failed c.requires.answer.1 c.in_ok-list.list c.in_ok-list.ensures
+    let labelled : IsLabelled n m = rw c.net-2.ensures.value at c.in_ok-labelled.ensures in
+    reason-no_list n case c.args.destination.0 m labelled left.failed post.failed c.requires.answer.1 c.in_ok-list.list c.in_ok-list.ensures

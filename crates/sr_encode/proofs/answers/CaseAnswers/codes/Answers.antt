@@ -1,5 +1,7 @@
-use Rattle.sr_encode.proofs.CodeLemmas.{codes-are}
+use Rattle.std.proofs.Common.{subst}
+use Rattle.sr_encode.specs.Codes.{AreCodes}
+use Rattle.sr_encode.proofs.LimitLemmas.{codes-limited}
 use Rattle.sr_encode.proofs.answers.CaseAnswers.codes.Goals as goal
 
 pub returns : goal.returns
-returns c = rw (← c.self.view_is, c.new.ensures, c.deref.ensures.value) (codes-are c.self.inside.segments.items c.self.inside.outcomes.items c.self.inside.kept.items c.self.invariant.0)
+returns c = subst (λ list. AreCodes list c.codes.result) c.self.view_is (codes-limited c.self.inside.limit c.self.inside.lists.now c.codes.result c.codes.ensures)

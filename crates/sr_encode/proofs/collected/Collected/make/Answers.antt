@@ -14,14 +14,14 @@ count c =
     ∙ length-append c.args.self.now.segments.items (segments_to c.args.self.now.queue.now (waypoint_at c.args.self.now.queue.now c.args.place).depth c.args.place)
     ∙ ap (λ k. length c.args.self.now.segments.items + k) (segments-long c.args.self.now.queue.now (waypoint_at c.args.self.now.queue.now c.args.place).depth c.args.place)
 
-pub overflow_cast-result-2 : goal.overflow_cast-result-2
-overflow_cast-result-2 c =
+pub overflow_cast-result : goal.overflow_cast-result
+overflow_cast-result c =
     let end : c.len.result ≡ length c.extend_from_slice.new.self.items = omega (arith, c.len.ensures, c.extend_from_slice.new.self.ok.0) in
     omega (arith, end, count c, c.requires.collected.few, c.requires.few, (c.requires.collected.parents c.args.place c.requires.place).1)
 
 pub returns-clause-adds : goal.returns-clause-adds
 returns-clause-adds c = record {
-  same = record { net = refl; source = refl; queue = refl };
+  queue = refl;
   outcomes = refl;
   known = refl;
   more = segments_to c.args.self.now.queue.now (waypoint_at c.args.self.now.queue.now c.args.place).depth c.args.place;

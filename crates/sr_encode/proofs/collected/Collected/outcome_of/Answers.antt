@@ -12,19 +12,19 @@ returns-in-Some-clause-gains c = gains-nothing c.args.self.now c.in-Some.known c
 pub returns-clause-gains : goal.returns-clause-gains
 returns-clause-gains c =
     let last : c.len-last.result ≡ length c.args.self.now.outcomes.items = omega (arith, c.len-last.ensures, c.make.new.self.outcomes.ok.0, ap length c.in_ok-outcome.ensures.adds.outcomes) in
-    let after : Collected = record { net = c.make.new.self.net; source = c.make.new.self.source; queue = c.make.new.self.queue; outcomes = c.push.new.self; segments = c.make.new.self.segments; known = with_item c.make.new.self.known c.args.place (Some c.len-last.result); list = c.make.new.self.list } in
+    let after : Collected = record { queue = c.make.new.self.queue; outcomes = c.push.new.self; segments = c.make.new.self.segments; known = with_item c.make.new.self.known c.args.place (Some c.len-last.result); list = c.make.new.self.list } in
     let outcomes : c.push.new.self.items ≡ c.args.self.now.outcomes.items ++ c.in_ok-outcome.outcome ∷ [] = c.in_ok-push.ensures.items ∙ ap (λ l. l ++ c.in_ok-outcome.outcome ∷ []) c.in_ok-outcome.ensures.adds.outcomes in
     record {
       collected = collected-add c.args.self.now after c.args.place c.in_ok-outcome.ensures.adds.more c.in_ok-outcome.outcome c.requires.collected
-          (record { net = c.in_ok-outcome.ensures.adds.same.net; source = c.in_ok-outcome.ensures.adds.same.source; queue = c.in_ok-outcome.ensures.adds.same.queue })
+          c.in_ok-outcome.ensures.adds.queue
           c.in_ok-outcome.ensures.adds.segments
           c.in_ok-outcome.ensures.adds.few
           outcomes
           (ap (λ l. set l c.args.place (Some c.len-last.result)) c.in_ok-outcome.ensures.adds.known ∙ ap (λ m. set c.args.self.now.known.items c.args.place (Some m)) last)
           c.requires.place
           c.in_ok-outcome.ensures.outcome.1
-          (outcome-stays c.make.new.self after [] c.args.place c.in_ok-outcome.outcome (record { net = refl; source = refl; queue = refl }) (sym (append-nil c.make.new.self.segments.items)) c.in_ok-outcome.ensures.outcome.1 c.in_ok-outcome.ensures.outcome.0);
-      same = record { net = c.in_ok-outcome.ensures.adds.same.net; source = c.in_ok-outcome.ensures.adds.same.source; queue = c.in_ok-outcome.ensures.adds.same.queue };
+          (outcome-stays c.make.new.self after [] c.args.place c.in_ok-outcome.outcome refl (sym (append-nil c.make.new.self.segments.items)) c.in_ok-outcome.ensures.outcome.1 c.in_ok-outcome.ensures.outcome.0);
+      queue = c.in_ok-outcome.ensures.adds.queue;
       more = c.in_ok-outcome.ensures.adds.more;
       segments = c.in_ok-outcome.ensures.adds.segments;
       added = c.in_ok-outcome.outcome ∷ [];

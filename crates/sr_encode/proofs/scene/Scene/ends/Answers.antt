@@ -1,5 +1,4 @@
-use Rattle.std.proofs.Common.{◌≡◌, ◌&&◌, ◌||◌, ◌==◌, true, false, ap, sym, ◌∙◌, subst}
-use Rattle.std.proofs.Math.Bool.{or-false}
+use Rattle.std.proofs.Common.{◌≡◌, ◌&&◌, true, false, ap, sym, ◌∙◌, subst}
 use Rattle.sr_lanes.specs.Bits.{is_in}
 use Rattle.sr_model.specs.Graph.{is_overloaded}
 use Rattle.sr_walks.proofs.Walks.{carries-clear}

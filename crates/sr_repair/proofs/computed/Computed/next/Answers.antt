@@ -18,3 +18,6 @@ returns-clause-searches g c =
     absurd (let bad : false ≡ true = sym c.if-same_nodes.false ∙ c.same_nodes.ensures ∙ yes in cc) in
     let w = c.of.new.steps - c.args.steps.now in
     (w, omega (arith, c.of.ensures.least), within-anew n m differ w (omega (arith, c.of.ensures.most, c.of.ensures.least)))
+
+pub returns-then-has_same_lists-clause-searches : goal.returns-then-has_same_lists-clause-searches
+returns-then-has_same_lists-clause-searches g c = (0, omega arith, work-none c.args.self.now c.args.net)

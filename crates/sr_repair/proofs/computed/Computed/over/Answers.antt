@@ -1,6 +1,5 @@
-use Rattle.std.proofs.Common.{◌≡◌, ◌+◌, ◌-◌, ◌≤◌, Some, arith, ap, subst}
+use Rattle.std.proofs.Common.{◌≡◌, ◌+◌, ◌-◌, ◌≤◌, Some, arith, ap}
 use Rattle.sr_model.specs.Graph.{node_count}
-use Rattle.sr_model.specs.Label.{Net}
 use Rattle.sr_laws.proofs.Keys.{nodes-same}
 use Rattle.sr_spf.specs.Trees.{AreTrees}
 use Rattle.sr_spf.specs.Renewed.{fallen}
@@ -21,18 +20,18 @@ returns-in_err-trees-clause-searches g c =
     let m = c.args.net in
     let kept = c.in_ok-kept.kept.items in
     let w = c.renew.new.steps - c.args.steps.now in
-    let trees : AreTrees n.graph c.self.inside.trees = subst (λ (k : Net). AreTrees k.graph c.self.inside.trees) c.self.view_is c.self.invariant.0 in
+    let trees : AreTrees n.graph c.trees-old.result.now = c.trees-old.ensures in
     let stay : AreKeptTrees n m kept = c.in_ok-kept.ensures.kept n m c.requires.changes trees in
     let nodes : node_count m.graph ≡ node_count n.graph = nodes-same n.graph m.graph (c.requires.changes.nodes.0 c.requires.same) in
     let few : w ≤ fallen kept = omega (arith, c.renew.ensures.most, c.renew.ensures.least, ap fallen c.deref.ensures.value) in
     (w, omega (arith, c.renew.ensures.least), work-of n m w w 0 (omega arith) (within-trees n m kept w nodes stay few) (within-none (Some (record { old = n; new = m })) m))
 
-pub returns-in_err-sids-clause-searches : goal.returns-in_err-sids-clause-searches
-returns-in_err-sids-clause-searches g c =
+pub returns-in_err-made-clause-searches : goal.returns-in_err-made-clause-searches
+returns-in_err-made-clause-searches g c =
     let n = c.args.self.now in
     let m = c.args.net in
     let kept = c.in_ok-kept.kept.items in
-    let trees : AreTrees n.graph c.self.inside.trees = subst (λ (k : Net). AreTrees k.graph c.self.inside.trees) c.self.view_is c.self.invariant.0 in
+    let trees : AreTrees n.graph c.trees-old.result.now = c.trees-old.ensures in
     let stay : AreKeptTrees n m kept = c.in_ok-kept.ensures.kept n m c.requires.changes trees in
     let nodes : node_count m.graph ≡ node_count n.graph = nodes-same n.graph m.graph (c.requires.changes.nodes.0 c.requires.same) in
     let made = c.made_of.ensures.searches in
@@ -45,7 +44,7 @@ returns-clause-searches g c =
     let n = c.args.self.now in
     let m = c.args.net in
     let kept = c.in_ok-kept.kept.items in
-    let trees : AreTrees n.graph c.self.inside.trees = subst (λ (k : Net). AreTrees k.graph c.self.inside.trees) c.self.view_is c.self.invariant.0 in
+    let trees : AreTrees n.graph c.trees-old.result.now = c.trees-old.ensures in
     let stay : AreKeptTrees n m kept = c.in_ok-kept.ensures.kept n m c.requires.changes trees in
     let nodes : node_count m.graph ≡ node_count n.graph = nodes-same n.graph m.graph (c.requires.changes.nodes.0 c.requires.same) in
     let made = c.made_of.ensures.searches in
@@ -58,7 +57,7 @@ returns-in_err-farther-clause-searches g c =
     let n = c.args.self.now in
     let m = c.args.net in
     let kept = c.in_ok-kept.kept.items in
-    let trees : AreTrees n.graph c.self.inside.trees = subst (λ (k : Net). AreTrees k.graph c.self.inside.trees) c.self.view_is c.self.invariant.0 in
+    let trees : AreTrees n.graph c.trees-old.result.now = c.trees-old.ensures in
     let stay : AreKeptTrees n m kept = c.in_ok-kept.ensures.kept n m c.requires.changes trees in
     let nodes : node_count m.graph ≡ node_count n.graph = nodes-same n.graph m.graph (c.requires.changes.nodes.0 c.requires.same) in
     let sum : c.renew.new.steps ≡ c.args.steps.now + fallen kept = rw c.deref.ensures.value at c.in_ok-trees.ensures.steps in

@@ -1,9 +1,0 @@
-use Rattle.std.proofs.Common.{◌≡◌, List, take}
-use Rattle.sr_model.specs.declared.repair.Segment.{Segment}
-use Rattle.sr_encode.specs.Answered.{counts_in}
-use Rattle.sr_encode.specs.Kept.{entries}
-use Rattle.sr_encode.proofs.answers.counted.Given as goal
-
--- the counts of the answers so far, whatever their segments
-abbrev pub invariant-loop-kept : goal.invariant-loop-kept
-invariant-loop-kept l = (segments : List Segment) → l.counts ≡ counts_in (entries segments l.outcomes (take l.kept-index l.list))

@@ -1,0 +1,99 @@
+use Rattle.std.proofs.Common.{◌≡◌, ◌≤◌, ◌<◌, ◌*◌, ◌++◌, ℕ, List, length, ap, sym, ◌∙◌, subst, slice_index, arith, None, true}
+use Rattle.std.proofs.lemmas.List.{length-map, get_or_default}
+use Rattle.sr_lanes.specs.Bits.{is_in}
+use Rattle.sr_lanes.proofs.SizeLemmas.{size-less}
+use Rattle.sr_model.specs.declared.repair.Segment.{Segment}
+use Rattle.sr_model.specs.Graph.{node_count}
+use Rattle.sr_laws.specs.Listed.{IsListed}
+use Rattle.sr_walks.proofs.Distinct.{distance-small}
+use Rattle.sr_encode.specs.declared.kept.Outcome.{Outcome}
+use Rattle.sr_encode.specs.Kept.{answer_from, entry_from, outcome_at}
+use Rattle.sr_encode.specs.Serve.{place_at, IsResolved}
+use Rattle.sr_encode.proofs.AnswerLemmas.{listed-start, listed-over, kept-push}
+use Rattle.sr_encode.proofs.CollectLemmas.{listed-found}
+use Rattle.sr_encode.proofs.repairs.kept_lists.Goals.{In-Some, After-index}
+use Rattle.sr_encode.proofs.repairs.kept_lists.Goals as goal
+
+pub left-init : goal.left-init
+left-init c = record {
+  queue = c.in_ok-collected.ensures.queue ∙ c.deref.ensures.value;
+  collected = c.in_ok-collected.ensures.collected;
+  listed = rw c.in_ok-kept.ensures.items (listed-start c.args.net.now c.args.failed.now c.args.source.0 c.args.wanted);
+  within = record {
+    lists = c.in_ok-collected.ensures.collected.lists;
+    each = rw c.in_ok-kept.ensures.items (λ i d lt. absurd (omega arith));
+    few = omega (arith, c.in_ok-collected.ensures.few);
+  };
+}
+
+pub left-smaller : goal.left-smaller
+left-smaller c = size-less c.left.left c.take_first.new.self c.in-Some.node c.in-Some.ensures.first c.in-Some.ensures.left
+
+-- a node that is left is wanted
+member : (c : In-Some) → is_in c.args.wanted c.in-Some.node ≡ true
+member c = c.left.invariant.listed.inside c.in-Some.node c.in-Some.ensures.first.member
+
+-- what the search found for it
+found : (c : After-index) → is_in c.args.wanted c.in-Some.node ≡ true → IsResolved (record { net = c.args.net.now; failed = c.args.failed.now; source = c.args.source.0; post = c.args.cells.now }) c.args.found.now.queue.items c.in-Some.node c.index.result.now
+found c is =
+    let d : ℕ = c.in-Some.node in
+    let within : d < node_count c.args.net.now.graph = c.requires.wanted d is in
+    let place : place_at c.args.found.now.places.items d ≡ c.index.result.now = get_or_default c.args.found.now.places.items d None c.index.result.now (omega (arith, within, c.requires.found.long)) ∙ sym c.index.ensures in
+    subst (λ p. IsResolved (record { net = c.args.net.now; failed = c.args.failed.now; source = c.args.source.0; post = c.args.cells.now }) c.args.found.now.queue.items d p) place (c.requires.found.each d is)
+
+pub outcome_for-requires-clause-place : goal.outcome_for-requires-clause-place
+outcome_for-requires-clause-place c =
+    let at = goal.at.outcome_for-requires-clause-place c in
+    λ k is. omega (arith, ((found at.After-index (member at.In-Some)).some k is).0, ap length c.left.invariant.queue)
+
+pub whole_cost-requires : goal.whole_cost-requires
+whole_cost-requires c = λ near.
+    let d : ℕ = c.in-Some.node in
+    let cell = c.requires.cells.each d (c.requires.wanted d (member (goal.at.whole_cost-requires c).In-Some)) in
+    let small : slice_index c.args.cells.now d ≤ 255 * 16777214 = distance-small c.args.net.now.graph c.graph-graph.ensures.net.graph c.args.failed.now c.args.source.0 d _ c.requires.source (cell.near near) in
+    omega (arith, small)
+
+pub left-preserved : goal.left-preserved
+left-preserved c =
+    let n = c.args.net.now in
+    let s = c.args.source.0 in
+    let x = c.args.failed.now in
+    let d : ℕ = c.in-Some.node in
+    let r : ℕ = c.in_ok-outcome.outcome in
+    let cost : ℕ = c.whole_cost.result in
+    let I = c.left.invariant in
+    let is = member (goal.at.left-preserved c).In-Some in
+    let gains = c.in_ok-outcome.ensures.gains in
+    let answer : IsListed n x s d (answer_from c.outcome_for.new.self.segments.items (outcome_at c.outcome_for.new.self.outcomes.items r) cost) =
+    listed-found n s c.args.found.now.queue.items c.outcome_for.new.self x d c.args.cells.now c.index.result.now r cost
+    (gains.queue ∙ I.queue)
+    (found (goal.at.left-preserved c).After-index is)
+    (c.requires.cells.each d (c.requires.wanted d is))
+    c.in_ok-outcome.ensures.outcome
+    c.whole_cost.ensures in
+    let moved : IsListed n x s d (answer_from (c.left.collected.segments.items ++ gains.more) (outcome_at (c.left.collected.outcomes.items ++ gains.added) r) cost) =
+    subst (λ (l : List Segment). IsListed n x s d (answer_from l (outcome_at (c.left.collected.outcomes.items ++ gains.added) r) cost)) gains.segments
+    (subst (λ (l : List Outcome). IsListed n x s d (answer_from c.outcome_for.new.self.segments.items (outcome_at l r) cost)) gains.outcomes answer) in
+    let push = kept-push n x s c.args.wanted c.left.left c.take_first.new.self c.left.collected.segments.items gains.more c.left.collected.outcomes.items gains.added c.left.kept.items
+    (record { destination = record { 0 = d }; outcome = r; cost = cost })
+    I.listed
+    I.within
+    (rw (← gains.segments, ← gains.outcomes) gains.collected.lists)
+    gains.few
+    (omega (arith, gains.within, ap length gains.outcomes))
+    c.in-Some.ensures.first
+    c.in-Some.ensures.left
+    moved in
+    record {
+      queue = gains.queue ∙ I.queue;
+      collected = gains.collected;
+      listed = rw (c.in_ok-push.ensures.items, gains.segments, gains.outcomes) push.0;
+      within = rw (c.in_ok-push.ensures.items, gains.segments, gains.outcomes) push.1;
+    }
+
+pub returns : goal.returns
+returns c = record {
+  listed = listed-over _ _ _ _ _ _ c.left.invariant.listed c.in_default.ensures.first;
+  within = c.left.invariant.within;
+  few = omega (arith, c.left.invariant.listed.few, length-map c.left.kept.items (entry_from c.left.collected.segments.items c.left.collected.outcomes.items));
+}
