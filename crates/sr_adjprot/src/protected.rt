@@ -2,7 +2,7 @@
 ghost use Rattle.std.specs.Prelude.{◌≡◌, ◌++◌, IfOk, OnOk};
 ghost use Rattle.std.specs.List.{filter_map};
 ghost use Rattle.sr_lsp.specs.Parts.{part_of};
-ghost use Rattle.sr_adjprot.specs.Protected.{if_used as if_used_in, flagged_by as flagged_by_in, flagged_of, if_protected, protected_of, is_own_label as is_own_in, label_beside as label_beside_in, labels_beside};
+ghost use Rattle.sr_adjprot.specs.Protected.{if_used as if_used_in, flagged_by as flagged_by_in, flagged_of, protected_of, is_own_label as is_own_in, label_beside as label_beside_in, labels_beside};
 
 use sr_domain::{Announcement, announced_by, is_present, least_label, link_by};
 use sr_lsdb::Facts;

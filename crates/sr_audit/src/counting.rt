@@ -40,8 +40,8 @@ pub fn counts_sum(so_far: Counts, more: Counts) -> Counts
     }
 }
 
-/// How many answers of the version's audit are lists, no path, no list and too deep. What is listed in each
-/// case is counted already, so the cases alone are gone through where no list is too deep, and no memory is needed.
+/// How many answers of the version's audit are lists, no path, no list and too deep. What is listed in each case is
+/// counted already, so the cases alone are gone through where no list is too deep, and no memory is needed.
 pub fn counts(version: &Version) -> Counts
     ensures { AreAuditCounts version.now.net result }
 {

@@ -5,14 +5,14 @@ use Rattle.std.proofs.lemmas.Bool.{cases_lt, cases_eq}
 use Rattle.sr_model.specs.declared.link.LinkNo.{LinkNo}
 use Rattle.sr_model.specs.declared.link.TheConstants.{FAR}
 use Rattle.sr_model.specs.Graph.{Graph, link_count, head}
-use Rattle.sr_graph.specs.Members.{number_at, IsListed, IsInRange}
+use Rattle.sr_graph.specs.Members.{number_at, IsInList, IsInRange}
 use Rattle.sr_graph.specs.Ranges.{EndAt, HoldsLinks}
 use Rattle.sr_cert.specs.Rows.{Heading, From, To}
 use Rattle.sr_cert.specs.Settled.{base, Serves, offer_at, IsOffer, IsLeastOffer, Reaches, IsToldByLinks}
 
 -- one of the first n listed links
-abbrev pub IsListedBelow : List LinkNo → ℕ → ℕ → Type 0
-IsListedBelow links n l = (i : ℕ) × (i < n) × (number_at links i ≡ l)
+abbrev pub IsInListBelow : List LinkNo → ℕ → ℕ → Type 0
+IsInListBelow links n l = (i : ℕ) × (i < n) × (number_at links i ≡ l)
 
 module _ (g : Graph) (x : List Bool) (h : Heading) (cells : List ℕ) where
   -- of no link there is no offer
@@ -65,9 +65,9 @@ module _ (g : Graph) (x : List Bool) (h : Heading) (cells : List ℕ) where
       omega arith
 
   -- so one more than n of the list
-  pub listed-more : (links : List LinkNo) (n c o m : ℕ) → IsLeastOffer g x h cells (IsListedBelow links n) c → IsOffer g x h cells (number_at links n) o → m ≡ min c o → IsLeastOffer g x h cells (IsListedBelow links (n + 1)) m
+  pub listed-more : (links : List LinkNo) (n c o m : ℕ) → IsLeastOffer g x h cells (IsInListBelow links n) c → IsOffer g x h cells (number_at links n) o → m ≡ min c o → IsLeastOffer g x h cells (IsInListBelow links (n + 1)) m
   listed-more links n c o m a b is =
-      least-more (IsListedBelow links n) (IsListedBelow links (n + 1)) c (number_at links n) o m a b
+      least-more (IsInListBelow links n) (IsInListBelow links (n + 1)) c (number_at links n) o m a b
       (λ k r. ⊎_elim
       (λ (e : r.0 ≡ n). inr (subst (λ i. k ≡ number_at links i) e (sym r.2)))
       (λ (ne : r.0 ≢ n). inl (r.0, omega (arith, r.1), r.2))
@@ -85,9 +85,9 @@ module _ (g : Graph) (x : List Bool) (h : Heading) (cells : List ℕ) where
       is
 
 -- the links that a walk from a node comes by are those that end there
-pub least-to_node : (g : Graph) (x : List Bool) (u w : ℕ) (cells : List ℕ) (links : List LinkNo) (c : ℕ) → EndAt g w links → IsLeastOffer g x (From u) cells (IsListed links) c → IsLeastOffer g x (From u) cells (Reaches g (From u) w) c
+pub least-to_node : (g : Graph) (x : List Bool) (u w : ℕ) (cells : List ℕ) (links : List LinkNo) (c : ℕ) → EndAt g w links → IsLeastOffer g x (From u) cells (IsInList links) c → IsLeastOffer g x (From u) cells (Reaches g (From u) w) c
 least-to_node g x u w cells links c there a =
-    least-same g x (From u) cells (IsListed links) (Reaches g (From u) w) c
+    least-same g x (From u) cells (IsInList links) (Reaches g (From u) w) c
     (λ k within r. subst (λ l. head g l ≡ w) r.2 (there.each r.0 r.1).1)
     (λ k within r. there.all k within r)
     a

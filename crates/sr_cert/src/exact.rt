@@ -1,7 +1,7 @@
 //! Rows of distances, tested by the links of the graph.
 ghost use Rattle.std.specs.Prelude.{◌≡◌, ◌<◌, ◌≤◌, ◌↔◌, ℕ, length, IsTrue};
 ghost use Rattle.sr_model.specs.Graph.{node_count, link_count};
-ghost use Rattle.sr_graph.specs.Members.{number_at, IsListed, IsInRange};
+ghost use Rattle.sr_graph.specs.Members.{number_at, IsInList, IsInRange};
 ghost use Rattle.sr_cert.specs.Settled.{heading_of, base, IsOffer, IsLeastOffer, Reaches, IsToldByLinks, IsExactWithout};
 
 use crate::course::Course;
@@ -38,7 +38,7 @@ fn offer(graph: &Graph, x: &LinkSet, course: Course, cells: &[u64], link: LinkNo
 fn least_listed(graph: &Graph, x: &LinkSet, course: Course, cells: &[u64], links: &[LinkNo]) -> u64
     requires links { (i : ℕ) → i < length links.now → number_at links.now i < link_count graph.now }
     requires long { length cells.now ≡ node_count graph.now }
-    ensures { IsLeastOffer graph.now x.now (heading_of course) cells.now (IsListed links.now) result }
+    ensures { IsLeastOffer graph.now x.now (heading_of course) cells.now (IsInList links.now) result }
 {
     let mut least = FAR;
     for link in links {

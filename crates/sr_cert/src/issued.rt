@@ -1,5 +1,5 @@
 //! The certificate of a repair.
-ghost use Rattle.std.specs.Prelude.{◌≡◌, ◌≤◌, ◌+◌, ◌<◌, reverse, IfOk, MatchOption};
+ghost use Rattle.std.specs.Prelude.{◌≤◌, ◌+◌, ◌<◌, reverse, IfOk, MatchOption};
 ghost use Rattle.sr_model.specs.declared.repair.Answer.TheVariants.{Least};
 ghost use Rattle.sr_model.specs.Graph.{node_count};
 ghost use Rattle.sr_model.specs.Case.{IsCase, IsAffected};

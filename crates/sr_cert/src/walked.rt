@@ -1,7 +1,7 @@
 //! The clauses of a certificate that stand on its rows.
 ghost use Rattle.std.specs.Prelude.{◌≡◌, ◌<◌, ◌↔◌, Bool, List, [], length, slice_index, IsTrue};
 ghost use Rattle.sr_model.specs.declared.link.TheConstants.{FAR};
-ghost use Rattle.sr_model.specs.Graph.{node_count, link_count};
+ghost use Rattle.sr_model.specs.Graph.{link_count};
 ghost use Rattle.sr_model.specs.Walk.{OnShortest};
 ghost use Rattle.sr_model.specs.Space.{InP};
 ghost use Rattle.sr_model.specs.Case.{source_of};

@@ -11,7 +11,7 @@ use Rattle.sr_model.specs.Key.{IsSamePair, mirror}
 use Rattle.sr_model.specs.Graph.{Graph, node_count, link_count, link_at, tail, head, has, system_at, groups_at, IsGraph, IsLink, IsNamed}
 use Rattle.sr_model.specs.Case.{key_at, FailsWith, Touches, IsFailedSet}
 use Rattle.sr_model.specs.Stay.{HaveSameNodes, HaveSameName, HaveSamePairs, HasLink, IsChanged, IsOfFailedPair}
-use Rattle.sr_graph.specs.Members.{IsInRange, IsListed}
+use Rattle.sr_graph.specs.Members.{IsInRange, IsInList}
 use Rattle.sr_graph.specs.Ranges.{HoldsLinks, EndAt}
 use Rattle.sr_laws.proofs.Keys.{system-one, nodes-same, nodes-sym, name-ends, pair-sym}
 use Rattle.sr_delta.specs.declared.change.Change.{Change}
@@ -131,7 +131,7 @@ node-same g h gg gh ng nh same a b ka kb name =
     )
 
 -- in SRLG cases those of the protected pair and those at its beginning are
-pub pairs-from_matched : (g : Graph) (a : Case) (h : Graph) (b : Case) → a.kind ≡ RiskKind → b.kind ≡ RiskKind → HaveSameName g h a.link.0 b.link.0 → (i j : ℕ) (links : List LinkNo) → HoldsLinks g (tail g a.link.0) i j → EndAt g (tail g a.link.0) links → ((l : ℕ) → IsInRange i j l → IsMatched g a h b l) → ((l : ℕ) → IsListed links l → IsMatched g a h b l) → HavePairsIn g a h b
+pub pairs-from_matched : (g : Graph) (a : Case) (h : Graph) (b : Case) → a.kind ≡ RiskKind → b.kind ≡ RiskKind → HaveSameName g h a.link.0 b.link.0 → (i j : ℕ) (links : List LinkNo) → HoldsLinks g (tail g a.link.0) i j → EndAt g (tail g a.link.0) links → ((l : ℕ) → IsInRange i j l → IsMatched g a h b l) → ((l : ℕ) → IsInList links l → IsMatched g a h b l) → HavePairsIn g a h b
 pairs-from_matched g a h b ka kb name i j links holds ending ranged listed l lt fails =
     ⊎_elim
     (λ own. own-pair g h b a.link.0 l name (subst (λ k. FailsWith h k b.link.0 b.link.0) (sym kb) (inl (inl refl))) own)
@@ -141,7 +141,7 @@ pairs-from_matched g a h b ka kb name i j links holds ending ranged listed l lt 
 pub range-matched : (g : Graph) (a : Case) (h : Graph) (b : Case) (v i j : ℕ) → HoldsLinks g v i j → HavePairsIn g a h b → (l : ℕ) → IsInRange i j l → IsMatched g a h b l
 range-matched g a h b v i j holds pairs l within = pairs l (let lt : l < j = within.1 in omega (arith, holds.inside))
 
-pub list-matched : (g : Graph) (a : Case) (h : Graph) (b : Case) (v : ℕ) (links : List LinkNo) → EndAt g v links → HavePairsIn g a h b → (l : ℕ) → IsListed links l → IsMatched g a h b l
+pub list-matched : (g : Graph) (a : Case) (h : Graph) (b : Case) (v : ℕ) (links : List LinkNo) → EndAt g v links → HavePairsIn g a h b → (l : ℕ) → IsInList links l → IsMatched g a h b l
 list-matched g a h b v links ending pairs l listed = pairs l (subst (λ k. k < link_count g) listed.2 (ending.each listed.0 listed.1).0)
 
 plain-in : (g : Graph) (a : Case) (h : Graph) (b : Case) → a.kind ≡ RiskKind → b.kind ≡ RiskKind → HaveSameName g h a.link.0 b.link.0 → length (groups_at g a.link.0) ≡ 0 → HavePairsIn g a h b

@@ -4,7 +4,7 @@ ghost use Rattle.sr_model.specs.declared.case.Kind.TheVariants.{Risk as RiskKind
 ghost use Rattle.sr_model.specs.Graph.{link_count};
 ghost use Rattle.sr_model.specs.Case.{IsCase};
 ghost use Rattle.sr_model.specs.Stay.{HaveSameName};
-ghost use Rattle.sr_graph.specs.Members.{number_at, IsInRange, IsListed};
+ghost use Rattle.sr_graph.specs.Members.{number_at, IsInRange, IsInList};
 ghost use Rattle.sr_delta.specs.Pairs.{IsMatched, HavePairsIn, HaveSameFailures};
 
 use crate::pairs::{fails, is_of_failing_pair};
@@ -42,7 +42,7 @@ fn is_list_matched(graph: &Graph, case: Case, other: &Graph, there: Case, links:
     requires case { IsCase graph.now case }
     requires there { IsCase other.now there }
     requires within { (i : ℕ) → i < length links.now → number_at links.now i < link_count graph.now }
-    ensures { IsTrue result ↔ ((l : ℕ) → IsListed links.now l → IsMatched graph.now case other.now there l) }
+    ensures { IsTrue result ↔ ((l : ℕ) → IsInList links.now l → IsMatched graph.now case other.now there l) }
 {
     for i in 0..links.len() {
         if !is_matched(graph, case, other, there, links[i]) {

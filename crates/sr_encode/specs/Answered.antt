@@ -51,7 +51,8 @@ abbrev pub AreAffected : Net → Case → NodeBits → Type 0
 AreAffected n case wanted = (v : ℕ) → IsTrue (is_in wanted v) ↔ IsAffected n case v
 
 -- the list has the affected destinations of the case, ascending, each with an answer that belongs to it
-pub record AreForAffected (Belongs : ℕ → Answer → Type 0) (n : Net) (case : Case) (list : List NodeAnswer) : Type 0 where
+pub record AreForAffected (Belongs : ℕ → Answer → Type 0) (n : Net) (case : Case)
+    (list : List NodeAnswer) : Type 0 where
   pub ascending : AscendByNode list
   pub affected : (i : ℕ) → i < length list → IsAffected n case (destination_at list i)
   pub answers : (i : ℕ) → i < length list → Belongs (destination_at list i) (answer_at list i)

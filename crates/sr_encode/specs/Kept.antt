@@ -37,7 +37,8 @@ HasSegments segments NoPathOutcome = Unit {0}
 HasSegments segments NoListOutcome = Unit {0}
 HasSegments segments (ListOutcome first begin end) = (begin ≤ end) × (end ≤ length segments)
 
--- each outcome has its segments, each destination has an outcome, and there are at most two outcomes more than destinations
+-- each outcome has its segments, each destination has an outcome, and there are at most two outcomes more than
+-- destinations
 pub record AreKeptWithin (segments : List Segment) (outcomes : List Outcome) (kept : List Kept) : Type 0 where
   pub lists : All (HasSegments segments) outcomes
   pub each : All (λ (k : Kept). k.outcome < length outcomes) kept

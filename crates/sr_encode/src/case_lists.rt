@@ -1,13 +1,12 @@
 //! What is listed in a case, however deep.
-ghost use Rattle.std.specs.Prelude.{◌≡◌, ◌<◌, ◌≤◌, [], List, length, map, count_by, All, IfOk, IsTrue, MatchOption};
+ghost use Rattle.std.specs.Prelude.{◌≡◌, ◌<◌, ◌≤◌, [], List, length, map, All, IfOk, IsTrue, MatchOption};
 ghost use Rattle.sr_model.specs.declared.repair.Segment.{Segment};
-ghost use Rattle.sr_model.specs.Audit.{is_too_deep};
 ghost use Rattle.sr_model.specs.Case.{IsCase};
 ghost use Rattle.sr_encode.specs.declared.answers.NodeAnswer.{NodeAnswer as Entry};
 ghost use Rattle.sr_encode.specs.declared.kept.Kept.{Kept};
 ghost use Rattle.sr_encode.specs.Answered.{AreAnswers, AreLists, AscendByNode, HasAnswer, NoAnswer, counts_in, destination_at, node_answer_at};
 ghost use Rattle.sr_encode.specs.Codes.{AreCodes};
-ghost use Rattle.sr_encode.specs.Kept.{AreKeptWithin, HasSegments, entries};
+ghost use Rattle.sr_encode.specs.Kept.{AreKeptWithin, entries};
 ghost use Rattle.sr_encode.specs.Limited.{limited_entries, limited_entry};
 ghost use Rattle.sr_encode.specs.Renumbered.{moved_entry};
 
@@ -74,7 +73,7 @@ impl Model for CaseLists {
 }
 
 impl CaseLists {
-    /// What is kept so, in order of destination. There is at most one entry for each node.
+    /// What is listed so, in order of destination. There is at most one entry for each node.
     pub(crate) fn new(kept: Vec<Kept>, outcomes: Vec<Outcome>, segments: Vec<Segment>) -> CaseLists
         requires within { AreKeptWithin segments.items outcomes.items kept.items }
         requires ascending { AscendByNode (entries segments.items outcomes.items kept.items) }

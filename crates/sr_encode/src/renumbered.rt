@@ -1,5 +1,5 @@
 //! The answers of a case in a net whose links have other numbers.
-ghost use Rattle.std.specs.Prelude.{◌≡◌, map, slice_index_or, IfOk, None};
+ghost use Rattle.std.specs.Prelude.{◌≡◌, map, IfOk};
 ghost use Rattle.sr_spf.specs.Renewed.{moved_link};
 ghost use Rattle.sr_encode.specs.Renumbered.{moved_segment, moved_outcome};
 

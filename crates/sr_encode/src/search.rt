@@ -1,5 +1,5 @@
 //! The search: each waypoint is offered to the destinations that are pending, and then looked on from.
-ghost use Rattle.std.specs.Prelude.{◌≡◌, IfOk, OnOk};
+ghost use Rattle.std.specs.Prelude.{IfOk, OnOk};
 ghost use Rattle.sr_encode.specs.Search.{IsSearching};
 ghost use Rattle.sr_encode.specs.Aftermath.{AreInside};
 ghost use Rattle.sr_encode.specs.Serve.{AreOffered, AreSearched, AreResolved, IsLater, AreHopsOf};

@@ -1,6 +1,5 @@
 //! The choice among the hops that may be crossed.
-ghost use Rattle.std.specs.Prelude.{◌≡◌, length, map, slice_get};
-ghost use Rattle.sr_fib.specs.Outs.{hop_link};
+ghost use Rattle.std.specs.Prelude.{◌≡◌, length, slice_get};
 ghost use Rattle.sr_forward.specs.Choices.{open_hops, open_links, chosen_hop};
 
 use sr_fib::Hops;

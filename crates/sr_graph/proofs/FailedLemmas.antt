@@ -16,7 +16,7 @@ use Rattle.sr_model.specs.Graph.{Graph, link_count, tail, head, has, groups_at, 
 use Rattle.sr_model.specs.Case.{key_at, Touches, ShareGroup, IsFailedSet, FailsWith}
 use Rattle.sr_model.proofs.KeyOrderLemmas.{key_cmp-lt, key_cmp-same}
 use Rattle.sr_graph.specs.Failed.{HaveCommon}
-use Rattle.sr_graph.specs.Members.{number_at, IsListed, IsInRange, IsWidened}
+use Rattle.sr_graph.specs.Members.{number_at, IsInList, IsInRange, IsWidened}
 use Rattle.sr_graph.specs.Ranges.{HoldsLinks, EndAt}
 use Rattle.sr_graph.proofs.MemberLemmas.{widened-as, widened-then, widened-one, widened-empty}
 use Rattle.sr_graph.proofs.NumbersLemmas.{nowhere}
@@ -89,7 +89,7 @@ module _ (g : Graph) (p : LinkNo) where
         ))
 
   -- the links that begin at a node, and those that end there, are all that touch it
-  touches-either : (v i j : ℕ) (links : List LinkNo) → HoldsLinks g v i j → EndAt g v links → (l : ℕ) → l < link_count g → (IsInRange i j l ⊎ IsListed links l) ↔ Touches g l v
+  touches-either : (v i j : ℕ) (links : List LinkNo) → HoldsLinks g v i j → EndAt g v links → (l : ℕ) → l < link_count g → (IsInRange i j l ⊎ IsInList links l) ↔ Touches g l v
   touches-either v i j links holds ending l lt = (
     λ either. ⊎_elim
         (λ within. inl (holds.from l within.0 within.1))
@@ -98,19 +98,19 @@ module _ (g : Graph) (p : LinkNo) where
     λ touches. ⊎_elim (λ begins. inl (holds.to l lt begins)) (λ ends. inr (ending.all l lt ends)) touches,
   )
 
-  pub failed-node : (v i j n : ℕ) (links : List LinkNo) (x y : List Bool) → v ≡ head g p.0 → HoldsLinks g v i j → EndAt g v links → n ≡ link_count g → IsWidened (replicate n false) (IsInRange i j) x → IsWidened x (IsListed links) y → IsFailedSet g (case_of NodeKind) y
+  pub failed-node : (v i j n : ℕ) (links : List LinkNo) (x y : List Bool) → v ≡ head g p.0 → HoldsLinks g v i j → EndAt g v links → n ≡ link_count g → IsWidened (replicate n false) (IsInRange i j) x → IsWidened x (IsInList links) y → IsFailedSet g (case_of NodeKind) y
   failed-node v i j n links x y e holds ending count first second =
-      failed-from_widened NodeKind n (λ l. IsInRange i j l ⊎ IsListed links l) y count (widened-then (replicate n false) x y (IsInRange i j) (IsListed links) first second)
-      (λ l lt. let P : ℕ → Type 0 = λ w. (IsInRange i j l ⊎ IsListed links l) ↔ Touches g l w in subst P e (touches-either v i j links holds ending l lt))
+      failed-from_widened NodeKind n (λ l. IsInRange i j l ⊎ IsInList links l) y count (widened-then (replicate n false) x y (IsInRange i j) (IsInList links) first second)
+      (λ l lt. let P : ℕ → Type 0 = λ w. (IsInRange i j l ⊎ IsInList links l) ↔ Touches g l w in subst P e (touches-either v i j links holds ending l lt))
 
   -- the link has an end at the node, and shares a group
   pub failed-risk : (v i j : ℕ) (links : List LinkNo) (x y z : List Bool) → v ≡ tail g p.0 → HoldsLinks g v i j → EndAt g v links → IsFailedSet g (case_of LinkKind) x
-      → IsWidened x (λ l. IsInRange i j l × ShareGroup g l p.0) y → IsWidened y (λ l. IsListed links l × ShareGroup g l p.0) z → IsFailedSet g (case_of RiskKind) z
+      → IsWidened x (λ l. IsInRange i j l × ShareGroup g l p.0) y → IsWidened y (λ l. IsInList links l × ShareGroup g l p.0) z → IsFailedSet g (case_of RiskKind) z
   failed-risk v i j links x y z e holds ending failed first second =
       let Begins : ℕ → Type 0 = λ l. IsInRange i j l × ShareGroup g l p.0 in
-      let Ends : ℕ → Type 0 = λ l. IsListed links l × ShareGroup g l p.0 in
+      let Ends : ℕ → Type 0 = λ l. IsInList links l × ShareGroup g l p.0 in
       failed-widened LinkKind RiskKind (λ l. Begins l ⊎ Ends l) x z failed (widened-then x y z Begins Ends first second) (λ l lt.
-      let touch : (IsInRange i j l ⊎ IsListed links l) ↔ Touches g l v = touches-either v i j links holds ending l lt in
+      let touch : (IsInRange i j l ⊎ IsInList links l) ↔ Touches g l v = touches-either v i j links holds ending l lt in
       let Q : ℕ → Type 0 = λ w. Touches g l w in (
         λ either. ⊎_elim (λ pair. inl pair) (λ new. inr (⊎_elim
             (λ begins. (subst Q e (touch.0 (inl begins.0)), begins.1))

@@ -9,8 +9,8 @@ abbrev pub number_at : List LinkNo → ℕ → ℕ
 number_at links i = (slice_index_or links i (record { 0 = 0 })).0
 
 -- the list names link l
-abbrev pub IsListed : List LinkNo → ℕ → Type 0
-IsListed links l = (i : ℕ) × (i < length links) × (number_at links i ≡ l)
+abbrev pub IsInList : List LinkNo → ℕ → Type 0
+IsInList links l = (i : ℕ) × (i < length links) × (number_at links i ≡ l)
 
 -- link l lies from place i to below place j
 abbrev pub IsInRange : ℕ → ℕ → ℕ → Type 0

@@ -5,7 +5,7 @@ ghost use Rattle.sr_model.specs.Key.{IsSamePair};
 ghost use Rattle.sr_model.specs.Graph.{link_count};
 ghost use Rattle.sr_model.specs.Case.{IsCase, IsFailedSet, ShareGroup};
 ghost use Rattle.sr_graph.specs.Failed.{AddsNothing, FailsAsLink};
-ghost use Rattle.sr_graph.specs.Members.{number_at, IsListed, IsInRange, IsWidened};
+ghost use Rattle.sr_graph.specs.Members.{number_at, IsInList, IsInRange, IsWidened};
 
 use crate::graph::Graph;
 use crate::link_set::LinkSet;
@@ -53,7 +53,7 @@ impl Graph {
         requires within { (i : ℕ) → i < length links.now → number_at links.now i < link_count self.now }
         requires protected { protected.0 < link_count self.now }
         ensures { OnOk result (IsWidened set.old
-            (λ l. IsListed links.now l × ShareGroup self.now l protected.0) set.new) }
+            (λ l. IsInList links.now l × ShareGroup self.now l protected.0) set.new) }
     {
         for link in links {
             if self.shares(*link, protected) {
@@ -149,7 +149,7 @@ impl Graph {
     fn adds_nothing_listed(&self, protected: LinkNo, links: &[LinkNo]) -> bool
         requires protected { protected.0 < link_count self.now }
         requires within { (i : ℕ) → i < length links.now → number_at links.now i < link_count self.now }
-        ensures { (result ≡ true) ↔ ((l : ℕ) → IsListed links.now l → AddsNothing self.now protected.0 l) }
+        ensures { (result ≡ true) ↔ ((l : ℕ) → IsInList links.now l → AddsNothing self.now protected.0 l) }
     {
         for link in links {
             if !self.adds_nothing(protected, *link) {

@@ -1,5 +1,5 @@
 //! The graph: how it is built, and what it answers.
-ghost use Rattle.std.specs.Prelude.{◌≡◌, ◌≢◌, ◌↔◌, [], ℕ, ◌<◌, ◌≤◌, true, length, IfSome, IfNone, IfOk, IfErr};
+ghost use Rattle.std.specs.Prelude.{◌≡◌, ◌≢◌, ◌↔◌, [], ℕ, ◌<◌, true, IfSome, IfNone, IfOk, IfErr};
 ghost use Rattle.sr_model.specs.declared.link.NodeNo.{NodeNo as Node};
 ghost use Rattle.sr_model.specs.declared.link.LinkNo.{LinkNo as Number};
 ghost use Rattle.sr_model.specs.Graph.{node_count, link_count, link_at, tail, head, metric, system_at, groups_at, is_overloaded, carries, IsGraph, IsNamed, IsGrouped};

@@ -1,7 +1,7 @@
 //! Sets of links.
 ghost use Rattle.std.specs.Prelude.{◌≡◌, ℕ, ◌<◌, ◌≤◌, true, false, [], length, replicate, slice_set, IfOk, OnOk};
 ghost use Rattle.sr_model.specs.Graph.{has};
-ghost use Rattle.sr_graph.specs.Members.{number_at, IsListed, IsInRange, AreMembers, IsWidened};
+ghost use Rattle.sr_graph.specs.Members.{number_at, IsInList, IsInRange, AreMembers, IsWidened};
 
 use crate::ranges::LinkRange;
 use sr_model::LinkNo;
@@ -78,7 +78,7 @@ impl LinkSet {
     /// Adds the listed links.
     pub(crate) fn add_listed(&mut self, links: &[LinkNo]) -> Result<(), AllocError>
         requires { (i : ℕ) → i < length links.now → number_at links.now i < length self.old }
-        ensures { OnOk result (IsWidened self.old (IsListed links.now) self.new) }
+        ensures { OnOk result (IsWidened self.old (IsInList links.now) self.new) }
     {
         for link in links {
             self.add(*link)?;

@@ -1,5 +1,5 @@
 //! The order of a draft's links, and the reasons to refuse a draft that it shows.
-ghost use Rattle.std.specs.Prelude.{◌≡◌, IsPermutation, MatchOption};
+ghost use Rattle.std.specs.Prelude.{IsPermutation, MatchOption};
 ghost use Rattle.sr_graph.specs.Draft.{AreSorted, HasZero, IsTwice, IsLeastKey, NoZero, NoneTwice, IsAcceptedDraft, IsRefusal};
 
 use crate::draft::DraftLink;

@@ -1,5 +1,5 @@
 //! The links of each node: those that begin at one node stand together.
-ghost use Rattle.std.specs.Prelude.{◌≡◌, ℕ, ◌+◌, ◌<◌, ◌≤◌, length, IfOk};
+ghost use Rattle.std.specs.Prelude.{ℕ, ◌+◌, ◌<◌, ◌≤◌, length, IfOk};
 ghost use Rattle.sr_graph.specs.Ranges.{tail_in, AreByTail, AreStarts};
 ghost use Rattle.sr_model.specs.declared.link.TheConstants.{MOST_LINKS, MOST_NODES};
 

@@ -1,7 +1,7 @@
 //! Marks at the nodes to which the way over another node is a shortest one.
 
 ghost use Rattle.std.specs.Prelude.{◌≡◌, ℕ, ◌+◌, ◌*◌, ◌<◌, ◌≤◌, length, slice_index};
-ghost use Rattle.sr_lanes.specs.Passes.{AreCells, is_tight, marked};
+ghost use Rattle.sr_lanes.specs.Passes.{AreCells, marked};
 ghost use Rattle.sr_lanes.specs.Marks.{AreMarked, CanBeMarked};
 
 use crate::limits::{CELL_AT_MOST, LANES};

@@ -47,8 +47,8 @@ pub record HasSameSegments (n m : Net) (w : ℕ) : Type 0 where
 -- the same destinations are affected; each changed link that isn't of a failed pair is idle for the old distances from
 -- the source without the failed links; and each node on a shortest walk without the failed links from the source to an
 -- affected destination has the same segments, and it is the source, or its tree stays, or it is as far as it was to the
--- node at which the failed links lie, as that node is to each of these nodes. How deep a list may be is not asked, since
--- that is decided when an answer is read
+-- node at which the failed links lie, as that node is to each of these nodes. How deep a list may be isn't asked: that
+-- is decided when an answer is read
 pub record IsSteadyCase (n m : Net) (case : Case) : Type 0 where
   pub within : IsCase n.graph case
   pub nodes : HaveSameNodes n.graph m.graph

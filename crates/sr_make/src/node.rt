@@ -1,6 +1,6 @@
 //! The link-state PDU of a node of a made net.
 ghost use Rattle.std.specs.Prelude.{All, ◌≡◌, ◌<◌, ◌++◌, ◌^◌, IfOk, OnOk, filter, map};
-ghost use Rattle.sr_make.specs.Nodes.{across, made_capability, made_links, made_lsp, made_prefix, made_reach, made_risk, made_sid_flags, touches};
+ghost use Rattle.sr_make.specs.Nodes.{across, made_capability, made_lsp, made_prefix, made_reach, made_risk, made_sid_flags, touches};
 ghost use Rattle.sr_make.specs.Sizes.{AreMadePairs, IsMadePair};
 
 use crate::pairs::MadePair;

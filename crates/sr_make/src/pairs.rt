@@ -1,5 +1,5 @@
 //! The bidirectional links of a made net (this project's rule).
-ghost use Rattle.std.specs.Prelude.{◌≡◌, ◌<◌, ◌≤◌, ◌++◌, ◌^◌, length, IfOk, OnOk};
+ghost use Rattle.std.specs.Prelude.{◌≡◌, ◌<◌, ◌++◌, ◌^◌, length, IfOk, OnOk};
 ghost use Rattle.sr_make.specs.Draws.{next_state};
 ghost use Rattle.sr_make.specs.Pairs.{chord_spans, drawn_pair, drawn_pairs, made_pairs, made_spans, ring_spans};
 

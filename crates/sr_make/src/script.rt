@@ -3,7 +3,6 @@ ghost use Rattle.std.specs.Prelude.{◌≡◌, ◌<◌, ◌^◌, IfOk};
 ghost use Rattle.sr_lsp.specs.InRange.{FitsLsp};
 ghost use Rattle.sr_lsp.specs.Text.{HasSpelling, lsp_text};
 ghost use Rattle.sr_engine.specs.Written.{Puts, written};
-ghost use Rattle.sr_make.specs.Nodes.{made_lsp};
 ghost use Rattle.sr_make.specs.Script.{audit_lines, lsp_line, lsp_lines};
 ghost use Rattle.sr_make.specs.Sizes.{AreMadePairs};
 

@@ -1,5 +1,5 @@
 //! System ids as text: three groups of four hexadecimal digits joined by dots, as in `0000.0000.00ff` for 255.
-ghost use Rattle.std.specs.Prelude.{◌≡◌, ℕ, ◌+◌, ◌<◌, ◌≤◌, ◌^◌, ◌%◌, ◌++◌, Some, length, IfSome, OnOk, OnErr};
+ghost use Rattle.std.specs.Prelude.{◌≡◌, ◌+◌, ◌<◌, ◌≤◌, ◌^◌, ◌%◌, ◌++◌, Some, length, IfSome, OnOk, OnErr};
 ghost use Rattle.std.specs.Char.{digit_value, digit_char};
 ghost use Rattle.std.specs.Option.{SomeIff};
 ghost use Rattle.sr_model.specs.SystemText.{group_read, system_text, system_read};

@@ -2,7 +2,7 @@
 ghost use Rattle.std.specs.Prelude.{◌≡◌, ◌↔◌, ◌⊎◌, ℕ, ◌<◌, List, Bool, true, false, IsTrue, IfOk};
 ghost use Rattle.sr_model.specs.Graph.{node_count, link_count, tail};
 ghost use Rattle.sr_model.specs.Walk.{IsRow};
-ghost use Rattle.sr_model.specs.Case.{IsCase, source_of};
+ghost use Rattle.sr_model.specs.Case.{IsCase};
 ghost use Rattle.sr_lanes.specs.Bits.{is_in};
 ghost use Rattle.sr_spf.specs.Trees.{AreTrees};
 ghost use Rattle.sr_post.specs.Marks.{AreTails, AreWalks, HasNodesBefore, IsOneBefore, IsRowAfter, LeadsAlong};

@@ -1,6 +1,6 @@
 //! Reads a line.
 
-ghost use Rattle.std.specs.Prelude.{◌≡◌, ◌≤◌, ◌↔◌, false, true, IsTrue, IfOk, IfErr, MatchOption, codes};
+ghost use Rattle.std.specs.Prelude.{◌≡◌, ◌↔◌, false, true, IsTrue, IfOk, IfErr, MatchOption, codes};
 ghost use Rattle.sr_script.specs.Words.{words as words_in, word_at};
 ghost use Rattle.sr_script.specs.Answers.{IsQuestionOf};
 ghost use Rattle.sr_script.specs.Says.{is_question};

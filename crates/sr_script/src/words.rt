@@ -1,6 +1,6 @@
 //! The words of a line.
 
-ghost use Rattle.std.specs.Prelude.{◌≡◌, ◌↔◌, ℕ, List, [], ◌<◌, IsTrue, min, length, slice_index_or};
+ghost use Rattle.std.specs.Prelude.{◌≡◌, ◌↔◌, ℕ, List, [], ◌<◌, IsTrue, min, length};
 ghost use Rattle.sr_script.specs.Words.{words as words_in, word_at};
 
 use crate::cursor::next_word;

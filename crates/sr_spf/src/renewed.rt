@@ -4,7 +4,7 @@ ghost use Rattle.sr_model.specs.Graph.{node_count, link_count};
 ghost use Rattle.sr_spf.specs.Carried.{AreCarried};
 ghost use Rattle.sr_spf.specs.Hops.{AreHopsFrom};
 ghost use Rattle.sr_spf.specs.Trees.{AreRows, AreHopTables};
-ghost use Rattle.sr_spf.specs.Renewed.{fallen, searches, rows_found, moved_link, moved_links, moved_table, row_found, AreInPlace, AreStayingRows, AreStayingTables, IsFoundRow, AreFoundRows, IsFoundTable};
+ghost use Rattle.sr_spf.specs.Renewed.{fallen, searches, rows_found, moved_table, row_found, AreInPlace, AreStayingRows, AreStayingTables, IsFoundRow, AreFoundRows, IsFoundTable};
 
 use crate::hops::{HopTable, hops_of};
 use crate::rows::{Counted, measured};

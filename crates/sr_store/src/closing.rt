@@ -1,5 +1,5 @@
 //! The end of a store: the close mark, and the last turn of each reader.
-ghost use Rattle.std.specs.Prelude.{◌≡◌, ◌-◌, ◌^◌, min, true, false, All, [], ◌≤◌, IfOk, IfErr, MatchResult, vec_len, vec_capacity};
+ghost use Rattle.std.specs.Prelude.{◌≡◌, ◌-◌, true, false, All, [], ◌≤◌, IfOk, IfErr, MatchResult, vec_len, vec_capacity};
 ghost use Rattle.std.specs.Arc.{arc_value};
 ghost use Rattle.sr_store.specs.Counts.{counted, usage_turned};
 ghost use Rattle.sr_store.specs.Closes.{Ended, HaveEnded, turns_of};

@@ -1,7 +1,7 @@
 //! The turns, which left_right may refuse: no clause of it says when, nor that what is shown is never shorter than before. So these
 //! lines are trusted. Its documentation refuses a turn where the writer is gone, which isn't so here. As a body that always refused
 //! would be proved too, each refused `grab` is counted, and the tests find none. A refused place (`opening.rt`) is a reader fewer.
-ghost use Rattle.std.specs.Prelude.{◌≡◌, ◌+◌, true, false, IfOk, IfSome};
+ghost use Rattle.std.specs.Prelude.{◌≡◌, ◌+◌, true, false, IfOk};
 ghost use Rattle.std.specs.Option.{ForSome};
 ghost use Rattle.left_right.specs.Sides.{view};
 ghost use Rattle.sr_store.specs.Counts.{counted};

@@ -1,5 +1,5 @@
 //! The history of a store: it exists in proofs alone, but for its length and whether it is closed.
-ghost use Rattle.std.specs.Prelude.{◌≡◌, ◌+◌, ◌<◌, ◌≤◌, ◌^◌, ◌++◌, ◌∷◌, [], length, false, IfSome, MatchBool};
+ghost use Rattle.std.specs.Prelude.{◌≡◌, ◌+◌, ◌<◌, ◌^◌, ◌++◌, ◌∷◌, [], length, false, IfSome, MatchBool};
 ghost use Rattle.sr_store.specs.Histories.{Begins, IsNext, NumbersRise, with_mark, with_version};
 ghost use Rattle.sr_store.specs.Rules.{named_head};
 

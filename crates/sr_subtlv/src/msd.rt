@@ -1,6 +1,6 @@
 //! Maximum SID depths of a node (RFC 8491, 2): read, written, and what they hold.
 
-ghost use Rattle.std.specs.Prelude.{◌≡◌, ◌↔◌, ℕ, ◌*◌, ◌%◌, ◌≤◌, ◌++◌, List, length, IfOk, OnErr, OnOk};
+ghost use Rattle.std.specs.Prelude.{◌≡◌, ◌↔◌, ◌*◌, ◌%◌, ◌≤◌, ◌++◌, List, length, IfOk, OnErr, OnOk};
 ghost use Rattle.sr_wire.specs.Octets.{Continues};
 ghost use Rattle.sr_wire.specs.Fields.{sub_text};
 ghost use Rattle.sr_subtlv.specs.declared.msd.Msd.{Msd};

@@ -1,6 +1,6 @@
 //! SR-Capabilities (RFC 8667, 3.1): read, written, and what they hold.
 
-ghost use Rattle.std.specs.Prelude.{◌≡◌, ◌↔◌, ℕ, ◌≤◌, ◌+◌, ◌*◌, ◌++◌, List, length, take, drop, All, IfOk, IfSome, IsTrue, MatchOption, OnErr, OnOk};
+ghost use Rattle.std.specs.Prelude.{◌≡◌, ◌↔◌, ◌≤◌, ◌+◌, ◌*◌, ◌++◌, List, length, take, drop, All, IfOk, IfSome, IsTrue, MatchOption, OnErr, OnOk};
 ghost use Rattle.sr_wire.specs.Octets.{Continues};
 ghost use Rattle.sr_model.specs.declared.label.Range.{Range};
 ghost use Rattle.sr_wire.specs.Fields.{sub_text};

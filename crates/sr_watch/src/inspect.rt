@@ -1,5 +1,5 @@
 //! What a watcher does in one round.
-ghost use Rattle.std.specs.Prelude.{◌≡◌, ℕ, IfOk};
+ghost use Rattle.std.specs.Prelude.{IfOk};
 ghost use Rattle.std.specs.Thread.{IsSync};
 ghost use Rattle.sr_watch.specs.Rounds.{IsRound, inspection_by};
 

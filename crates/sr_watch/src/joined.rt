@@ -1,8 +1,8 @@
 //! What a watch hands back.
-ghost use Rattle.std.specs.Prelude.{◌≡◌, ◌+◌, ◌≤◌, ◌++◌, [], true, IfOk, IsOkAnd, vec_len};
+ghost use Rattle.std.specs.Prelude.{◌≡◌, ◌+◌, ◌++◌, [], true, IfOk, IsOkAnd, vec_len};
 ghost use Rattle.sr_watch.specs.Rounds.{inspection_by};
 ghost use Rattle.sr_watch.specs.Joins.{Back, SeatedRounds, ApartRounds};
-ghost use Rattle.sr_watch.specs.Turns.{BackSoFar, ApartSoFar, IsRoomFor};
+ghost use Rattle.sr_watch.specs.Turns.{IsRoomFor};
 
 use crate::apart::{Apart, Rounds};
 use crate::inspect::{Inspect, Round};

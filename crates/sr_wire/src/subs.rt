@@ -1,6 +1,6 @@
 //! Reading a run of sub-TLVs: one loop, whatever they say.
 
-ghost use Rattle.std.specs.Prelude.{◌≡◌, ◌≤◌, ◌++◌, ◌∷◌, [], List, length, IfErr, MatchResult, OnOk};
+ghost use Rattle.std.specs.Prelude.{◌≤◌, ◌++◌, ◌∷◌, [], List, length, IfErr, MatchResult, OnOk};
 ghost use Rattle.sr_wire.specs.Fault.{IfMalformed};
 ghost use Rattle.sr_wire.specs.Sub.{AreSubs, SubFault};
 ghost use Rattle.sr_wire.specs.Tlv.{Tlv};

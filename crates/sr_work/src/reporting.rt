@@ -1,5 +1,5 @@
 //! The reports of the rounds that were made.
-ghost use Rattle.std.specs.Prelude.{◌≡◌, ◌-◌, ◌++◌, map, IfOk, OnOk};
+ghost use Rattle.std.specs.Prelude.{◌≡◌, ◌-◌, map, IfOk};
 ghost use Rattle.sr_work.specs.Reported.{report_of, is_refused, report_made, AreMade};
 
 use sr_audit::counts;

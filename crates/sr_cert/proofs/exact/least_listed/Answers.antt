@@ -1,5 +1,5 @@
 use Rattle.std.proofs.Common.{arith}
-use Rattle.sr_graph.specs.Members.{IsListed}
+use Rattle.sr_graph.specs.Members.{IsInList}
 use Rattle.sr_cert.specs.Settled.{heading_of}
 use Rattle.sr_cert.proofs.OfferLemmas.{least-none, listed-more, least-same}
 use Rattle.sr_cert.proofs.exact.least_listed.Goals as goal
@@ -14,7 +14,7 @@ loop-link-preserved c =
 
 pub returns : goal.returns
 returns c =
-    least-same c.args.graph.now c.args.x.now (heading_of c.args.course) c.args.cells.now _ (IsListed c.args.links.now) _
+    least-same c.args.graph.now c.args.x.now (heading_of c.args.course) c.args.cells.now _ (IsInList c.args.links.now) _
     (λ k within r. (r.0, omega (arith, r.1, c.loop-link.auto.link-index-end), r.2))
     (λ k within r. (r.0, omega (arith, r.1, c.loop-link-test.false), r.2))
     c.loop-link.invariant

@@ -19,7 +19,7 @@ new-scene-requires-clause-pivot c =
 pub kept_lists-requires-clause-wanted : goal.kept_lists-requires-clause-wanted
 kept_lists-requires-clause-wanted c v is = affected-within c.args.net.now c.args.case v c.graph.ensures.accepted.nodes ((c.requires.wanted v).0 is)
 
--- what is kept is what is listed in the case
+-- what the pass keeps is what is listed in the case
 listed : (c : In_ok-kept) → AreLists c.args.net.now c.args.case (entries c.in_ok-kept.field-0.segments.items c.in_ok-kept.field-0.outcomes.items c.in_ok-kept.field-0.kept.items)
 listed c =
     let source : c.link.result.from.0 ≡ source_of c.args.net.now.graph c.args.case = ap (λ (k : Link). k.from.0) c.link.ensures.link ∙ ap (λ g. tail g c.args.case.link.0) c.graph.ensures.value in
