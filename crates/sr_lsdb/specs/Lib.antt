@@ -7,3 +7,5 @@ pub mod Sides
 pub mod Editing
 pub mod Staging
 pub mod Draft
+pub mod Renewed
+pub mod Alike

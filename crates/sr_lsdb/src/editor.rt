@@ -1,11 +1,12 @@
 //! The edits of the facts: staged one by one, and then accepted or dropped together.
-ghost use Rattle.std.specs.Prelude.{◌≡◌, ◌<◌, ◌≤◌};
+ghost use Rattle.std.specs.Prelude.{◌≡◌, ◌<◌, ◌≤◌, ◌↔◌, IsTrue};
 ghost use Rattle.sr_wire.specs.declared.registry.TheConstants.{MAXIMUM_METRIC};
 ghost use Rattle.sr_lsp.specs.InRange.{FitsLsp};
 ghost use Rattle.sr_model.specs.declared.limits.TheConstants.{MOST_DEPTH};
 ghost use Rattle.sr_lsdb.specs.Edit.Edit.{BringUp, SetCost, SetDepth, TakeDown};
 ghost use Rattle.sr_lsdb.specs.Editing.{IsSteady, opening, with_accepted, with_none_staged};
 ghost use Rattle.sr_lsdb.specs.Facts.{AreInRange};
+ghost use Rattle.sr_lsdb.specs.Renewed.{SayTheSame};
 ghost use Rattle.sr_lsdb.specs.Staging.{Stages, StagesLsp};
 
 use crate::facts::{Facts, Stored};
@@ -73,6 +74,14 @@ impl Editor {
         ensures steady { IsSteady self.now }
     {
         self.staged
+    }
+
+    /// Whether the tentative facts say the same as the accepted ones, but for the depth: as where PDUs were flooded
+    /// anew, or nothing is staged. Only what the edits touched is compared, and no memory is taken.
+    pub fn says_the_same(&self) -> bool
+        ensures { IsTrue result ↔ SayTheSame self.now.accepted self.now.tentative }
+    {
+        self.staged == 0 || self.sides.says_the_same()
     }
 
     /// Stages a PDU, and answers how many edits are staged. It is `Stale` where it isn't newer than what the tentative

@@ -1,6 +1,9 @@
 //! The facts of a domain.
 ghost use Rattle.std.specs.Prelude.{◌≡◌, ◌↔◌, [], Some, IfOk, OnOk, OnErr, MatchOption, IsTrue};
+ghost use Rattle.sr_lsdb.specs.declared.touched.Touched.{Touched as Name};
+ghost use Rattle.sr_lsdb.specs.Alike.{IsAlikeAt};
 ghost use Rattle.sr_lsdb.specs.Facts.{IsTaken, no_facts, stored_of, stored_under};
+ghost use Rattle.sr_lsdb.specs.Renewed.{SayTheSame};
 ghost use Rattle.sr_lsdb.specs.Staging.{IsStale};
 ghost use Rattle.sr_lsdb.specs.Touched.{Agree, Follows};
 
@@ -117,6 +120,16 @@ impl Facts {
         ensures { self.now ≡ other.now }
     {
         self.database.settle(&other.database);
+        self.costs.settle(&other.costs);
+        self.downs.settle(&other.downs);
+    }
+
+    /// Facts that are alike at every name say the same.
+    pub(crate) fn settle_said(&self, other: &Facts)
+        requires { (name : Name) → IsAlikeAt name self.now other.now }
+        ensures { SayTheSame self.now other.now }
+    {
+        self.database.settle_said(&other.database);
         self.costs.settle(&other.costs);
         self.downs.settle(&other.downs);
     }

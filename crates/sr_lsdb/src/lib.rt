@@ -5,6 +5,7 @@ mod editor;
 mod facts;
 mod laws;
 mod limits;
+mod same;
 mod shared;
 mod sides;
 mod stage_fault;

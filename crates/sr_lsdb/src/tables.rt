@@ -8,7 +8,9 @@ ghost use Rattle.sr_model.specs.declared.name.LinkKey.{LinkKey as Key};
 ghost use Rattle.sr_model.specs.declared.name.PairKey.{PairKey as Pair};
 ghost use Rattle.sr_model.specs.KeyOrder.{key_cmp};
 ghost use Rattle.sr_lsp.specs.declared.lsp.LspId.{LspId as Id};
+ghost use Rattle.sr_lsdb.specs.Alike.{said_at};
 ghost use Rattle.sr_lsdb.specs.Order.{id_cmp, pair_cmp};
+ghost use Rattle.sr_lsdb.specs.Renewed.{all_said};
 ghost use Rattle.sr_lsdb.specs.Tables.{TakesOver, is_down, metric_at, stored_at};
 
 use crate::facts::Stored;
@@ -93,6 +95,16 @@ impl Database {
         ensures { self.now ≡ other.now }
     {
         // Nothing is done with the counts: what `len` promises says that both are in order, and so the same.
+        let _ = self.entries.len();
+        let _ = other.entries.len();
+    }
+
+    /// Databases of which the same is said under every id say the same.
+    pub(crate) fn settle_said(&self, other: &Database)
+        requires { (id : Id) → said_at self.now id ≡ said_at other.now id }
+        ensures { all_said self.now ≡ all_said other.now }
+    {
+        // Nothing is done with the counts: what `len` promises says that both are in order.
         let _ = self.entries.len();
         let _ = other.entries.len();
     }

@@ -9,3 +9,4 @@ pub mod HeaderLemmas
 pub mod LspLemmas
 pub mod TruncationLemmas
 pub mod LayoutLemmas
+mod SameLemmas

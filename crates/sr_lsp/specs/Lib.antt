@@ -13,3 +13,4 @@ pub mod Text
 pub mod Truncation
 pub mod WriteFault
 pub mod Layouts
+pub mod Said

@@ -14,6 +14,7 @@ mod prefix;
 mod prefix_extent;
 mod reach;
 mod risk;
+mod same;
 mod table;
 mod write_fault;
 mod writing;

@@ -1,8 +1,8 @@
 //! The parts of a link-state PDU: an array for each kind, and their order beside them, so that a part takes no more memory
 //! than its kind does.
 
-ghost use Rattle.std.specs.Prelude.{◌≡◌, ◌<◌, ◌≤◌, [], length, IfOk, slice_index_or};
-ghost use Rattle.sr_lsp.specs.Parts.{AreEmpty, AreUnmoved, IsPutAway, part_of};
+ghost use Rattle.std.specs.Prelude.{◌≡◌, ◌<◌, length, IfOk, slice_index_or};
+ghost use Rattle.sr_lsp.specs.Parts.{AreEmpty, IsPutAway, part_of};
 
 use crate::capability::Capability;
 use crate::name::Name;

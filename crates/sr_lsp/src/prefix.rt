@@ -1,8 +1,8 @@
 //! Extended IP reachability, TLV 135 (RFC 5305, 4): read, written, and what it holds.
 
-ghost use Rattle.std.specs.Prelude.{◌≡◌, ℕ, ◌↔◌, ◌<◌, ◌≤◌, ◌+◌, ◌^◌, ◌++◌, ◌%◌, ◌∷◌, [], ◌==◌, List, All, bit_and, drop, length, not, replicate, slice_index, slice_range, take, IfNone, IfSome, IsTrue, OnErr, OnOk};
+ghost use Rattle.std.specs.Prelude.{◌≡◌, ℕ, ◌↔◌, ◌<◌, ◌≤◌, ◌+◌, ◌^◌, ◌++◌, ◌%◌, ◌∷◌, [], ◌==◌, List, All, drop, length, replicate, slice_index, slice_range, take, IfNone, IfSome, IsTrue, OnErr, OnOk};
 ghost use Rattle.byteorder.specs.Endian.{big_bytes, big_number};
-ghost use Rattle.sr_wire.specs.Octets.{Continues, number, octet};
+ghost use Rattle.sr_wire.specs.Octets.{Continues, octet};
 ghost use Rattle.sr_lsp.specs.declared.table.Part.{Part};
 ghost use Rattle.sr_wire.specs.Entries.{if_some};
 ghost use Rattle.sr_wire.specs.Fields.{SayFields};

@@ -1,6 +1,6 @@
 //! Extended IS reachability, TLV 22 (RFC 5305, 3): read, written, and what it holds.
 
-ghost use Rattle.std.specs.Prelude.{◌≡◌, ℕ, ◌↔◌, ◌<◌, ◌≤◌, ◌+◌, ◌^◌, ◌++◌, ◌∷◌, [], List, length, drop, slice_index, IfErr, IfNone, IfSome, IsTrue, MatchResult, OnErr, OnOk};
+ghost use Rattle.std.specs.Prelude.{◌≡◌, ℕ, ◌<◌, ◌≤◌, ◌+◌, ◌^◌, ◌++◌, ◌∷◌, [], List, length, drop, slice_index, IfErr, IfNone, IfSome, MatchResult, OnErr, OnOk};
 ghost use Rattle.sr_wire.specs.Octets.{Continues};
 ghost use Rattle.byteorder.specs.Endian.{big_bytes};
 ghost use Rattle.sr_wire.specs.Fault.{IfMalformed};

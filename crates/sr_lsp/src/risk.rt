@@ -1,9 +1,8 @@
 //! Shared-risk link groups, TLV 138 (RFC 5307, 1.4): read, written, and what they hold.
 
-ghost use Rattle.std.specs.Prelude.{◌≡◌, ℕ, ◌%◌, ◌≤◌, ◌+◌, ◌++◌, ◌∷◌, [], List, length, IfErr, IfSome, MatchOption, MatchResult, OnErr, OnOk};
+ghost use Rattle.std.specs.Prelude.{◌≡◌, ◌%◌, ◌≤◌, ◌+◌, ◌++◌, ◌∷◌, [], length, IfSome, MatchOption, OnErr, OnOk};
 ghost use Rattle.sr_wire.specs.Octets.{Continues};
 ghost use Rattle.byteorder.specs.Endian.{big_bytes};
-ghost use Rattle.sr_wire.specs.Fault.{IfMalformed};
 ghost use Rattle.sr_wire.specs.Numbers.{bit_if, numbers_text};
 ghost use Rattle.sr_lsp.specs.declared.table.Part.{Part};
 ghost use Rattle.sr_lsp.specs.Risk.{CutField, risk_kind};

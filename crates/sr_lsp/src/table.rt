@@ -1,6 +1,6 @@
 //! The table of the kinds of TLVs: a row each in the enum and in the two matches.
 
-ghost use Rattle.std.specs.Prelude.{◌≡◌, ℕ, ◌↔◌, ◌≤◌, ◌++◌, List, length, IfErr, IsTrue, MatchResult, OnErr, OnOk};
+ghost use Rattle.std.specs.Prelude.{◌≡◌, ◌↔◌, ◌≤◌, ◌++◌, List, length, IfErr, IsTrue, MatchResult, OnErr, OnOk};
 ghost use Rattle.sr_wire.specs.Octets.{Continues};
 ghost use Rattle.sr_wire.specs.Fault.{IfMalformed};
 ghost use Rattle.sr_wire.specs.Format.{TlvSays, ValueFault};

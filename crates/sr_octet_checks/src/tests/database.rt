@@ -187,3 +187,81 @@ fn dropped_edits_of_a_link_are_not_in_the_next_batch(rt: HostRuntime) {
     stage_third(&rt, &mut editor, &key);
     drop(editor);
 }
+
+/// A PDU as changed octets of the first, and whether it says the same as the first.
+struct Renewal {
+    changes: &'static [(usize, u8)],
+    is_same: bool,
+}
+
+/// The first PDU with another sequence number, and then: another lifetime and checksum; another
+/// metric; the overload bit; another size of the label range; no lifetime.
+const RENEWALS: [Renewal; 5] = [
+    Renewal {
+        changes: &[(23, 2), (10, 3), (24, 0x5a), (25, 1)],
+        is_same: true,
+    },
+    Renewal {
+        changes: &[(23, 2), (56, 11)],
+        is_same: false,
+    },
+    Renewal {
+        changes: &[(23, 2), (26, 7)],
+        is_same: false,
+    },
+    Renewal {
+        changes: &[(23, 2), (39, 0x41)],
+        is_same: false,
+    },
+    Renewal {
+        changes: &[(23, 2), (10, 0), (11, 0)],
+        is_same: false,
+    },
+];
+
+/// The first PDU is accepted.
+fn accept_first(rt: &impl Abort, alloc: Global, editor: &mut Editor) {
+    let first = count(&stage(alloc, editor, &[]));
+    assert_eq!(rt; (first, editor.says_the_same()), (Some(1), false));
+    editor.accept();
+    assert!(rt; editor.says_the_same());
+}
+
+/// Each renewal is staged by itself, and dropped.
+fn check_renewals(rt: &impl Abort, alloc: Global, editor: &mut Editor) {
+    for renewal in &RENEWALS {
+        let staged = count(&stage(alloc, editor, renewal.changes));
+        assert_eq!(rt;
+            (staged, editor.says_the_same()),
+            (Some(1), renewal.is_same)
+        );
+        assert_eq!(rt; editor.drop_staged(), 1);
+        assert!(rt; editor.says_the_same());
+    }
+}
+
+/// The PDU is replaced by one of another metric, and that by one that says what was said.
+fn replace_twice(rt: &impl Abort, alloc: Global, editor: &mut Editor) {
+    let changed = count(&stage(alloc, editor, &[(23, 2), (56, 11)]));
+    assert_eq!(rt; (changed, editor.says_the_same()), (Some(1), false));
+    let back = count(&stage(alloc, editor, &[(23, 3)]));
+    assert_eq!(rt; (back, editor.says_the_same()), (Some(2), true));
+}
+
+/// A depth says the same, and a metric that is set doesn't.
+fn stage_depth_and_cost(rt: &impl Abort, editor: &mut Editor) {
+    let depth = count(&editor.stage_depth(5));
+    assert_eq!(rt; (depth, editor.says_the_same()), (Some(3), true));
+    let cost = count(&editor.stage_cost(&key(1, 2, Ident::None), 10));
+    assert_eq!(rt; (cost, editor.says_the_same()), (Some(4), false));
+}
+
+#[test]
+fn a_pdu_that_is_only_flooded_anew_says_the_same(rt: HostRuntime) {
+    let mut editor = Editor::new(rt.alloc());
+    accept_first(&rt, rt.alloc(), &mut editor);
+    check_renewals(&rt, rt.alloc(), &mut editor);
+    replace_twice(&rt, rt.alloc(), &mut editor);
+    stage_depth_and_cost(&rt, &mut editor);
+    drop(editor);
+}
