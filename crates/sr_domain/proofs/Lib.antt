@@ -24,3 +24,4 @@ pub mod KeyLemmas
 pub mod DeterminedLists
 pub mod DeterminedNets
 pub mod DeterminedRules
+pub mod RenewedLemmas

@@ -9,3 +9,4 @@ pub mod Net
 pub mod Determined
 pub mod Named
 pub mod Steps
+pub mod Renewed

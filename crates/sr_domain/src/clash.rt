@@ -1,9 +1,8 @@
 //! The rules on the labels of all nodes together.
-ghost use Rattle.std.specs.Prelude.{◌≡◌, ◌<◌, ℕ, length, All, Contains, IfOk, IfErr};
+ghost use Rattle.std.specs.Prelude.{◌≡◌, ◌<◌, length, All, Contains, IfOk, IfErr};
 ghost use Rattle.std.specs.List.{filter_map};
 ghost use Rattle.std.specs.List.Sorted.{IsStrictlyIncreasing};
 ghost use Rattle.sr_labels.specs.Rules.{AreOfNodes, HaveSrgbs};
-ghost use Rattle.sr_domain.specs.declared.links.FoundLink.{FoundLink as Found};
 ghost use Rattle.sr_domain.specs.Links.{place_in, adj_label_by, JoinsNodes};
 ghost use Rattle.sr_domain.specs.Rules.{AreKept, IsDomainFault};
 ghost use Rattle.sr_domain.specs.Steps.{AreLabelled};

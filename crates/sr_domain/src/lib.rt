@@ -27,6 +27,7 @@ pub use fault::DomainFault;
 pub use gathered::{Gathered, gather_facts};
 pub use laws::{
     adjacency_labels_are_the_least, nets_are_determined, node_sids_are_the_first_least,
+    same_facts_have_the_same_net,
 };
 pub use links::{FoundLink, effective_metric, link_by};
 pub use net::net_of;

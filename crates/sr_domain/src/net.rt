@@ -35,7 +35,7 @@ fn assemble(
 {
     let adj = label_list(alloc, links)?;
     let announced = keys_of(alloc, two_way)?;
-    Ok(Net::new(graph, labels, adj, announced, facts.depth))
+    Net::new(alloc, graph, labels, adj, announced, facts.depth)
 }
 
 /// The net of what is gathered, or the first broken rule on nodes and links.

@@ -3,3 +3,4 @@ pub mod Rules
 pub mod Keys
 pub mod Indices
 pub mod Adjacencies
+pub mod Depth

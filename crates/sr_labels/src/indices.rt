@@ -1,11 +1,10 @@
 //! The rules on the indices of node segments.
-ghost use Rattle.std.specs.Prelude.{◌≡◌, ◌≢◌, ℕ, ◌+◌, ◌<◌, ◌≤◌, None, length, IsPermutation, IfOk, MatchOption};
-ghost use Rattle.sr_model.specs.Label.{label_of, sizes, IsSrgb};
+ghost use Rattle.std.specs.Prelude.{◌≡◌, ◌<◌, None, length, IfOk, MatchOption};
+ghost use Rattle.sr_model.specs.Label.{sizes, IsSrgb};
 ghost use Rattle.sr_model.specs.Rule.{node_at, NoOutside, IsLeastOutside};
-ghost use Rattle.sr_labels.specs.declared.indices.NodeIndex.{NodeIndex as Entry};
 ghost use Rattle.sr_labels.specs.declared.indices.Outside.{Outside as Found};
 ghost use Rattle.sr_labels.specs.Rules.{HaveSrgbs};
-ghost use Rattle.sr_labels.specs.Indices.{IsIndexEntry, AreByNode, AreByIndex, NoTwins, IsFirstTwin, AreAtLeast, IsFirstWithout};
+ghost use Rattle.sr_labels.specs.Indices.{AreByNode, AreByIndex, NoTwins, IsFirstTwin, AreAtLeast, IsFirstWithout};
 
 use crate::node::NodeLabels;
 use std::alloc::{AllocError, Global};

@@ -1,5 +1,5 @@
 //! The SRGB of a node: label ranges, and the way between indices and labels.
-ghost use Rattle.std.specs.Prelude.{◌≡◌, ℕ, ◌<◌, ◌↔◌, length, IfOk, IfErr, IsTrue};
+ghost use Rattle.std.specs.Prelude.{◌≡◌, ◌<◌, ◌↔◌, length, IfOk, IfErr, IsTrue};
 ghost use Rattle.sr_model.specs.Label.{label_of, sizes, IsIndexOf, IsWithin, AreApart, IsGoodAt, IsSrgb};
 ghost use Rattle.sr_labels.specs.Ranges.{IsSrgbRefusal};
 

@@ -57,5 +57,5 @@ pub(crate) fn labelled_net(alloc: Global, net: &Net) -> Result<Net, AllocError>
     let adj = whole_links(alloc, graph.node_count(), graph.link_count())?;
     let keys = link_keys(alloc, graph)?;
     let copy = graph.copied(alloc)?;
-    Ok(Net::new(copy, nodes, adj, keys, net.depth()))
+    Net::new(alloc, copy, nodes, adj, keys, net.depth())
 }

@@ -253,7 +253,7 @@ pub fn net_with(alloc: Global, graph: Graph, first: u32, depth: u8) -> Result<Ne
     let announced = keys_of(alloc, &graph)?;
     match first_clash(alloc, &nodes, &[])? {
         Some(_) => Err(Fail::new("labels clash")),
-        None => Ok(Net::new(graph, nodes, adj, announced, depth)),
+        None => Ok(Net::new(alloc, graph, nodes, adj, announced, depth)?),
     }
 }
 

@@ -152,7 +152,7 @@ pub fn net_of(alloc: Global, graph: Graph) -> Result<Net, Fail> {
         None => {
             let adj = vec![in alloc; None; graph.link_count() as usize]?;
             let announced = keys_of(alloc, &graph)?;
-            Ok(Net::new(graph, nodes, adj, announced, 3))
+            Ok(Net::new(alloc, graph, nodes, adj, announced, 3)?)
         }
     }
 }

@@ -1,5 +1,4 @@
 //! A version that is a number alone.
-ghost use Rattle.std.specs.Prelude.{◌≡◌};
 
 use sr_base::Numbered;
 

@@ -1,6 +1,8 @@
-use Rattle.std.proofs.Common.{List, subst}
+use Rattle.std.proofs.Common.{List, sym, subst}
+use Rattle.std.proofs.lemmas.Result.{IfOk-weaker}
 use Rattle.sr_domain.specs.declared.announced.Announcement.{Announcement}
 use Rattle.sr_domain.specs.Announced.{AreKeysOf}
+use Rattle.sr_domain.specs.Net.{IsNetOf}
 use Rattle.sr_domain.proofs.NetLemmas.{accepted, net-of}
 use Rattle.sr_domain.proofs.net.assemble.Goals as goal
 
@@ -11,5 +13,8 @@ new-requires c =
 
 pub returns : goal.returns
 returns c =
-    rw (c.new.ensures, c.in_ok-adj.ensures) (net-of c.args.facts.now c.args.links.now c.args.graph c.requires.parts.graph c.requires.parts.same c.requires.parts.kept c.args.labels.items c.in_ok-announced.announced.items c.requires.parts.labels c.requires.parts.ranges
-    (subst (λ (l : List Announcement). AreKeysOf l c.in_ok-announced.announced.items) c.requires.two_way c.in_ok-announced.ensures) c.requires.parts.depth)
+    IfOk-weaker c.new.result _ _
+    (λ net is. subst (IsNetOf c.args.facts.now) (sym is)
+    (rw c.in_ok-adj.ensures (net-of c.args.facts.now c.args.links.now c.args.graph c.requires.parts.graph c.requires.parts.same c.requires.parts.kept c.args.labels.items c.in_ok-announced.announced.items c.requires.parts.labels c.requires.parts.ranges
+    (subst (λ (l : List Announcement). AreKeysOf l c.in_ok-announced.announced.items) c.requires.two_way c.in_ok-announced.ensures) c.requires.parts.depth)))
+    c.new.ensures
