@@ -4,11 +4,12 @@ use Rattle.std.specs.Prelude.{◌&&◌, not}
 use Rattle.std.proofs.lemmas.Bool.{and_from, and_left, and_right, cases_Bool, true≢false}
 use Rattle.sr_model.specs.declared.link.LinkNo.{LinkNo}
 use Rattle.sr_model.specs.declared.case.Case.{Case}
+use Rattle.sr_model.specs.declared.name.LinkKey.{LinkKey}
 use Rattle.sr_model.specs.Graph.{IsNamed, IsLink, link_at, node_count}
 use Rattle.sr_model.specs.Walk.{IsRow}
 use Rattle.sr_model.specs.Case.{IsFailedSet, IsOnRepairWay, source_of}
 use Rattle.sr_model.specs.Label.{Net}
-use Rattle.sr_model.specs.Stay.{HaveSameName, IsIdle, IsKeptCase, IsOfFailedPair, case_with}
+use Rattle.sr_model.specs.Stay.{HaveSameName, HaveSamePairs, IsChanged, IsIdle, IsKeptCase, IsOfFailedPair, case_with}
 use Rattle.sr_walks.proofs.Rows.{row-one}
 use Rattle.sr_laws.proofs.Keys.{key-one}
 use Rattle.sr_laws.proofs.Parts.{link_is}
@@ -60,30 +61,43 @@ kept-from_parts c m d link is changes same name here failures walks =
       way = λ w lt on. walks x.0 x.1 w lt on;
     }
 
--- changed links are idle after the failure where the case stays
-pub idle-from_kept : (n m : Net) (case : Case) (cells : List ℕ) (d : Differences) → ((x : List Bool) → IsFailedSet n.graph case x → IsRow n.graph x (source_of n.graph case) cells) → AreChanges n m d → d.same ≡ true → IsKeptCase n m case → AreIdleOrFailed n.graph case cells d.links
-idle-from_kept n m case cells d rows changes same k i lt free =
+-- changed links are idle after the failure where those of no failed pair are idle for a row without the failed links
+pub idle-from_row : (n m : Net) (case : Case) (cells post : List ℕ) (x : List Bool) (d : Differences) → ((z : List Bool) → IsFailedSet n.graph case z → IsRow n.graph z (source_of n.graph case) cells) → AreChanges n m d → d.same ≡ true
+    → IsFailedSet n.graph case x → IsRow n.graph x (source_of n.graph case) post
+    → ((key : LinkKey) → IsChanged n.graph m.graph key → (IsOfFailedPair n.graph x key → ⊥) → IsIdle n.graph m.graph post key)
+    → AreIdleOrFailed n.graph case cells d.links
+idle-from_row n m case cells post x d rows changes same failed row idle i lt free =
     let s : ℕ = source_of n.graph case in
-    let row : k.post ≡ cells = row-one n.graph k.x s k.post cells k.row (rows k.x k.failed) in
+    let one : post ≡ cells = row-one n.graph x s post cells row (rows x failed) in
     let a : Change = change_at d.links i in
-    let one : IsChange n.graph m.graph a = (changes.links same).each i lt in
-    let idle : IsIdle n.graph m.graph k.post a.key = k.idle a.key one.changed (λ of. free (failing-from_failed n.graph case k.x a.key k.failed of)) in
-    change-from_idle n.graph m.graph changes.old.named cells a one (subst (λ c. IsIdle n.graph m.graph c a.key) row idle)
+    let is : IsChange n.graph m.graph a = (changes.links same).each i lt in
+    let here : IsIdle n.graph m.graph post a.key = idle a.key is.changed (λ of. free (failing-from_failed n.graph case x a.key failed of)) in
+    change-from_idle n.graph m.graph changes.old.named cells a is (subst (λ c. IsIdle n.graph m.graph c a.key) one here)
 
 -- and the other way round
 pub here-from_kept : (c : Computed) (m : Net) (d : Differences) → IsComputed c → AreChanges c.net m d → d.same ≡ true → IsKeptCase c.net m c.case → IsKeptHere c m d.links
 here-from_kept c m d is changes same k = record {
   depth = k.depth;
   tree = k.tree;
-  idle = idle-from_kept c.net m c.case c.cells d is.row changes same k;
+  idle = idle-from_row c.net m c.case c.cells k.post k.x d is.row changes same k.failed k.row k.idle;
   index = λ v lt led. k.index v lt led.0 led.1;
 }
 
+-- the protected link has one partner
+pub partner-one : (n m : Net) (case : Case) → IsNamed m.graph → (link there : LinkNo) → HaveSameName n.graph m.graph case.link.0 link.0 → HaveSameName n.graph m.graph case.link.0 there.0 → there ≡ link
+partner-one n m case named link there name other = link_is there link (key-one m.graph named there.0 link.0 other.1 name.1 (other.2 ∙ sym name.2))
+
+-- so the failures are the same where the failed links are of the same pairs
+pub failures-from_pairs : (n m : Net) (case : Case) → IsNamed m.graph → (link there : LinkNo) → HaveSameName n.graph m.graph case.link.0 link.0 → HaveSameName n.graph m.graph case.link.0 there.0
+    → (x y : List Bool) → IsFailedSet n.graph case x → IsFailedSet m.graph (case_with case there) y → HaveSamePairs n.graph x m.graph y
+    → HaveSameFailures n.graph case m.graph (case_with case link)
+failures-from_pairs n m case named link there name other x y failed failed' pairs =
+    let e : there ≡ link = partner-one n m case named link there name other in
+    failures-from_same n.graph case x m.graph (case_with case link) y failed (subst (λ j. IsFailedSet m.graph (case_with case j) y) e failed') pairs
+
 pub failures-from_kept : (n m : Net) (case : Case) → IsNamed m.graph → (link : LinkNo) → HaveSameName n.graph m.graph case.link.0 link.0 → IsKeptCase n m case → HaveSameFailures n.graph case m.graph (case_with case link)
 failures-from_kept n m case named link name k =
-    let other : HaveSameName n.graph m.graph case.link.0 k.link.0 = k.protected in
-    let e : k.link ≡ link = link_is k.link link (key-one m.graph named k.link.0 link.0 other.1 name.1 (other.2 ∙ sym name.2)) in
-    failures-from_same n.graph case k.x m.graph (case_with case link) k.y k.failed (subst (λ j. IsFailedSet m.graph (case_with case j) k.y) e k.failed') k.pairs
+    failures-from_pairs n m case named link k.link name k.protected k.x k.y k.failed k.failed' k.pairs
 
 pub walks-from_kept : (n m : Net) (case : Case) → IsKeptCase n m case → AreWalksKept n m case
 walks-from_kept n m case k = λ x failed w lt on. k.way w lt (subst (λ z. IsOnRepairWay n case z w) (failed-one n.graph case x k.x failed k.failed) on)

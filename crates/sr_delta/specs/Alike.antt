@@ -3,6 +3,7 @@ use Rattle.std.specs.Prelude.{◌≡◌, ◌↔◌, ℕ, ◌<◌, ◌≤◌, tru
 use Rattle.sr_model.specs.Graph.{tail}
 use Rattle.sr_model.specs.Label.{Net, labels_at, adj_at}
 use Rattle.sr_model.specs.Stay.{HaveSameName, HasSameDepth}
+use Rattle.sr_laws.specs.Steady.{HasSameSegments}
 use Rattle.sr_lanes.specs.declared.words.NodeBits.{NodeBits}
 use Rattle.sr_lanes.specs.Bits.{is_in}
 use Rattle.sr_delta.specs.Grouped.{HaveSameGroupsAt}
@@ -29,10 +30,11 @@ pub record IsSetOf (test : ℕ → Type 0) (count : ℕ) (set : NodeBits) : Type
   pub each : (v : ℕ) → v < count → (is_in set v ≡ true) ↔ test v
   pub above : (v : ℕ) → count ≤ v → is_in set v ≡ false
 
--- the nodes with the same labels, with an index in both nets or in neither, with the same depth, with links of the same
--- pairs, and nodes with the same links in the same risk groups
+-- the nodes with the same labels, with the same segments, with an index in both nets or in neither, with the same depth,
+-- with links of the same pairs, and nodes with the same links in the same risk groups
 pub record Likeness : Type 0 where
   pub labels : NodeBits
+  pub segments : NodeBits
   pub indexed : NodeBits
   pub depths : NodeBits
   pub pairs : NodeBits
@@ -41,6 +43,7 @@ pub record Likeness : Type 0 where
 -- these are told of the nodes below this number; the groups of all links need not be told
 pub record AreAlike (n m : Net) (count : ℕ) (a : Likeness) : Type 0 where
   pub labels : IsSetOf (HasSameLabels n m) count a.labels
+  pub segments : IsSetOf (HasSameSegments n m) count a.segments
   pub indexed : IsSetOf (IsIndexedAlike n m) count a.indexed
   pub depths : IsSetOf (HasSameDepth n m) count a.depths
   pub pairs : IsSetOf (HaveSamePairsAt n.graph m.graph) count a.pairs

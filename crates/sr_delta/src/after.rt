@@ -1,5 +1,5 @@
 //! Whether changed links are idle after a failure.
-ghost use Rattle.std.specs.Prelude.{◌≡◌, ◌↔◌, ◌<◌, length, IsTrue};
+ghost use Rattle.std.specs.Prelude.{◌↔◌, ◌<◌, length, IsTrue};
 ghost use Rattle.sr_model.specs.Case.{IsCase};
 ghost use Rattle.sr_delta.specs.Changes.{AreWithin};
 ghost use Rattle.sr_delta.specs.Idle.{IsIdleOrFailed, AreIdleOrFailed};

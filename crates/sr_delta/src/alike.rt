@@ -2,8 +2,9 @@
 ghost use Rattle.std.specs.Prelude.{◌≡◌, ◌↔◌, ℕ, ◌<◌, ◌==◌, ◌||◌, if◌then◌else◌, is_some, IsTrue};
 ghost use Rattle.sr_lanes.specs.Bits.{is_in};
 ghost use Rattle.sr_model.specs.Graph.{node_count, link_count};
-ghost use Rattle.sr_model.specs.Label.{labels_at, adj_at};
+ghost use Rattle.sr_model.specs.Label.{adj_at};
 ghost use Rattle.sr_model.specs.Stay.{HaveSameName, HaveSameNodes, HasSameDepth};
+ghost use Rattle.sr_laws.specs.Steady.{HasSameSegments};
 ghost use Rattle.sr_lanes.specs.declared.limits.TheConstants.{NODES_AT_MOST as Most};
 ghost use Rattle.sr_delta.specs.Partners.{IsPartner, ArePartners};
 ghost use Rattle.sr_delta.specs.Changed.{AreChangedLinks};
@@ -18,12 +19,14 @@ use sr_lanes::NodeBits;
 use sr_model::{LinkNo, NodeNo};
 use std::marker::Model;
 
-/// The nodes that have the same index, flags and adjacency labels in two nets, those that have an index in both nets or
-/// in neither, those with the same maximum SID depth (MSD), those whose links are of the same pairs, and nodes whose
-/// links are of the same keys and in the same risk groups.
+/// The nodes that have the same index, flags and adjacency labels in two nets, those that have the same index and
+/// adjacency labels whatever their flags, those that have an index in both nets or in neither, those with the same
+/// maximum SID depth (MSD), those whose links are of the same pairs, and nodes whose links are of the same keys and in
+/// the same risk groups.
 #[derive(Debug, Drop)]
 pub(crate) struct Alike {
     labels: NodeBits,
+    segments: NodeBits,
     indexed: NodeBits,
     depths: NodeBits,
     pairs: NodeBits,
@@ -38,6 +41,7 @@ impl Model for Alike {
     ghost view = { λ a.
         record {
           labels = a.labels;
+          segments = a.segments;
           indexed = a.indexed;
           depths = a.depths;
           pairs = a.pairs;
@@ -50,6 +54,7 @@ impl Alike {
     pub(crate) fn none() -> Alike {
         Alike {
             labels: NodeBits::none(),
+            segments: NodeBits::none(),
             indexed: NodeBits::none(),
             depths: NodeBits::none(),
             pairs: NodeBits::none(),
@@ -62,6 +67,13 @@ impl Alike {
         ensures { result ≡ self.now.labels }
     {
         self.labels
+    }
+
+    /// The nodes with the same index and adjacency labels.
+    pub(crate) fn segments(&self) -> NodeBits
+        ensures { result ≡ self.now.segments }
+    {
+        self.segments
     }
 
     /// The nodes that have an index in both nets, or in neither.
@@ -128,22 +140,31 @@ fn same_adj(old: &Net, new: &Net, partners: &[Option<LinkNo>], v: NodeNo) -> boo
     true
 }
 
-/// Whether the index and the flags are the same.
-fn same_segment(old: &NodeLabels, new: &NodeLabels) -> bool
-    ensures { IsTrue result ↔ ((old.now.index ≡ new.now.index) × (old.now.keep ≡ new.now.keep)
-        × (old.now.explicit ≡ new.now.explicit)) }
-{
-    old.index() == new.index() && old.keep() == new.keep() && old.explicit() == new.explicit()
-}
-
-/// Whether the node has the same labels in both nets.
-fn same_labels(old: &Net, new: &Net, partners: &[Option<LinkNo>], v: NodeNo) -> bool
+/// Whether the node has the same segments in both nets.
+fn same_segments(old: &Net, new: &Net, partners: &[Option<LinkNo>], v: NodeNo) -> bool
     requires partners { ArePartners old.now.graph new.now.graph partners.now }
     requires old { v.0 < node_count old.now.graph }
     requires new { v.0 < node_count new.now.graph }
+    ensures { IsTrue result ↔ HasSameSegments old.now new.now v.0 }
+{
+    old.labels(v).index() == new.labels(v).index() && same_adj(old, new, partners, v)
+}
+
+/// Whether the flags are the same.
+fn same_flags(old: &NodeLabels, new: &NodeLabels) -> bool
+    ensures { IsTrue result ↔ ((old.now.keep ≡ new.now.keep) × (old.now.explicit ≡ new.now.explicit)) }
+{
+    old.keep() == new.keep() && old.explicit() == new.explicit()
+}
+
+/// Whether the node has the same labels in both nets. `segments` says whether its segments are the same.
+fn same_labels(old: &Net, new: &Net, v: NodeNo, segments: bool) -> bool
+    requires old { v.0 < node_count old.now.graph }
+    requires new { v.0 < node_count new.now.graph }
+    requires segments { IsTrue segments ↔ HasSameSegments old.now new.now v.0 }
     ensures { IsTrue result ↔ HasSameLabels old.now new.now v.0 }
 {
-    same_segment(old.labels(v), new.labels(v)) && same_adj(old, new, partners, v)
+    segments && same_flags(old.labels(v), new.labels(v))
 }
 
 /// Whether the node has an index in both nets, or in neither.
@@ -197,18 +218,22 @@ pub(crate) fn all_alike(
     ensures { AreAlike old.now new.now (node_count old.now.graph) result }
 {
     let mut labels = NodeBits::none();
+    let mut segments = NodeBits::none();
     let mut indexed = NodeBits::none();
     let mut depths = NodeBits::none();
     let mut pairs = NodeBits::none();
     for v in 0..old.graph().node_count() as u16 {
         let node = NodeNo(v);
-        labels = put(labels, node, same_labels(old, new, partners, node));
+        let same = same_segments(old, new, partners, node);
+        segments = put(segments, node, same);
+        labels = put(labels, node, same_labels(old, new, node, same));
         indexed = put(indexed, node, same_indexed(old, new, node));
         depths = put(depths, node, same_depth(old, new, node));
         pairs = put(pairs, node, same_pairs(old, new, links, node));
     }
     Alike {
         labels,
+        segments,
         indexed,
         depths,
         pairs,

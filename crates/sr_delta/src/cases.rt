@@ -1,6 +1,6 @@
 //! Whether a case stays.
 ghost use Rattle.std.specs.Prelude.{◌≡◌, ◌↔◌, ◌<◌, true, IsTrue};
-ghost use Rattle.sr_model.specs.Graph.{node_count, link_count};
+ghost use Rattle.sr_model.specs.Graph.{node_count};
 ghost use Rattle.sr_model.specs.Label.{Net as Labelled};
 ghost use Rattle.sr_model.specs.Stay.{HaveSameName, IsKeptCase, case_with};
 ghost use Rattle.sr_delta.specs.Changes.{AreChanges};

@@ -1,11 +1,11 @@
 //! The changed links of two graphs with the same nodes.
-ghost use Rattle.std.specs.Prelude.{◌≡◌, ◌<◌, ◌≤◌, length, IfOk, MatchOption, slice_index_or};
+ghost use Rattle.std.specs.Prelude.{◌≡◌, ◌<◌, IfOk, MatchOption};
 ghost use Rattle.sr_model.specs.Graph.{link_count, IsGraph, IsNamed};
 ghost use Rattle.sr_model.specs.Case.{key_at};
 ghost use Rattle.sr_model.specs.Stay.{HaveSameNodes, HasLink, IsChanged};
 ghost use Rattle.sr_delta.specs.declared.change.Change.{Change as Changed};
 ghost use Rattle.sr_delta.specs.Partners.{ArePartners, IsPartner};
-ghost use Rattle.sr_delta.specs.Changed.{change_of_link, IsChange, AreChangesAmong, AreChangedLinks, IsKeyBelow, IsOldOrBelow};
+ghost use Rattle.sr_delta.specs.Changed.{change_of_link, IsChange, AreChangesAmong, AreChangedLinks};
 
 use crate::change::Change;
 use sr_graph::Graph;

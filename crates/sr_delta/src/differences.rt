@@ -125,6 +125,13 @@ impl Changes {
         self.alike.labels()
     }
 
+    /// The nodes that have the same index in both nets, and the same adjacency label on each link in both.
+    pub fn segments_alike(&self) -> NodeBits
+        ensures { result ≡ self.now.alike.segments }
+    {
+        self.alike.segments()
+    }
+
     /// The nodes that have an index in both nets, or in neither.
     pub fn indexed_alike(&self) -> NodeBits
         ensures { result ≡ self.now.alike.indexed }

@@ -1,5 +1,5 @@
 //! Whether the nodes towards which a protected link leads have an index alike.
-ghost use Rattle.std.specs.Prelude.{◌≡◌, ◌↔◌, ◌<◌, [], true, length, IsTrue};
+ghost use Rattle.std.specs.Prelude.{◌≡◌, ◌↔◌, ◌<◌, [], true, IsTrue};
 ghost use Rattle.sr_model.specs.Graph.{Graph as Topology, node_count};
 ghost use Rattle.sr_model.specs.Label.{Net as Labelled};
 ghost use Rattle.sr_model.specs.Walk.{IsNextHop};

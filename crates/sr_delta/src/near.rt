@@ -1,5 +1,5 @@
 //! Whether the links at a node are of the same pairs in two nets.
-ghost use Rattle.std.specs.Prelude.{◌≡◌, ◌↔◌, ◌<◌, IsTrue};
+ghost use Rattle.std.specs.Prelude.{◌↔◌, IsTrue};
 ghost use Rattle.sr_model.specs.Stay.{HasLink, HaveSameNodes};
 ghost use Rattle.sr_delta.specs.Changed.{AreChangedLinks};
 ghost use Rattle.sr_delta.specs.Pairs.{HasPair, HaveSamePairsAt, IsPairedIfAt};

@@ -1,5 +1,5 @@
 //! Whether two graphs have the same nodes.
-ghost use Rattle.std.specs.Prelude.{◌≡◌, ◌↔◌, ℕ, ◌<◌, ◌≤◌, length, IsTrue, IfOk};
+ghost use Rattle.std.specs.Prelude.{◌≡◌, ◌↔◌, ℕ, ◌<◌, IsTrue, IfOk};
 ghost use Rattle.sr_model.specs.Graph.{node_count, is_overloaded};
 ghost use Rattle.sr_model.specs.Stay.{HaveSameNodes};
 

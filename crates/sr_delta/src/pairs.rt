@@ -1,8 +1,8 @@
 //! Keys of pairs whose links fail in a case.
-ghost use Rattle.std.specs.Prelude.{◌≡◌, ◌↔◌, ◌<◌, ℕ, Contains, IsTrue};
+ghost use Rattle.std.specs.Prelude.{◌↔◌, ◌<◌, Contains, IsTrue};
 ghost use Rattle.sr_model.specs.Key.{IsSamePair};
 ghost use Rattle.sr_model.specs.Graph.{link_count};
-ghost use Rattle.sr_model.specs.Case.{IsCase, FailsWith, Touches, ShareGroup, key_at};
+ghost use Rattle.sr_model.specs.Case.{IsCase, FailsWith, Touches, ShareGroup};
 ghost use Rattle.sr_graph.specs.Failed.{HaveCommon};
 ghost use Rattle.sr_delta.specs.Pairs.{IsFailingKey, IsOfFailingPair};
 

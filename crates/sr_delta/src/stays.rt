@@ -1,5 +1,5 @@
 //! Whether a tree stays.
-ghost use Rattle.std.specs.Prelude.{◌≡◌, ◌↔◌, ◌<◌, ◌≤◌, length, slice_index, IsTrue};
+ghost use Rattle.std.specs.Prelude.{◌≡◌, ◌↔◌, ◌<◌, length, IsTrue};
 ghost use Rattle.sr_model.specs.declared.link.TheConstants.{FAR as Far};
 ghost use Rattle.sr_model.specs.Label.{Net};
 ghost use Rattle.sr_model.specs.Stay.{IsKeptTree};

@@ -1,6 +1,6 @@
 //! Whether a case is steady.
-ghost use Rattle.std.specs.Prelude.{◌≡◌, ℕ, ◌<◌, ◌≤◌, true, false, length, IsTrue, Some, slice_get};
-ghost use Rattle.sr_model.specs.Graph.{node_count, link_count};
+ghost use Rattle.std.specs.Prelude.{◌≡◌, ◌↔◌, ℕ, ◌<◌, true, false, length, IsTrue, Some, slice_get};
+ghost use Rattle.sr_model.specs.Graph.{node_count};
 ghost use Rattle.sr_model.specs.Label.{Net as Labelled};
 ghost use Rattle.sr_model.specs.Stay.{HaveSameName, case_with};
 ghost use Rattle.sr_laws.specs.Steady.{IsSteadyCase};
@@ -28,8 +28,8 @@ use sr_spf::Trees;
 fn are_as_far(moved: &[NodeBits], nodes: NodeBits, to: NodeNo) -> bool
     requires inside { (u : ℕ) → is_in nodes u ≡ true → u < length moved.now }
     requires to { to.0 < Most }
-    ensures { IsTrue result → (u : ℕ) (set : Members) → is_in nodes u ≡ true → slice_get moved.now u ≡ Some set
-        → is_in set to.0 ≡ false }
+    ensures { IsTrue result ↔ ((u : ℕ) (set : Members) → is_in nodes u ≡ true → slice_get moved.now u ≡ Some set
+        → is_in set to.0 ≡ false) }
 {
     let mut left = nodes;
     'left: while let Some(u) = left.take_first() {
@@ -46,7 +46,7 @@ fn are_steps_kept(staying: &Staying, moved: &[NodeBits], old: &OldCase<'_>) -> b
     requires { length moved.now ≡ node_count old.now.net.graph }
     ensures { (m : Labelled) → AreStaying old.now.net m staying.now
         → AreMoved old.now.net.graph m.graph moved.now (node_count old.now.net.graph)
-        → IsTrue result → AreStepsKept old.now.net m old.now.case }
+        → IsTrue result ↔ AreStepsKept old.now.net m old.now.case }
 {
     let case = old.case();
     let graph = old.graph();
@@ -73,9 +73,9 @@ fn is_steady_here(
     ensures { (m : Labelled) → AreChanges old.now.net m changes.now → changes.now.same ≡ true
         → AreStaying old.now.net m staying.now
         → AreMoved old.now.net.graph m.graph moved.now (node_count old.now.net.graph)
-        → IsTrue result → IsSteadyHere old.now m changes.now.links }
+        → IsTrue result ↔ IsSteadyHere old.now m changes.now.links }
 {
-    if !old.walks().and_not(changes.labels_alike()).is_empty() {
+    if !old.walks().and_not(changes.segments_alike()).is_empty() {
         return false;
     }
     if !are_steps_kept(staying, moved, old) {
@@ -90,7 +90,7 @@ fn are_affected_alike(old: &OldCase<'_>, new: &Net, trees: &Trees, link: LinkNo)
     requires name { HaveSameName old.now.net.graph new.now.graph old.now.case.link.0 link.0 }
     requires trees { AreTrees new.now.graph trees.now }
     ensures { IsTrue result
-        → AreAffectedAlike old.now.net old.now.case new.now (case_with old.now.case link) }
+        ↔ AreAffectedAlike old.now.net old.now.case new.now (case_with old.now.case link) }
 {
     let case = old.case();
     let there = Case {
@@ -104,9 +104,10 @@ fn are_affected_alike(old: &OldCase<'_>, new: &Net, trees: &Trees, link: LinkNo)
     lost.or(gained).is_empty()
 }
 
-/// Whether the case of the old net is steady: what was listed for it is what would be listed in the new net, links matched by
-/// key, although trees of nodes on its walks may change elsewhere, and its source may let other lists through. `staying` are the nodes that stay, `moved` has
-/// for each node those to which it isn't as far as it was, and `trees` are those of the new net.
+/// Whether the case of the old net is steady: what was listed for it is what would be listed in the new net, links
+/// matched by key, although trees of nodes on its walks may change elsewhere, and its source may let other lists
+/// through. `staying` are the nodes that stay, `moved` has for each node those to which it isn't as far as it was, and
+/// `trees` are those of the new net.
 pub fn is_steady(
     changes: &Changes,
     staying: &Staying,
@@ -119,7 +120,7 @@ pub fn is_steady(
     requires staying { AreStaying old.now.net new.now staying.now }
     requires moved { AreMoved old.now.net.graph new.now.graph moved.now (node_count old.now.net.graph) }
     requires trees { AreTrees new.now.graph trees.now }
-    ensures { IsTrue result → IsSteadyCase old.now.net new.now old.now.case }
+    ensures { IsTrue result ↔ IsSteadyCase old.now.net new.now old.now.case }
 {
     match changes.partner(old.case().link) {
         None => false,

@@ -16,11 +16,11 @@ use Rattle.sr_model.specs.Walk.{IsRow}
 use Rattle.sr_model.specs.Case.{key_at, IsFailedSet, IsAffected, IsOnRepairWay, FailsWith, source_of}
 use Rattle.sr_model.specs.Label.{Net}
 use Rattle.sr_model.specs.Rule.{IsNet}
-use Rattle.sr_model.specs.Stay.{HaveSameName, IsKeptCase, case_with, AreSegmentsSame, IsSameList, IsSameAnswer}
+use Rattle.sr_model.specs.Stay.{HaveSameName, case_with, AreSegmentsSame, IsSameList, IsSameAnswer}
 use Rattle.sr_laws.proofs.Keys.{key-one, nodes-same, pair-trans}
 use Rattle.sr_laws.specs.Listed.{IsCaseListed}
 use Rattle.sr_laws.specs.Steady.{IsSteadyCase}
-use Rattle.sr_laws.proofs.Kept.{affected-same, listed-renumbered, post-same, steady-from_kept}
+use Rattle.sr_laws.proofs.Kept.{affected-same, listed-renumbered, post-same}
 use Rattle.sr_laws.proofs.KeptWays.{listed-there, ways-same}
 use Rattle.sr_spf.specs.Renewed.{moved_link, AreInPlace}
 use Rattle.sr_graph.specs.Failed.{FailsAsLink}
@@ -110,7 +110,7 @@ module _ (n m : Net) (links : List (Option LinkNo)) (partners : ArePartners n.gr
   destination-moved : (list : List NodeAnswer) (i : ℕ) → i < length list → destination_at (map (moved_entry links) list) i ≡ destination_at list i
   destination-moved list i lt = ap (λ (e : NodeAnswer). e.destination.0) (moved-at list i lt)
 
-  -- an old case that stays, and the case of the new net whose protected link has its name
+  -- an old case that is steady, and the case of the new net whose protected link has its name
   module _ (N : IsNet n) (M : IsNet m) (old new : Case) (kind : old.kind ≡ new.kind) (name : HaveSameName n.graph m.graph old.link.0 new.link.0) (stays : IsSteadyCase n m old) where
     is-new : case_with old stays.link ≡ new
     is-new = case_is (case_with old stays.link) new kind (key-one m.graph M.named stays.link.0 new.link.0 stays.protected.1 name.1 (stays.protected.2 ∙ sym name.2))
@@ -170,16 +170,16 @@ module _ (n m : Net) (links : List (Option LinkNo)) (partners : ArePartners n.gr
           );
     }
 
--- where an old case affects no destination and stays, the new one affects none
-pub none-affected : (n m : Net) → IsNet n → IsNet m → (old new : Case) → old.kind ≡ new.kind → HaveSameName n.graph m.graph old.link.0 new.link.0 → IsKeptCase n m old → (AffectsSome n old → ⊥) → AffectsSome m new → ⊥
+-- where an old case affects no destination and is steady, the new one affects none
+pub none-affected : (n m : Net) → IsNet n → IsNet m → (old new : Case) → old.kind ≡ new.kind → HaveSameName n.graph m.graph old.link.0 new.link.0 → IsSteadyCase n m old → (AffectsSome n old → ⊥) → AffectsSome m new → ⊥
 none-affected n m N M old new kind name stays none some =
     let is : case_with old stays.link ≡ new = case_is (case_with old stays.link) new kind (key-one m.graph M.named stays.link.0 new.link.0 stays.protected.1 name.1 (stays.protected.2 ∙ sym name.2)) in
     let nodes : node_count m.graph ≡ node_count n.graph = nodes-same n.graph m.graph stays.nodes in
     let within : some.0 < node_count m.graph = affected-within m new some.0 M.nodes some.1 in
-    none (some.0, (affected-same n m N M old (steady-from_kept n m N M old stays) some.0 (omega (arith, within, nodes))).1 (subst (λ c. IsAffected m c some.0) (sym is) some.1))
+    none (some.0, (affected-same n m N M old stays some.0 (omega (arith, within, nodes))).1 (subst (λ c. IsAffected m c some.0) (sym is) some.1))
 
--- where an old SRLG case fails as its link case and stays, the new one fails as its link case
-pub like-stays : (n m : Net) → IsNet m → (old new : Case) → old.kind ≡ new.kind → HaveSameName n.graph m.graph old.link.0 new.link.0 → IsKeptCase n m old → FailsAsLink n.graph old → FailsAsLink m.graph new
+-- where an old SRLG case fails as its link case and is steady, the new one fails as its link case
+pub like-stays : (n m : Net) → IsNet m → (old new : Case) → old.kind ≡ new.kind → HaveSameName n.graph m.graph old.link.0 new.link.0 → IsSteadyCase n m old → FailsAsLink n.graph old → FailsAsLink m.graph new
 like-stays n m M old new kind name stays like =
     let is : case_with old stays.link ≡ new = case_is (case_with old stays.link) new kind (key-one m.graph M.named stays.link.0 new.link.0 stays.protected.1 name.1 (stays.protected.2 ∙ sym name.2)) in
     let risk : new.kind ≡ RiskKind = sym kind ∙ like.risk in
@@ -223,11 +223,11 @@ module _ (p : Passage) (changes : Differences) (staying : Staying) (in_place : B
   pub searched-without : (case : Case) → IsPartner p.new.graph p.old.graph case.link.0 None → IsSearched (Some p) p.new case
   searched-without case none affects spared = none spared.old.link.0 (name-back p.old p.new spared.old.link.0 case.link.0 spared.name)
 
-  -- and neither is one whose old case doesn't stay where some destination is affected
-  pub searched-unless : (case : Case) (link : LinkNo) → HaveSameName p.new.graph p.old.graph case.link.0 link.0 → (AffectsSome p.new case → IsKeptCase p.old p.new (record { kind = case.kind; link = link }) → ⊥) → IsSearched (Some p) p.new case
+  -- and neither is one whose old case isn't steady where some destination is affected
+  pub searched-unless : (case : Case) (link : LinkNo) → HaveSameName p.new.graph p.old.graph case.link.0 link.0 → (AffectsSome p.new case → IsSteadyCase p.old p.new (record { kind = case.kind; link = link }) → ⊥) → IsSearched (Some p) p.new case
   searched-unless case link name not affects spared =
       let is : spared.old ≡ record { kind = case.kind; link = link } = case_is spared.old (record { kind = case.kind; link = link }) spared.kind (key-one p.old.graph r.differ.old.named spared.old.link.0 link.0 spared.name.0 name.1 (sym spared.name.2 ∙ sym name.2)) in
-      not affects (subst (λ c. IsKeptCase p.old p.new c) is spared.stays)
+      not affects (subst (λ c. IsSteadyCase p.old p.new c) is spared.steady)
 
   pub searched-nothing : (case : Case) (link : LinkNo) → HaveSameName p.new.graph p.old.graph case.link.0 link.0 → (AffectsSome p.old (record { kind = case.kind; link = link }) → ⊥) → IsSearched (Some p) p.new case
   searched-nothing case link name none =

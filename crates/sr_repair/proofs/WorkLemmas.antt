@@ -1,14 +1,15 @@
 -- How many searches are made: at most those that what stays allows.
-use Rattle.std.proofs.Common.{◌≡◌, ℕ, zero, suc, ◌+◌, ◌<◌, ◌≤◌, ◌-◌, Bool, true, false, not, cond, List, [], ◌∷◌, map, length, replicate, get_or, refl, arith, sym, ◌∙◌, Option, Some, ⊎_elim}
+use Rattle.std.proofs.Common.{◌≡◌, ℕ, zero, suc, ◌+◌, ◌<◌, ◌≤◌, ◌-◌, Bool, true, false, not, cond, List, [], ◌∷◌, map, length, replicate, get_or, refl, arith, ap, sym, ◌∙◌, Option, Some, ⊎_elim}
 use Rattle.std.proofs.lemmas.Bool.{cases_lt}
 use Rattle.std.proofs.lemmas.List.{get_or-map, length-map, length-replicate, get_or-replicate, get_or_past}
 use Rattle.std.proofs.lemmas.List.Sums.{sum_by-cons}
 use Rattle.sr_model.specs.declared.case.Case.{Case}
 use Rattle.sr_model.specs.Audit.{rank_of}
-use Rattle.sr_model.specs.Graph.{node_count, has}
+use Rattle.sr_model.specs.Graph.{Graph, node_count, has, is_overloaded}
 use Rattle.sr_model.specs.Case.{IsCase}
 use Rattle.sr_model.specs.Label.{Net}
 use Rattle.sr_model.specs.Stay.{HaveSameNodes}
+use Rattle.sr_laws.specs.Listed.{HaveSameLists}
 use Rattle.sr_spf.specs.Renewed.{fallen}
 use Rattle.sr_delta.specs.KeptTrees.{AreKeptTrees}
 use Rattle.sr_repair.specs.declared.passes.Passed.{Passed}
@@ -126,21 +127,36 @@ all-cases : (n m : Net) → (HaveSameNodes n.graph m.graph → ⊥) → (w : ℕ
 all-cases n m differ w most = record {
   cases = replicate (case_count m.graph) true;
   long = length-replicate (case_count m.graph) true;
-  each = λ case within is spared. differ spared.stays.nodes;
+  each = λ case within is spared. differ spared.steady.nodes;
   most = omega (arith, most, many-all (case_count m.graph));
+}
+
+-- where the same is listed in both nets, they have the same nodes
+listed-nodes : (n m : Net) → HaveSameLists n m → HaveSameNodes n.graph m.graph
+listed-nodes n m lists = record {
+  systems = ap (λ (g : Graph). g.systems) lists.graph;
+  overloaded = λ v lt. ap (λ (g : Graph). is_overloaded g v) (sym lists.graph);
 }
 
 -- where the nodes differ, a search for each node and each case is within the bound
 pub within-anew : (n m : Net) → (HaveSameNodes n.graph m.graph → ⊥) → (w : ℕ) → w ≤ node_count m.graph + case_count m.graph → IsWithinWork n m w
 within-anew n m differ w most =
     ⊎_elim
-    (λ few. record { trees = w; cases = 0; sum = omega arith; nodes = all-trees n m differ w (omega arith); slots = all-cases n m differ 0 (omega arith) })
+    (λ few. record {
+      trees = w;
+      cases = 0;
+      sum = omega arith;
+      nodes = all-trees n m differ w (omega arith);
+      slots = all-cases n m differ 0 (omega arith);
+      same = λ lists. absurd (differ (listed-nodes n m lists));
+    })
     (λ many. record {
       trees = node_count m.graph;
       cases = w - node_count m.graph;
       sum = omega arith;
       nodes = all-trees n m differ (node_count m.graph) (omega arith);
       slots = all-cases n m differ (w - node_count m.graph) (omega arith);
+      same = λ lists. absurd (differ (listed-nodes n m lists));
     })
     (cases_lt w (node_count m.graph))
 
@@ -155,10 +171,24 @@ trees-none n m = record {
   most = omega arith;
 }
 
--- what is within the bounds for trees and for cases is together within the bound
-pub work-of : (n m : Net) (w t k : ℕ) → w ≡ t + k → IsWithinTrees n m t → IsWithinCases (Some (record { old = n; new = m })) m k → IsWithinWork n m w
-work-of n m w t k sum trees cases = record { trees = t; cases = k; sum = sum; nodes = trees; slots = cases }
+-- what is within the bounds for trees and for cases is together within the bound, where not the same is listed
+pub work-of : (n m : Net) → (HaveSameLists n m → ⊥) → (w t k : ℕ) → w ≡ t + k → IsWithinTrees n m t → IsWithinCases (Some (record { old = n; new = m })) m k → IsWithinWork n m w
+work-of n m differ w t k sum trees cases = record {
+  trees = t;
+  cases = k;
+  sum = sum;
+  nodes = trees;
+  slots = cases;
+  same = λ lists. absurd (differ lists);
+}
 
 -- no search is within the bound
 pub work-none : (n m : Net) → IsWithinWork n m 0
-work-none n m = work-of n m 0 0 0 (omega arith) (trees-none n m) (within-none (Some (record { old = n; new = m })) m)
+work-none n m = record {
+  trees = 0;
+  cases = 0;
+  sum = omega arith;
+  nodes = trees-none n m;
+  slots = within-none (Some (record { old = n; new = m })) m;
+  same = λ lists. refl;
+}

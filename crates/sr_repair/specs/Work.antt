@@ -5,6 +5,7 @@ use Rattle.sr_model.specs.Graph.{node_count, has}
 use Rattle.sr_model.specs.Case.{IsCase}
 use Rattle.sr_model.specs.Label.{Net}
 use Rattle.sr_model.specs.Stay.{IsKeptTree}
+use Rattle.sr_laws.specs.Listed.{HaveSameLists}
 use Rattle.sr_repair.specs.Answers.{case_count, slot_of}
 use Rattle.sr_repair.specs.Spared.{Passage, IsSpared}
 
@@ -27,10 +28,11 @@ pub record IsWithinCases (former : Option Passage) (m : Net) (w : ℕ) : Type 0 
   pub most : w ≤ how_many cases
 
 -- w is at most one search for each node of net m whose tree doesn't stay from net n, and one for each case of net m
--- that isn't an old case that stays
+-- that isn't an old case that is steady; it is none where the same is listed in both nets
 pub record IsWithinWork (n m : Net) (w : ℕ) : Type 0 where
   pub trees : ℕ
   pub cases : ℕ
   pub sum : w ≡ trees + cases
   pub nodes : IsWithinTrees n m trees
   pub slots : IsWithinCases (Some (record { old = n; new = m })) m cases
+  pub same : HaveSameLists n m → w ≡ 0

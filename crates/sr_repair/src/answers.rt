@@ -1,5 +1,5 @@
 //! The records of all cases.
-ghost use Rattle.std.specs.Prelude.{◌≡◌, ◌+◌, ◌*◌, ◌≤◌, [], map, IfOk, OnOk};
+ghost use Rattle.std.specs.Prelude.{◌≡◌, ◌+◌, ◌≤◌, [], map, IfOk, OnOk};
 ghost use Rattle.sr_model.specs.declared.case.Kind.TheVariants.{Link as LinkKind};
 ghost use Rattle.sr_model.specs.Case.{IsCase};
 ghost use Rattle.sr_encode.specs.Answered.{AreLists};

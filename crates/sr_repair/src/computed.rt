@@ -1,8 +1,10 @@
 //! What is computed of a net: all of a version but its number.
 ghost use Rattle.std.specs.Prelude.{◌≡◌, ℕ, ◌+◌, ◌*◌, ◌≤◌, true, IfOk};
 ghost use Rattle.sr_model.specs.Case.{IsCase};
+ghost use Rattle.sr_model.specs.declared.limits.TheConstants.{MOST_DEPTH};
 ghost use Rattle.sr_model.specs.Graph.{node_count, link_count};
 ghost use Rattle.sr_model.specs.Rule.{IsNet};
+ghost use Rattle.sr_labels.specs.Depth.{with_depth};
 ghost use Rattle.sr_spf.specs.Trees.{AreTrees};
 ghost use Rattle.sr_fib.specs.Tables.{AreSids, IsFib};
 ghost use Rattle.sr_encode.specs.Answered.{AreAnswers, AreLists};
@@ -28,22 +30,23 @@ use std::sync::Arc;
 use std::sync::ledger::Ledger;
 use std::thread::Threads;
 
-/// What nets share that differ at most in what no list depends on: the distances and next hops, and the records of all cases.
+/// What nets share that differ at most in what no list depends on: the distances and next hops, the nodes and links by
+/// their labels, and the records of all cases.
 #[derive(Drop)]
-struct Shared {
+struct SharedWork {
     trees: Trees,
+    sids: Sids,
     found: Vec<Found>,
     /// What is listed in a case that affects no destination.
     none: CaseLists,
 }
 
-/// A net with its nodes and links by their labels, its trees, and the records of all cases. Contracts see it as the net: the
-/// rest is determined by that.
+/// A net with its trees, its nodes and links by their labels, and the records of all cases. Contracts see it as the net:
+/// the rest is determined by that.
 #[derive(Drop)]
 pub(crate) struct Computed {
     net: Net,
-    sids: Sids,
-    shared: Arc<Shared>,
+    shared: Arc<SharedWork>,
 }
 
 impl Model for Computed {
@@ -59,7 +62,7 @@ impl Model for Computed {
     ghost view = { λ c. c.net };
 
     ghost invariant = { λ c. AreTrees c.net.graph (arc_value c.shared).trees
-        × AreSids c.net c.sids
+        × AreSids c.net (arc_value c.shared).sids
         × AreAllFound c.net (case_count c.net.graph) (arc_value c.shared).found.items
         × ((arc_value c.shared).none ≡ []) };
 }
@@ -74,8 +77,14 @@ impl Computed {
     {
         let Made { sids, found } = made;
         let none = CaseLists::none(alloc);
-        let shared = Arc::new(alloc, Shared { trees, found, none })?;
-        Ok(Computed { net, sids, shared })
+        let work = SharedWork {
+            trees,
+            sids,
+            found,
+            none,
+        };
+        let shared = Arc::new(alloc, work)?;
+        Ok(Computed { net, shared })
     }
 
     /// All that is computed of this net. At most one search is counted for each node, and one for each case. The cases
@@ -102,7 +111,8 @@ impl Computed {
         &self.shared.trees
     }
 
-    /// All that is computed of this net, which has the nodes of the net before. What stays from there is taken over.
+    /// All that is computed of this net, which has the nodes of the net before, though not the same is listed. What stays
+    /// from there is taken over.
     fn over<L: Ledger>(
         &self,
         rt: &(impl Threads + Sync),
@@ -113,6 +123,7 @@ impl Computed {
     ) -> Result<Computed, AllocError>
         requires changes { AreChanges self.now net changes.now }
         requires same { changes.now.same ≡ true }
+        requires lists { HaveSameLists self.now net → ⊥ }
         ensures net { IfOk result (λ c. c ≡ net) }
         ensures searches { (w : ℕ) × (steps.new ≡ steps.old + w) × IsWithinWork self.now net w }
     {
@@ -128,18 +139,26 @@ impl Computed {
     }
 
     /// All that is computed of this net, in which the same is listed: it shares what was computed before.
-    fn relabelled(&self, alloc: Global, net: Net) -> Result<Computed, AllocError>
+    fn relabelled(&self, net: Net) -> Result<Computed, AllocError>
         requires { HaveSameLists self.now net }
         ensures { IfOk result (λ c. c ≡ net) }
     {
-        let sids = Sids::build(alloc, &net)?;
         let shared = Arc::try_clone(&self.shared)?;
-        Ok(Computed { net, sids, shared })
+        Ok(Computed { net, shared })
     }
 
-    /// All that is computed of the net after this one. Where the same is listed, all is shared, and no search is counted. What
-    /// stays is taken over: at most one search is counted for each node whose tree doesn't stay, and one for each case that
-    /// isn't an old case that stays.
+    /// All that is computed of this net, with another depth, counted in segments, at most 12: it shares all.
+    pub(crate) fn with_depth(&self, depth: u8) -> Result<Computed, AllocError>
+        requires { depth ≤ MOST_DEPTH }
+        ensures { IfOk result (λ c. c ≡ with_depth depth self.now) }
+    {
+        let net = self.net.with_depth(depth)?;
+        self.relabelled(net)
+    }
+
+    /// All that is computed of the net after this one. Where the same is listed, all is shared, and no search is counted.
+    /// What stays is taken over: at most one search is counted for each node whose tree doesn't stay, and one for each
+    /// case that isn't an old case that is steady.
     pub(crate) fn next<L: Ledger>(
         &self,
         rt: &(impl Threads + Sync),
@@ -149,10 +168,9 @@ impl Computed {
     ) -> Result<Computed, AllocError>
         ensures net { IfOk result (λ c. c ≡ net) }
         ensures searches { (w : ℕ) × (steps.new ≡ steps.old + w) × IsWithinWork self.now net w }
-        ensures same { HaveSameLists self.now net → steps.new ≡ steps.old }
     {
         if self.net.has_same_lists(&net) {
-            return self.relabelled(alloc, net);
+            return self.relabelled(net);
         }
         let changes = changes(alloc, &self.net, &net)?;
         if changes.same_nodes() {
@@ -174,7 +192,7 @@ impl Computed {
     pub(crate) fn fib(&self) -> Fib<'_>
         ensures { IsFib self.now result }
     {
-        Fib::new(&self.net, &self.shared.trees, &self.sids)
+        Fib::new(&self.net, &self.shared.trees, &self.shared.sids)
     }
 
     /// What is listed in the case for the destinations that it affects, ascending.

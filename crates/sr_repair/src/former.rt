@@ -1,22 +1,19 @@
 //! The version before, from which a case is taken where it is steady.
-ghost use Rattle.std.specs.Prelude.{◌≡◌, true, List, Bool, Some, IfOk, IsTrue, MatchOption};
+ghost use Rattle.std.specs.Prelude.{◌≡◌, ◌↔◌, true, List, Bool, Some, IfOk, IsTrue, MatchOption};
 ghost use Rattle.std.specs.Arc.{arc_value};
 ghost use Rattle.sr_graph.specs.Failed.{FailsAsLink};
 ghost use Rattle.sr_model.specs.Case.{IsCase, IsFailedSet, source_of};
 ghost use Rattle.sr_model.specs.Graph.{node_count};
 ghost use Rattle.sr_model.specs.Walk.{IsRow};
-ghost use Rattle.sr_model.specs.Stay.{HaveSameName, IsKeptCase};
 ghost use Rattle.sr_laws.specs.Steady.{IsSteadyCase};
 ghost use Rattle.sr_spf.specs.Trees.{AreTrees};
 ghost use Rattle.sr_delta.specs.Moved.{AreMoved};
-ghost use Rattle.sr_delta.specs.Stayers.{AreStaying};
 ghost use Rattle.sr_delta.specs.Changes.{AreChanges};
 ghost use Rattle.sr_delta.specs.KeptTrees.{AreKeptTrees};
 ghost use Rattle.sr_post.specs.Marks.{AreTails, AreWalks};
 ghost use Rattle.sr_repair.specs.Solutions.{IsSolution};
 ghost use Rattle.sr_repair.specs.KnownCase.{IsKnownCase};
 ghost use Rattle.sr_repair.specs.Former.{IsSearched, StaySolved, StayKnown};
-ghost use Rattle.sr_repair.specs.Spared.{IsOldCase};
 
 use crate::answers::Found;
 use crate::computed::Computed;
@@ -133,8 +130,7 @@ impl<'a> Former<'a> {
     /// Whether the old case is steady. So is one that stays, which mostly costs less to tell.
     fn outlasts(&self, old: &OldCase<'_>) -> bool
         requires { old.now.net ≡ self.now.old }
-        ensures kept { IsKeptCase self.now.old self.now.new old.now.case → IsTrue result }
-        ensures steady { IsTrue result → IsSteadyCase self.now.old self.now.new old.now.case }
+        ensures { IsTrue result ↔ IsSteadyCase self.now.old self.now.new old.now.case }
     {
         if case_stays(self.changes, &self.staying, old, self.net) {
             return true;
@@ -177,7 +173,7 @@ impl<'a> Former<'a> {
         requires case { IsCase self.now.old.graph old }
         requires known { IsKnownCase self.now.old old known.now }
         ensures { IfOk result (λ found. MatchOption found
-            (IsKeptCase self.now.old self.now.new old → ⊥)
+            (IsSteadyCase self.now.old self.now.new old → ⊥)
             (λ kept. IsSteadyCase self.now.old self.now.new old
             × StayKnown self.now old known.now kept)) }
     {

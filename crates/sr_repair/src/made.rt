@@ -1,5 +1,5 @@
 //! What is made of a net whose distances are known: its nodes and links by their labels, and the answers of all cases.
-ghost use Rattle.std.specs.Prelude.{◌≡◌, ℕ, ◌+◌, ◌*◌, ◌≤◌, IfOk};
+ghost use Rattle.std.specs.Prelude.{◌≡◌, ℕ, ◌+◌, IfOk};
 ghost use Rattle.sr_fib.specs.Tables.{AreSids};
 ghost use Rattle.sr_repair.specs.Answers.{case_count, AreAllFound};
 ghost use Rattle.sr_repair.specs.Work.{IsWithinCases};
@@ -21,7 +21,7 @@ pub(crate) struct Made {
 }
 
 /// The nodes and links of the net by their labels, and the records of all cases, which are split among threads where there
-/// are any. At most one search is counted for each case, and none for a case that stays from the version before.
+/// are any. At most one search is counted for each case, and none for a case of the version before that is steady.
 pub(crate) fn made_of<L: Ledger>(
     rt: &(impl Threads + Sync),
     alloc: Global,

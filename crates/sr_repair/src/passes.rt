@@ -12,11 +12,10 @@ ghost use Rattle.sr_graph.specs.Failed.{FailsAsLink};
 ghost use Rattle.sr_spf.specs.Trees.{AreTrees};
 ghost use Rattle.sr_post.specs.Post.{IsPost};
 ghost use Rattle.sr_encode.specs.Answered.{AreAffected};
-ghost use Rattle.sr_repair.specs.Answers.{case_count, cells_told, in_slots, AreOfLink, IsPassed, AreAllPassed};
+ghost use Rattle.sr_repair.specs.Answers.{case_count, cells_told, in_slots, AffectsSome, AreOfLink, IsPassed, AreAllPassed};
 ghost use Rattle.sr_repair.specs.Former.{IsSearched};
 ghost use Rattle.sr_repair.specs.Solutions.{IsSolution};
 ghost use Rattle.sr_repair.specs.KnownCase.{IsKnownCase};
-ghost use Rattle.sr_repair.specs.Spared.{IsSpared};
 
 use crate::known_case::KnownCase;
 use crate::row::CaseRow;
@@ -141,16 +140,28 @@ fn searched(
     solved_from::<Brand>(alloc, net, trees, case, wanted, Blank::new(1))
 }
 
+/// The destinations that the case affects, if there are any. In many domains half of the cases affect none.
+fn some_affected(setting: &Setting<'_>, case: Case) -> Option<NodeBits>
+    requires { IsCase setting.now.net.graph case }
+    ensures { MatchOption result
+        (AffectsSome setting.now.net case → ⊥)
+        (λ wanted. AffectsSome setting.now.net case × AreAffected setting.now.net case wanted) }
+{
+    let _graph = setting.net.graph();
+    let wanted = affected_set(setting.net, setting.trees, case);
+    match wanted.first() {
+        None => None,
+        Some(_) => Some(wanted),
+    }
+}
+
 /// What the pass over the case gives, which doesn't stay where it affects some destination.
 fn listed(alloc: Global, setting: &Setting<'_>, case: Case) -> Result<Passed, AllocError>
     requires case { IsCase setting.now.net.graph case }
     requires searched { IsSearched setting.now.former setting.now.net case }
     ensures { IfOk result (IsPassed setting.now.former setting.now.net case) }
 {
-    let _graph = setting.net.graph();
-    let wanted = affected_set(setting.net, setting.trees, case);
-    // In many domains half of the cases affect no destination.
-    let Some(_) = wanted.first() else {
+    let Some(wanted) = some_affected(setting, case) else {
         return Ok(Passed::Nothing);
     };
     let (solved, searched) = searched(alloc, setting.net, setting.trees, case, wanted)?;
@@ -169,11 +180,10 @@ fn told(
     requires around { IsRowAfter setting.now.net.graph (node_case case) around.now }
     ensures { IfOk result (IsPassed setting.now.former setting.now.net case) }
 {
-    let net = setting.net;
-    let wanted = affected_set(net, setting.trees, case);
-    let Some(_) = wanted.first() else {
+    let Some(wanted) = some_affected(setting, case) else {
         return Ok(Passed::Nothing);
     };
+    let net = setting.net;
     let post = post_of_link(alloc, net, setting.trees, case, around)?;
     let solved = solved_by(alloc, net, setting.trees, &post, case, wanted)?;
     Ok(Passed::Told(solved))

@@ -2,7 +2,6 @@
 ghost use Rattle.std.specs.Prelude.{◌≡◌, Option, None, Some};
 ghost use Rattle.sr_spf.specs.Trees.{AreTrees};
 ghost use Rattle.sr_repair.specs.Former.{IsSetting};
-ghost use Rattle.sr_repair.specs.Spared.{Passage};
 
 use crate::former::Former;
 use sr_labels::Net;

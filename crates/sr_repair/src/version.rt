@@ -1,15 +1,16 @@
 //! A version: the net of an accepted commit, with what is computed of it.
 ghost use Rattle.std.specs.Prelude.{◌≡◌, ℕ, ◌+◌, ◌*◌, ◌<◌, ◌≤◌, IfOk, MatchOption};
 ghost use Rattle.sr_model.specs.Case.{IsCase, IsAffected};
-ghost use Rattle.sr_model.specs.declared.limits.TheConstants.{MOST_VERSION};
+ghost use Rattle.sr_model.specs.declared.limits.TheConstants.{MOST_DEPTH, MOST_VERSION};
 ghost use Rattle.sr_model.specs.Graph.{node_count, link_count};
 ghost use Rattle.sr_model.specs.Repair.{IsCaseAnswer};
 ghost use Rattle.sr_model.specs.Rule.{IsNet};
+ghost use Rattle.sr_labels.specs.Depth.{with_depth};
 ghost use Rattle.sr_spf.specs.Trees.{AreTrees};
 ghost use Rattle.sr_fib.specs.Tables.{IsFib};
 ghost use Rattle.sr_encode.specs.Answered.{AreAnswers};
 ghost use Rattle.sr_repair.specs.Answers.{IsAnswered};
-ghost use Rattle.sr_laws.specs.Listed.{HaveSameLists, IsCaseListed};
+ghost use Rattle.sr_laws.specs.Listed.{IsCaseListed};
 ghost use Rattle.sr_repair.specs.Version.{version_of};
 ghost use Rattle.sr_repair.specs.Stack.{HasNoList, IsStackOf};
 ghost use Rattle.sr_repair.specs.Work.{IsWithinWork};
@@ -24,25 +25,24 @@ use sr_model::{Answer, Case, NodeNo};
 use sr_spf::{Steps, Trees};
 use std::alloc::{AllocError, Global};
 use std::marker::Model;
-use std::sync::Arc;
 use std::sync::ledger::Ledger;
 use std::thread::Threads;
 
 /// The net of an accepted commit, with its number, its trees, its label tables and the answers of all cases. Contracts
-/// see it as number and net: the rest is determined by these. Versions of the same net share all but their numbers.
+/// see it as number and net: the rest is determined by these. Versions whose nets differ in depth alone share all but
+/// that and their numbers.
 #[derive(Drop)]
 pub struct Version {
     number: u32,
-    computed: Arc<Computed>,
+    computed: Computed,
 }
 
 impl Model for Version {
-    ghost use Rattle.std.specs.Arc.{arc_value};
     ghost use Rattle.sr_repair.specs.Version.{NumberedNet, version_of};
 
     ghost Value = { NumberedNet };
 
-    ghost view = { λ v. version_of v.number (arc_value v.computed) };
+    ghost view = { λ v. version_of v.number v.computed };
 }
 
 impl Numbered for Version {
@@ -69,14 +69,14 @@ impl Version {
         let computed = Computed::of(rt, alloc, net, steps)?;
         Ok(Version {
             number: 1,
-            computed: Arc::new(alloc, computed)?,
+            computed,
         })
     }
 
     /// The version after this one, of this net: the same as `opening` gives, but for the number. What stays from this
     /// version's net is taken over: at most one search is counted for each node whose tree doesn't stay, and one for each
-    /// case that isn't an old case that stays (this project's rule). Where the same is listed in both nets, as where lists may
-    /// be deeper, all is shared and none is counted.
+    /// case that isn't an old case that is steady (this project's rule). Where the same is listed in both nets, all is
+    /// shared, and none is counted.
     pub fn next<L: Ledger>(
         &self,
         rt: &(impl Threads + Sync),
@@ -87,22 +87,22 @@ impl Version {
         requires { self.now.number < MOST_VERSION }
         ensures version { IfOk result (λ v. v ≡ version_of (self.now.number + 1) net) }
         ensures searches { (w : ℕ) × (steps.new ≡ steps.old + w) × IsWithinWork self.now.net net w }
-        ensures same { HaveSameLists self.now.net net → steps.new ≡ steps.old }
     {
         let computed = self.computed.next(rt, alloc, net, steps)?;
         Ok(Version {
             number: self.number + 1,
-            computed: Arc::new(alloc, computed)?,
+            computed,
         })
     }
 
-    /// The version after this one, of the same net: nothing is computed, and all but the number is shared. Fails only out
-    /// of memory.
-    pub fn renumbered(&self) -> Result<Version, AllocError>
-        requires { self.now.number < MOST_VERSION }
-        ensures { IfOk result (λ v. v ≡ version_of (self.now.number + 1) self.now.net) }
+    /// The version after this one, of the same net with this depth, counted in segments, at most 12: nothing is computed,
+    /// and all but the number and the depth is shared. Fails only out of memory.
+    pub fn renewed(&self, depth: u8) -> Result<Version, AllocError>
+        requires number { self.now.number < MOST_VERSION }
+        requires depth { depth ≤ MOST_DEPTH }
+        ensures { IfOk result (λ v. v ≡ version_of (self.now.number + 1) (with_depth depth self.now.net)) }
     {
-        let computed = Arc::try_clone(&self.computed)?;
+        let computed = self.computed.with_depth(depth)?;
         Ok(Version {
             number: self.number + 1,
             computed,

@@ -19,6 +19,7 @@ pub mod ProgramLemmas
 pub mod StepLemmas
 pub mod SearchLemmas
 pub mod VersionLemmas
+pub mod RenewalLemmas
 pub mod AcceptedNets
 pub mod DeterminedTold
 pub mod DeterminedNames

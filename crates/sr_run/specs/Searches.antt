@@ -8,7 +8,7 @@ use Rattle.sr_run.specs.Domain.{Domain, TriedNet}
 
 -- what the commits of these nets, the last one first, may search for: of the first net a search for each node and each
 -- case; of each later one a search for each node whose tree doesn't stay from the net before, and one for each case
--- that isn't an old case that stays
+-- that isn't an old case that is steady; and none where the same is listed as in the net before
 abbrev pub IsWithinCommits : List Net → ℕ → Type 0
 IsWithinCommits [] count = count ≡ 0
 IsWithinCommits (net ∷ []) count = count ≤ node_count net.graph + 3 * link_count net.graph

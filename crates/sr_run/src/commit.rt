@@ -42,17 +42,17 @@ fn version_after<L: Ledger>(
 }
 
 impl DomainSession {
-    /// The last version with the next number, where nothing was staged after it: its net is that of the tentative facts
-    /// too. None where something was staged, or nothing was committed yet. Fails only out of memory.
-    fn renumbered_version(&self) -> Result<Option<Version>, AllocError>
+    /// The last version renewed, where the tentative facts say no more than the accepted ones did: its net is theirs too,
+    /// but for the depth. None where they do, or nothing was committed yet. Fails only out of memory.
+    fn renewed_version(&self) -> Result<Option<Version>, AllocError>
         requires { number_of self.now.current < MOST_VERSION }
         ensures { IfOk result (λ found. IfSome found (IsNextVersion self.now)) }
     {
-        if self.editor.staged() != 0 {
+        if !self.editor.says_the_same() {
             return Ok(None);
         }
         match last_version(&self.current) {
-            Ok(version) => match version.renumbered() {
+            Ok(version) => match version.renewed(self.editor.tentative().depth) {
                 Ok(next) => Ok(Some(next)),
                 Err(wanting) => Err(wanting),
             },
@@ -83,8 +83,8 @@ impl DomainSession {
         }
     }
 
-    /// The version of the tentative facts, or the first rule that they break. Where nothing was staged, nothing is
-    /// searched.
+    /// The version of the tentative facts, or the first rule that they break. Where they say the same as the accepted
+    /// ones, as where PDUs were flooded anew, no net is made and nothing is searched.
     pub(crate) fn make_version<L: Ledger>(
         &self,
         rt: &impl Runtime,
@@ -96,7 +96,7 @@ impl DomainSession {
             (IsFirstBrokenRule self.now.editing.tentative)) }
         ensures searches { CountsMaking self.now.current steps.old steps.new result }
     {
-        match self.renumbered_version() {
+        match self.renewed_version() {
             Ok(Some(version)) => Ok(Ok(version)),
             Ok(None) => self.next_version(rt, steps),
             Err(wanting) => Err(wanting),

@@ -1,5 +1,5 @@
 //! Edits: `lsp`, `cost`, `down`, `up` and `depth`, and `drop`.
-ghost use Rattle.std.specs.Prelude.{◌≡◌, ◌≤◌, List, ℕ};
+ghost use Rattle.std.specs.Prelude.{◌≡◌, ◌≤◌};
 ghost use Rattle.sr_lsdb.specs.Staging.{Stages};
 ghost use Rattle.sr_script.specs.declared.command.Command.TheVariants.{Lsp as LspWord, Depth, DropStaged};
 ghost use Rattle.sr_model.specs.declared.limits.TheConstants.{MOST_DEPTH};

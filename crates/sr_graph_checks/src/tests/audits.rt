@@ -63,3 +63,20 @@ fn each_sort_of_answer_is_counted_apart(rt: HostRuntime) -> Result<(), Fail> {
     }
     Ok(())
 }
+
+/// The first version lets all lists through.
+#[test]
+fn a_renewed_version_is_counted_by_its_own_depth(rt: HostRuntime) -> Result<(), Fail> {
+    let alloc = rt.alloc();
+    for told in &TOLD {
+        assert!(rt; told.nodes < 256 && told.depth < 13);
+        let graph = graph_of(alloc, told.nodes, told.links)?;
+        let net = net_with(alloc, graph, told.first, 12)?;
+        let version = version_of(&rt, alloc, net)?;
+        assert_eq!(rt; version.number(), 1);
+        let renewed = version.renewed(told.depth)?;
+        assert_eq!(rt; renewed.number(), 2);
+        assert!(rt; counts(&renewed) == told.counts, "{}", told.name);
+    }
+    Ok(())
+}

@@ -3,7 +3,7 @@ use Rattle.sr_model.specs.Graph.{node_count}
 use Rattle.sr_model.specs.Case.{IsFailedSet}
 use Rattle.sr_model.specs.Label.{Net}
 use Rattle.sr_delta.specs.Idle.{AreIdleOrFailed}
-use Rattle.sr_delta.proofs.CaseLemmas.{idle-from_kept}
+use Rattle.sr_delta.proofs.SteadyLemmas.{idle-from_steady}
 use Rattle.sr_delta.proofs.FailureLemmas.{failed-exists}
 use Rattle.sr_delta.proofs.early.may_stay.Goals as goal
 
@@ -15,8 +15,8 @@ are_idle_or_failed-requires-clause-within c = λ k lt.
     (omega (arith, ends.0, long, c.requires.nodes), omega (arith, ends.1, long, c.requires.nodes))
 
 pub returns : goal.returns
-returns c = λ m changes same kept.
+returns c = λ m changes same steady.
     let n : Net = c.args.net.now in
     let idle : IsTrue c.are_idle_or_failed.result ↔ AreIdleOrFailed n.graph c.args.case c.args.cells.now c.args.changes.now.links =
     rw (c.graph.ensures.value, c.links.ensures.links) at c.are_idle_or_failed.ensures in
-    idle.1 (idle-from_kept n m c.args.case c.args.cells.now c.args.changes.now c.requires.row changes same kept)
+    idle.1 (idle-from_steady n m c.args.case c.args.cells.now c.args.changes.now c.requires.row changes same steady)

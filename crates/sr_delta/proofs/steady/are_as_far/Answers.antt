@@ -23,7 +23,10 @@ left-preserved c =
     (sym c.has.ensures ∙ c.if-has.false)
 
 pub returns : goal.returns
-returns c = λ yes' u set is there. ⊎_elim
-    (λ (here : is_in c.left.left u ≡ true). absurd (true≢false (sym here ∙ c.in_default.ensures.first u)))
-    (λ off. off)
-    (c.left.invariant.1 u set is there)
+returns c = (
+  λ yes' u set is there. ⊎_elim
+      (λ (here : is_in c.left.left u ≡ true). absurd (true≢false (sym here ∙ c.in_default.ensures.first u)))
+      (λ off. off)
+      (c.left.invariant.1 u set is there),
+  λ all. refl,
+)

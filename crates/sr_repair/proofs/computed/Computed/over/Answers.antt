@@ -24,7 +24,7 @@ returns-in_err-trees-clause-searches g c =
     let stay : AreKeptTrees n m kept = c.in_ok-kept.ensures.kept n m c.requires.changes trees in
     let nodes : node_count m.graph ≡ node_count n.graph = nodes-same n.graph m.graph (c.requires.changes.nodes.0 c.requires.same) in
     let few : w ≤ fallen kept = omega (arith, c.renew.ensures.most, c.renew.ensures.least, ap fallen c.deref.ensures.value) in
-    (w, omega (arith, c.renew.ensures.least), work-of n m w w 0 (omega arith) (within-trees n m kept w nodes stay few) (within-none (Some (record { old = n; new = m })) m))
+    (w, omega (arith, c.renew.ensures.least), work-of n m c.requires.lists w w 0 (omega arith) (within-trees n m kept w nodes stay few) (within-none (Some (record { old = n; new = m })) m))
 
 pub returns-in_err-made-clause-searches : goal.returns-in_err-made-clause-searches
 returns-in_err-made-clause-searches g c =
@@ -37,7 +37,7 @@ returns-in_err-made-clause-searches g c =
     let made = c.made_of.ensures.searches in
     let cases : IsWithinCases (Some (record { old = n; new = m })) m made.0 = rw c.new-former.ensures at (rw c.after-setting.ensures at made.2) in
     let sum : c.renew.new.steps ≡ c.args.steps.now + fallen kept = rw c.deref.ensures.value at c.in_ok-trees.ensures.steps in
-    (fallen kept + made.0, omega (arith, sum, made.1), work-of n m (fallen kept + made.0) (fallen kept) made.0 (omega arith) (within-trees n m kept (fallen kept) nodes stay (omega arith)) cases)
+    (fallen kept + made.0, omega (arith, sum, made.1), work-of n m c.requires.lists (fallen kept + made.0) (fallen kept) made.0 (omega arith) (within-trees n m kept (fallen kept) nodes stay (omega arith)) cases)
 
 pub returns-clause-searches : goal.returns-clause-searches
 returns-clause-searches g c =
@@ -50,7 +50,7 @@ returns-clause-searches g c =
     let made = c.made_of.ensures.searches in
     let cases : IsWithinCases (Some (record { old = n; new = m })) m made.0 = rw c.new-former.ensures at (rw c.after-setting.ensures at made.2) in
     let sum : c.renew.new.steps ≡ c.args.steps.now + fallen kept = rw c.deref.ensures.value at c.in_ok-trees.ensures.steps in
-    (fallen kept + made.0, omega (arith, sum, made.1), work-of n m (fallen kept + made.0) (fallen kept) made.0 (omega arith) (within-trees n m kept (fallen kept) nodes stay (omega arith)) cases)
+    (fallen kept + made.0, omega (arith, sum, made.1), work-of n m c.requires.lists (fallen kept + made.0) (fallen kept) made.0 (omega arith) (within-trees n m kept (fallen kept) nodes stay (omega arith)) cases)
 
 pub returns-in_err-farther-clause-searches : goal.returns-in_err-farther-clause-searches
 returns-in_err-farther-clause-searches g c =
@@ -61,4 +61,4 @@ returns-in_err-farther-clause-searches g c =
     let stay : AreKeptTrees n m kept = c.in_ok-kept.ensures.kept n m c.requires.changes trees in
     let nodes : node_count m.graph ≡ node_count n.graph = nodes-same n.graph m.graph (c.requires.changes.nodes.0 c.requires.same) in
     let sum : c.renew.new.steps ≡ c.args.steps.now + fallen kept = rw c.deref.ensures.value at c.in_ok-trees.ensures.steps in
-    (fallen kept, sum, work-of n m (fallen kept) (fallen kept) 0 (omega arith) (within-trees n m kept (fallen kept) nodes stay (omega arith)) (within-none (Some (record { old = n; new = m })) m))
+    (fallen kept, sum, work-of n m c.requires.lists (fallen kept) (fallen kept) 0 (omega arith) (within-trees n m kept (fallen kept) nodes stay (omega arith)) (within-none (Some (record { old = n; new = m })) m))
