@@ -30,7 +30,7 @@ mod versions;
 use accounts::ACCOUNTS;
 use active::ACTIVE;
 use audits::AUDITS;
-use cases::{CASES, Case};
+use cases::{CASES, Case, first_case};
 use certificates::CERTIFICATES;
 use differences::DIFFERENCES;
 use edits::EDITS;
@@ -183,96 +183,111 @@ fn check_last_answers<R: AllocGlobal + Runtime + Abort + 'static>(
     checked
 }
 
-/// Each script is answered as its case says.
+/// The status that a case wants: 0 or 1, as for each script that is read to its end.
+fn status_of(rt: &impl Abort, digits: &str) -> u8 {
+    assert!(rt; digits == "0" || digits == "1", "{digits}");
+    u8::from(digits == "1")
+}
+
+/// The script is answered as the case says.
+fn check_case<R: AllocGlobal + Runtime + Abort + 'static>(
+    rt: &R,
+    case: Case<'_>,
+) -> Result<(), AllocError> {
+    let status = status_of(rt, case.status);
+    let script = Vec::from_slice(rt.alloc(), case.script.as_bytes())?;
+    check_script(rt, script, (status, case.answers.as_bytes()), case.name)
+}
+
+/// The table has this many cases and nothing else, and each script is answered as its case says.
 fn check_cases<R: AllocGlobal + Runtime + Abort + 'static>(
     rt: &R,
-    cases: &[Case],
+    table: &str,
+    count: usize,
 ) -> Result<(), AllocError> {
-    for case in cases {
-        let script = Vec::from_slice(rt.alloc(), case.script.as_bytes())?;
-        check_script(
-            rt,
-            script,
-            (case.status, case.answers.as_bytes()),
-            case.name,
-        )?;
+    let mut rest = table;
+    for _ in 0..count {
+        let (case, behind) = first_case(rest).expect(rt, "a table has fewer cases");
+        check_case(rt, case)?;
+        rest = behind;
     }
+    assert_eq!(rt; rest, "", "a table has more cases");
     Ok(())
 }
 
 #[test]
 fn scripts_are_answered(rt: HostRuntime) -> Result<(), AllocError> {
-    check_cases(&rt, &CASES)
+    check_cases(&rt, CASES, 24)
 }
 
 #[test]
 fn rings_are_answered(rt: HostRuntime) -> Result<(), AllocError> {
-    check_cases(&rt, &RINGS)
+    check_cases(&rt, RINGS, 7)
 }
 
 #[test]
 fn pairs_are_answered(rt: HostRuntime) -> Result<(), AllocError> {
-    check_cases(&rt, &PAIRS)
+    check_cases(&rt, PAIRS, 7)
 }
 
 #[test]
 fn limits_of_nodes_are_answered(rt: HostRuntime) -> Result<(), AllocError> {
-    check_cases(&rt, &NODES)
+    check_cases(&rt, NODES, 8)
 }
 
 #[test]
 fn edited_domains_are_answered(rt: HostRuntime) -> Result<(), AllocError> {
-    check_cases(&rt, &EDITS)
+    check_cases(&rt, EDITS, 4)
 }
 
 #[test]
 fn flooded_domains_are_answered(rt: HostRuntime) -> Result<(), AllocError> {
-    check_cases(&rt, &FIELD)
+    check_cases(&rt, FIELD, 3)
 }
 
 #[test]
 fn adjacency_labels_are_answered(rt: HostRuntime) -> Result<(), AllocError> {
-    check_cases(&rt, &ACTIVE)
+    check_cases(&rt, ACTIVE, 12)
 }
 
 #[test]
 fn certificates_are_answered(rt: HostRuntime) -> Result<(), AllocError> {
-    check_cases(&rt, &CERTIFICATES)
+    check_cases(&rt, CERTIFICATES, 6)
 }
 
 #[test]
 fn loads_are_answered(rt: HostRuntime) -> Result<(), AllocError> {
-    check_cases(&rt, &LOADS)
+    check_cases(&rt, LOADS, 4)
 }
 
 #[test]
 fn accounts_are_answered(rt: HostRuntime) -> Result<(), AllocError> {
-    check_cases(&rt, &ACCOUNTS)
+    check_cases(&rt, ACCOUNTS, 2)
 }
 
 #[test]
 fn groups_are_answered(rt: HostRuntime) -> Result<(), AllocError> {
-    check_cases(&rt, &GROUPS)
+    check_cases(&rt, GROUPS, 3)
 }
 
 #[test]
 fn tries_are_answered(rt: HostRuntime) -> Result<(), AllocError> {
-    check_cases(&rt, &TRIES)
+    check_cases(&rt, TRIES, 2)
 }
 
 #[test]
 fn differences_are_answered(rt: HostRuntime) -> Result<(), AllocError> {
-    check_cases(&rt, &DIFFERENCES)
+    check_cases(&rt, DIFFERENCES, 2)
 }
 
 #[test]
 fn reasons_are_answered(rt: HostRuntime) -> Result<(), AllocError> {
-    check_cases(&rt, &REASONS)
+    check_cases(&rt, REASONS, 3)
 }
 
 #[test]
 fn flooded_domains_are_audited(rt: HostRuntime) -> Result<(), AllocError> {
-    check_cases(&rt, &AUDITS)
+    check_cases(&rt, AUDITS, 2)
 }
 
 /// These words are no command: with them nothing is read or written, and the status is 2.

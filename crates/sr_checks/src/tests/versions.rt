@@ -3,7 +3,7 @@
 ghost use Rattle.std.specs.Prelude.{◌≡◌, ◌<◌, IfOk};
 ghost use Rattle.sr_model.specs.Case.{IsCase};
 
-use super::cases::Case as Script;
+use super::cases::first_case;
 use super::pairs::PAIRS;
 use super::rings::RINGS;
 use sr_domain::net_of;
@@ -47,22 +47,25 @@ fn net_announced(alloc: Global, script: &str) -> Result<Net, Fail> {
     net
 }
 
-/// The script of this name in the table.
-fn find<'a>(scripts: &'a [Script], name: &str) -> Option<&'a str> {
-    for script in scripts {
-        if script.name == name {
-            return Some(script.script);
+/// The script of this name in the table, which has this many cases.
+fn find<'a>(table: &'a str, count: usize, name: &str) -> Option<&'a str> {
+    let mut rest = table;
+    for _ in 0..count {
+        let (case, behind) = first_case(rest)?;
+        if case.name == name {
+            return Some(case.script);
         }
+        rest = behind;
     }
     None
 }
 
-/// The script of this name, of a ring or of bidirectional links. The tables are named here alone, since a function is proved
-/// with all the scripts of the tables that it names.
+/// The script of this name, of a ring or of bidirectional links. The tables are named here alone, since a function is
+/// proved with all the scripts of the tables that it names.
 fn script_named(name: &str) -> Result<&'static str, Fail> {
-    let found = match find(&RINGS, name) {
+    let found = match find(RINGS, 7, name) {
         Some(script) => Some(script),
-        None => find(&PAIRS, name),
+        None => find(PAIRS, 7, name),
     };
     match found {
         Some(script) => Ok(script),
