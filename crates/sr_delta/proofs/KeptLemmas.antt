@@ -3,19 +3,23 @@ use Rattle.std.proofs.Common.{◌≡◌, ◌≢◌, ◌↔◌, ℕ, zero, suc, �
 use Rattle.std.specs.Prelude.{slice_get, unwrap_or}
 use Rattle.std.proofs.lemmas.Bool.{cases_lt, cases_eq}
 use Rattle.std.proofs.lemmas.List.{length_push, get_or_push, get_or_append_left}
+use Rattle.std.proofs.lemmas.Option.{get_or_from_slice_get, slice_get_within}
+use Rattle.sr_lanes.specs.declared.words.NodeBits.{NodeBits}
 use Rattle.sr_model.specs.declared.link.LinkNo.{LinkNo}
 use Rattle.sr_model.specs.Key.{KeyLt}
-use Rattle.sr_model.specs.Graph.{Graph, node_count, has, IsGraph, IsNamed}
+use Rattle.sr_model.specs.Graph.{Graph, node_count, link_count, tail, has, IsGraph, IsNamed}
 use Rattle.sr_model.specs.Walk.{IsNextHop}
 use Rattle.sr_model.specs.Case.{key_at}
 use Rattle.sr_model.specs.Label.{Net}
 use Rattle.sr_model.specs.Stay.{HaveSameName, IsKeptTree}
-use Rattle.sr_laws.proofs.Keys.{KeyLt-trans, KeyLt-irrefl, key-one}
+use Rattle.sr_walks.proofs.Walks.{walk-within}
+use Rattle.sr_laws.proofs.Keys.{KeyLt-trans, KeyLt-irrefl, key-one, name-ends, nodes-same}
 use Rattle.sr_laws.proofs.Kept.{tree-same, hops-same, hop-there}
 use Rattle.sr_laws.proofs.KeptWays.{hop-old}
+use Rattle.sr_spf.specs.Carried.{IsCarried, AreCarried}
 use Rattle.sr_spf.specs.Hops.{AreNextHops}
 use Rattle.sr_spf.specs.Trees.{Forest, AreTrees, hops_at}
-use Rattle.sr_spf.specs.Renewed.{moved_link, moved_links, AreRenewable}
+use Rattle.sr_spf.specs.Renewed.{moved_link, moved_links, AreRenewable, IsInPlace}
 use Rattle.sr_delta.specs.Partners.{IsPartner, partner_at, ArePartners}
 use Rattle.sr_delta.specs.KeptTrees.{AreTreesKeptBelow, AreKeptTrees}
 use Rattle.sr_laws.proofs.Places.{map-from}
@@ -83,6 +87,30 @@ module _ (g h : Graph) (links : List (Option LinkNo)) (are : AreMatched g h link
         (at.0, moved_link links at.1, got_there (moved_link links) list at.0 at.1 at.2, key-one h are.named' (moved_link links at.1).0 k name.1 old.1.1 same);
   }
 
+-- the set of a link in its place stays where its beginning's tree does
+set-stays : (g h : Graph) (links : List (Option LinkNo)) (sets : List NodeBits) (marks : List Bool) (l : ℕ) (set : NodeBits) → AreMatched g h links → IsKeptTree g h (tail h l) → AreCarried g sets (link_count g) → IsInPlace h marks links l → slice_get sets l ≡ Some set → IsCarried h l set
+set-stays g h links sets marks l set are kept carried place at =
+    let partner : partner_at links l ≡ Some (record { 0 = l }) = get_or_from_slice_get links l (Some (record { 0 = l })) None place.number in
+    let old : l < link_count g = let low = slice_get_within links l (Some (record { 0 = l })) place.number in omega (arith, low, are.partners.long) in
+    let name : HaveSameName g h l l = subst (IsPartner g h l) partner (are.partners.each l old) in
+    let nodes : node_count h ≡ node_count g = nodes-same g h kept.nodes in
+    let ends = name-ends g h are.old are.new are.named are.named' kept.nodes l l name in
+    let from : tail h l < node_count g = omega (arith, ends.0, (are.old.each l old).0) in
+    let is : IsCarried g l set = carried.each l set at in
+    let P : ℕ → ℕ → Type 0 = λ u v. IsNextHop g [] u v l in
+    let Q : ℕ → Type 0 = λ v. IsNextHop h [] (tail h l) v l in
+    let there : (v : ℕ) → v < node_count g → P (tail h l) v ↔ Q v = λ v lt. hops-same g h are.old are.named are.new are.named' (tail h l) v l l from lt kept name in
+    record {
+      each = λ v. (
+        λ yes.
+            let hop : P (tail h l) v = subst (λ u. P u v) (sym ends.0) ((is.each v).0 yes) in
+            (there v (walk-within g [] (tail h l) (l ∷ hop.more) v are.old from hop.shortest.0)).0 hop,
+        λ hop.
+            let within : v < node_count g = let lt = walk-within h [] (tail h l) (l ∷ hop.more) v are.new (omega (arith, nodes, from)) hop.shortest.0 in omega (arith, nodes, lt) in
+            (is.each v).1 (subst (λ u. P u v) ends.0 ((there v within).1 hop)),
+      );
+    }
+
 -- trees that stay can be renewed
 pub kept-renewable : (n m : Net) (t : Forest) (links : List (Option LinkNo)) (marks : List Bool) → AreMatched n.graph m.graph links → node_count m.graph ≡ node_count n.graph → AreTrees n.graph t → AreKeptTrees n m marks → AreRenewable m.graph t marks links
 kept-renewable n m t links marks are nodes trees kept = record {
@@ -95,6 +123,9 @@ kept-renewable n m t links marks are nodes trees kept = record {
       let from : u < node_count n.graph = omega (arith, nodes, lt) in
       let to : v < node_count n.graph = omega (arith, nodes, below) in
       hops-moved n.graph m.graph links are u v from to ((kept.each u from).0 on) (hops_at t u v) (trees.hops u v from to);
+  carried = λ l set lt place at.
+      let from : tail m.graph l < node_count n.graph = omega (arith, nodes, (are.new.each l lt).0) in
+      set-stays n.graph m.graph links t.carried marks l set are ((kept.each (tail m.graph l) from).0 place.marked) trees.carried place at;
 }
 
 -- no mark of no node

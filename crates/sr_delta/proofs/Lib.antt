@@ -1,6 +1,8 @@
 pub mod PartnerLemmas
 pub mod ChangeLemmas
 pub mod IdleLemmas
+pub mod PastLemmas
+pub mod LostLemmas
 pub mod AlikeLemmas
 pub mod PairLemmas
 pub mod FailureLemmas

@@ -3,6 +3,7 @@ pub mod Changed
 pub mod Changes
 pub mod KeptTrees
 pub mod Idle
+pub mod Lost
 pub mod Alike
 pub mod Pairs
 pub mod Grouped

@@ -1,5 +1,5 @@
 //! Which trees stay.
-ghost use Rattle.std.specs.Prelude.{◌≡◌, true, IfOk};
+ghost use Rattle.std.specs.Prelude.{◌≡◌, true, length, IfOk};
 ghost use Rattle.sr_model.specs.Label.{Net};
 ghost use Rattle.sr_spf.specs.Trees.{tree_count, AreTrees};
 ghost use Rattle.sr_spf.specs.Renewed.{AreRenewable};
@@ -16,6 +16,7 @@ use std::alloc::{AllocError, Global};
 /// renewed by these marks and by the partners of the links.
 pub fn kept_trees(alloc: Global, changes: &Changes, old: &Trees) -> Result<Vec<bool>, AllocError>
     requires { changes.now.nodes ≡ tree_count old.now }
+    ensures long { IfOk result (λ list. length list.items ≡ tree_count old.now) }
     ensures kept { (n m : Net) → AreChanges n m changes.now → AreTrees n.graph old.now
         → IfOk result (λ list. AreKeptTrees n m list.items) }
     ensures renewable { (n m : Net) → AreChanges n m changes.now → AreTrees n.graph old.now → changes.now.same ≡ true

@@ -23,7 +23,7 @@ use Rattle.sr_post.specs.Kept.{IsKept, LeadsTo, LieAt}
 use Rattle.sr_laws.proofs.Failures.{touches-pair}
 use Rattle.sr_laws.proofs.Keys.{pair-sym}
 use Rattle.sr_post.proofs.SourceLemmas.{kept-at_source, lie-at-source, no-node_fails}
-use Rattle.sr_post.specs.Nodes.{listed_at}
+use Rattle.sr_spf.specs.Nodes.{listed_at}
 use Rattle.sr_post.specs.Sets.{AreKeptCells, HaveKeptCells}
 use Rattle.sr_post.specs.Bypass.{AreLostFilled, IsDistancePast, node_case}
 

@@ -2,7 +2,6 @@
 use Rattle.std.proofs.Common.{◌≡◌, ℕ, ◌+◌, ◌<◌, ◌≤◌, ◌⊎◌, ⊎_elim, inl, inr, Bool, true, false, List, [], ◌∷◌, ◌++◌, length, refl, arith, ap, sym, ◌∙◌, subst, get_or}
 use Rattle.std.specs.Prelude.{Contains, slice_index, if◌then◌else◌}
 use Rattle.std.proofs.lemmas.Bool.{cases_eq, cases_lt, cases_Bool}
-use Rattle.std.proofs.lemmas.List.Elements.{Contains-get_or}
 use Rattle.std.proofs.lemmas.List.{length-append, get_or_push, get_or_past, get_or_default}
 use Rattle.sr_model.specs.Graph.{Graph, IsGraph, IsLink, carries, has, head, is_overloaded, link_at, link_count, metric, node_count, tail}
 use Rattle.sr_model.specs.Walk.{IsDistance, IsRow, IsShortest, IsWalk, Passes, cost}
@@ -16,8 +15,10 @@ use Rattle.sr_spf.specs.Begun.{HasWay, IsBegun}
 use Rattle.sr_lanes.specs.declared.words.NodeBits.{NodeBits}
 use Rattle.sr_lanes.specs.Bits.{is_in}
 use Rattle.sr_post.specs.Kept.{LeadsTo, IsKept, AreLost}
-use Rattle.sr_post.specs.Nodes.{AreThose, listed_at}
-use Rattle.sr_post.specs.Sets.{AreCellsWithout, AreKeptCells}
+use Rattle.sr_spf.specs.Nodes.{AreThose, listed_at}
+use Rattle.sr_spf.specs.Lost.{AreCellsWithout}
+use Rattle.sr_spf.proofs.NodeLemmas.{listed-contains}
+use Rattle.sr_post.specs.Sets.{AreKeptCells}
 use Rattle.sr_seq.proofs.ListLemmas.{last-cut}
 use Rattle.sr_walks.proofs.Walks.{avoids-left}
 
@@ -103,13 +104,6 @@ kept_walk g x s v kept =
     (λ (e : v ≡ s). ([], sym e))
     (λ (c : (l : ℕ) × LeadsTo g x s v l). let leads : LeadsTo g x s v c.0 = c.1 in (c.0 ∷ leads.hop.more, leads.hop.shortest.0))
     kept
-
--- a node that is listed stands in the list
-listed-contains : (P : ℕ → Type 0) (m : ℕ) (nodes : List NodeNo) (v : ℕ) → AreThose P m nodes → v < m → P v → Contains nodes (record { 0 = v })
-listed-contains P m nodes v those lt is =
-    let at = those.all v lt is in
-    let same : get_or nodes at.0 (record { 0 = 0 }) ≡ record { 0 = v } = ap (λ k. record { 0 = k }) at.2 in
-    subst (λ (node : NodeNo). Contains nodes node) same (Contains-get_or nodes at.0 (record { 0 = 0 }) at.1)
 
 -- it is so where the lost nodes have FAR, and are listed
 pub kept-cells : (g : Graph) (x : List Bool) (s : ℕ) (row cells : List ℕ) (nodes : List NodeNo) (lost : NodeBits) → IsGraph g → length row ≡ node_count g → AreLost g x s lost → AreCellsWithout row lost cells → AreThose (λ v. is_in lost v ≡ true) 256 nodes → AreKeptCells g x s row cells nodes

@@ -1,4 +1,3 @@
-pub mod NodeLemmas
 pub mod WayLemmas
 pub mod OutsideLemmas
 pub mod MarkLemmas
@@ -8,6 +7,5 @@ pub mod LedLemmas
 pub mod AffectedLemmas
 pub mod DangerLemmas
 pub mod SourceLemmas
-pub mod ListedLemmas
 pub mod DoubtLemmas
 pub mod BypassLemmas

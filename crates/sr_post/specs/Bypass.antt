@@ -4,7 +4,7 @@ use Rattle.sr_model.specs.declared.case.Case.{Case}
 use Rattle.sr_model.specs.declared.case.Kind.TheVariants.{Node as NodeKind}
 use Rattle.sr_model.specs.declared.link.NodeNo.{NodeNo}
 use Rattle.sr_model.specs.Graph.{Graph, carries}
-use Rattle.sr_post.specs.Nodes.{listed_at}
+use Rattle.sr_spf.specs.Nodes.{listed_at}
 
 -- the case in which the end of the same link fails
 abbrev pub node_case : Case → Case

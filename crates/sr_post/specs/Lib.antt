@@ -1,4 +1,3 @@
-pub mod Nodes
 pub mod Post
 pub mod Marks
 pub mod Kept

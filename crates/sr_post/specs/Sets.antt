@@ -1,5 +1,5 @@
 -- Lists of cells, and hops that are kept, which sets of nodes change.
-use Rattle.std.specs.Prelude.{◌≡◌, ℕ, ◌<◌, ◌⊎◌, Bool, true, not, ◌&&◌, if◌then◌else◌, List, [], length, All, Contains, slice_index}
+use Rattle.std.specs.Prelude.{◌≡◌, ℕ, ◌<◌, ◌⊎◌, Bool, true, not, ◌&&◌, List, [], length, All, Contains, slice_index}
 use Rattle.sr_lanes.specs.Bits.{is_in}
 use Rattle.sr_lanes.specs.declared.words.NodeBits.{NodeBits}
 use Rattle.sr_model.specs.Graph.{Graph, node_count}
@@ -10,12 +10,7 @@ use Rattle.sr_model.specs.declared.link.TheConstants.{FAR}
 use Rattle.sr_post.specs.declared.kept.HopNodes.{HopNodes}
 use Rattle.sr_post.specs.declared.kept.KeptHops.{KeptHops}
 use Rattle.sr_post.specs.Kept.{AreKeptHops, AreLost, IsKept}
-use Rattle.sr_post.specs.Nodes.{listed_at}
-
--- the cells are those of the row, but FAR at the nodes of the set
-pub record AreCellsWithout (row : List ℕ) (lost : NodeBits) (cells : List ℕ) : Type 0 where
-  pub long : length cells ≡ length row
-  pub each : (v : ℕ) → slice_index cells v ≡ (if is_in lost v then FAR else slice_index row v)
+use Rattle.sr_spf.specs.Nodes.{listed_at}
 
 -- the hop is kept towards the nodes of the set, which are left no more
 pub record KeepsHop (before : KeptHops) (hop : LinkNo) (nodes : NodeBits) (after : KeptHops) : Type 0 where

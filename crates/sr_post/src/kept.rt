@@ -1,5 +1,5 @@
 //! What a failure leaves as it was: distances from the source, and next hops.
-ghost use Rattle.std.specs.Prelude.{◌≡◌, ℕ, ◌<◌, ◌↔◌, [], true, length, IsTrue, IfOk, MatchOption, OnOk};
+ghost use Rattle.std.specs.Prelude.{◌≡◌, ℕ, ◌<◌, ◌↔◌, [], true, IsTrue, IfOk, MatchOption, OnOk};
 ghost use Rattle.sr_lanes.specs.Bits.{is_in};
 ghost use Rattle.sr_model.specs.declared.link.LinkNo.{LinkNo as Number};
 ghost use Rattle.sr_model.specs.Graph.{node_count, link_count, tail};
@@ -7,14 +7,13 @@ ghost use Rattle.sr_model.specs.Walk.{IsNextHop};
 ghost use Rattle.sr_spf.specs.Begun.{IsBegun};
 ghost use Rattle.sr_spf.specs.Trees.{AreTrees};
 ghost use Rattle.sr_post.specs.Kept.{AreDoubtful, LeadsTo, LosesHop, AreEndangered, AreKeptHops, AreLost, IsKeptHop};
-ghost use Rattle.sr_post.specs.Sets.{AreCellsWithout, HaveKeptCells, KeepsHop, AreKeptAndLost};
+ghost use Rattle.sr_post.specs.Sets.{HaveKeptCells, KeepsHop, AreKeptAndLost};
 
-use crate::listed::all_listed;
 use sr_graph::LinkRange;
 use sr_lanes::{NodeBits, finite};
-use sr_model::{FAR, LinkNo, NodeNo};
+use sr_model::{LinkNo, NodeNo};
 use sr_spaces::Spaces;
-use sr_spf::Trees;
+use sr_spf::{Trees, all_listed, cells_without};
 use std::alloc::{AllocError, Global};
 
 /// Up to this many endangered nodes are tried one by one: each has a few next hops, and a source may have many links, all
@@ -222,20 +221,6 @@ fn keep_hops(
     } else {
         keep_by_links(alloc, spaces, trees, doubtful, source, among)
     }
-}
-
-/// The cells of the row, but `FAR` at the lost nodes.
-fn cells_without(alloc: Global, row: &[u64], lost: NodeBits) -> Result<Vec<u64>, AllocError>
-    requires { (v : ℕ) → is_in lost v ≡ true → v < length row.now }
-    ensures { IfOk result (λ cells. AreCellsWithout row.now lost cells.items) }
-{
-    let mut cells = Vec::with_capacity(alloc, row.len())?;
-    cells.extend_from_slice(row)?;
-    let mut left = lost;
-    'left: while let Some(node) = left.take_first() {
-        cells[node] = FAR;
-    }
-    Ok(cells)
 }
 
 /// What is known from the source without a search.

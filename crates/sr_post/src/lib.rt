@@ -8,7 +8,6 @@ mod destinations;
 mod failure;
 mod kept;
 mod left;
-mod listed;
 mod marks;
 mod spaces;
 

@@ -17,7 +17,7 @@ use crate::answers::{Found, found_of, lists_of};
 use crate::former::Former;
 use crate::made::{Made, made_of};
 use crate::setting::Setting;
-use sr_delta::{Changes, changes, kept_trees, moved_distances};
+use sr_delta::{Changes, changes, moved_distances, renewal};
 use sr_encode::{CaseAnswers, CaseLists};
 use sr_fib::{Fib, Sids};
 use sr_labels::Net;
@@ -129,10 +129,18 @@ impl Computed {
     {
         let tails = tails(alloc, self.net.graph())?;
         let old = self.trees();
-        let kept = kept_trees(alloc, changes, old)?;
-        let trees = old.renew(rt, alloc, net.graph(), &kept, changes.partners(), steps)?;
+        let renewal = renewal(alloc, net.graph(), changes, old)?;
+        let trees = old.renew(rt, alloc, net.graph(), &renewal, changes.partners(), steps)?;
         let farther = moved_distances(alloc, old, &trees)?;
-        let former = Former::new(self, &net, changes, &kept, &trees, &farther, &tails);
+        let former = Former::new(
+            self,
+            &net,
+            changes,
+            &renewal.stays,
+            &trees,
+            &farther,
+            &tails,
+        );
         let setting = Setting::after(&net, &trees, former);
         let made = made_of(rt, alloc, &setting, steps)?;
         Computed::made(alloc, net, trees, made)

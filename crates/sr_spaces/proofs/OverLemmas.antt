@@ -13,7 +13,7 @@ use Rattle.sr_spf.specs.Trees.{Forest, AreTrees, cell_at, row_at}
 use Rattle.sr_spaces.proofs.SpaceLemmas.{tree_cell, OnShortest-within, OnShortest-sum, sum-OnShortest}
 
 -- the cell of a node to itself is 0
-own_cell : (g : Graph) (t : Forest) (w : ℕ) → AreTrees g t → w < node_count g → cell_at t w w ≡ 0
+pub own_cell : (g : Graph) (t : Forest) (w : ℕ) → AreTrees g t → w < node_count g → cell_at t w w ≡ 0
 own_cell g t w a b = cell-distance g [] w w (cell_at t w w) 0 (tree_cell g t w w a b b) (distance-self g [] w) (omega arith)
 
 -- a link on a shortest walk stands on one to its own end

@@ -2,6 +2,8 @@ pub mod RelaxLemmas
 pub mod QueueLemmas
 pub mod BegunLemmas
 pub mod OrderLemmas
+pub mod NodeLemmas
+pub mod ListedLemmas
 pub mod TreesLemmas
 pub mod SharedLemmas
 pub mod RenewedLemmas

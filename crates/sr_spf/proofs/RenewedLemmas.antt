@@ -1,17 +1,21 @@
 -- Rows and next hops that stay, and those that were found.
-use Rattle.std.proofs.Common.{◌≡◌, ℕ, suc, ◌+◌, ◌-◌, ◌<◌, ◌≤◌, Bool, cond, true, false, List, [], ◌∷◌, length, Result, Ok, Err, OnOk, Option, Some, None, refl, arith, ap, sym, ◌∙◌, subst}
+use Rattle.std.proofs.Common.{◌≡◌, ℕ, suc, ◌+◌, ◌-◌, ◌<◌, ◌≤◌, Bool, cond, true, false, List, [], ◌∷◌, length, Result, Ok, Err, OnOk, Option, Some, None, refl, arith, ap, sym, ◌∙◌, subst, get_or}
 use Rattle.std.specs.Prelude.{not, is_some, count_by, take, drop, slice_index, slice_index_or, slice_range, unwrap_or}
 use Rattle.std.specs.List.{AllZip, range_with_len}
 use Rattle.std.proofs.lemmas.List.{length-map, get_or-map, take-map, drop-map}
 use Rattle.std.proofs.lemmas.List.Folds.{map_fixed}
+use Rattle.std.proofs.lemmas.Option.{slice_get_read}
 use Rattle.std.proofs.lemmas.List.Sums.{sum_by-cons}
+use Rattle.sr_lanes.specs.declared.words.NodeBits.{NodeBits}
 use Rattle.sr_model.specs.declared.link.LinkNo.{LinkNo}
 use Rattle.sr_model.specs.Graph.{Graph, node_count, has, IsGraph}
 use Rattle.sr_model.specs.Walk.{IsRow}
+use Rattle.sr_spf.specs.declared.renewed.Renewal.{Renewal}
 use Rattle.sr_spf.specs.declared.rows.Counted.{Counted}
 use Rattle.sr_spf.specs.Hops.{HopLists, AreNextHops, AreHopsFrom, hops_to}
 use Rattle.sr_spf.specs.Trees.{Forest, IsWholeForest, AreRows, AreHopTables, row_at, lists_at}
-use Rattle.sr_spf.specs.Renewed.{moved_link, moved_links, moved_table, AreInPlace, fallen, searches, rows_found, row_found, AreRenewable, AreRenewed, AreStayingRows, AreStayingTables, IsFoundRow, AreFoundRows, IsFoundTable}
+use Rattle.sr_spf.specs.Lost.{StandsBut}
+use Rattle.sr_spf.specs.Renewed.{moved_link, moved_links, moved_table, AreInPlace, fallen, searches, rows_found, row_found, AreRenewable, AreRenewed, AreRowsBut, AreStayingRows, AreStayingTables, IsFoundRow, AreFoundRows, IsFoundTable}
 use Rattle.sr_spf.proofs.OrderLemmas.{in_order}
 
 -- what was found of each node in order
@@ -78,6 +82,10 @@ tables-renewed h old stays found tables s zip r =
           subst (λ k. AreHopsFrom h u k) (sym (r.each u (record { starts = []; links = [] }) (omega (arith, all.0))))
           (table_or h stays u (lists_at old u) (slice_index_or found u None) (all.1 u lt) (s.each u lt));
     }
+
+-- where a row doesn't stay, a search goes on from its distances that stand
+pub row-stands : (h : Graph) (rows : List (List ℕ)) (r : Renewal) (u : ℕ) (lost : NodeBits) → AreRowsBut h rows r → u < node_count h → has r.stays.items u ≡ false → lost ≡ get_or r.lost.items u lost → StandsBut h u (row_at rows u) lost
+row-stands h rows r u lost are lt off is = are.each u lost lt off (slice_get_read r.lost.items (node_count h) u lost (sym are.sets) lt is)
 
 -- rows of a forest that is renewed
 pub rows-staying : (h : Graph) (t : Forest) (stays : List Bool) (links : List (Option LinkNo)) → AreRenewable h t stays links → AreStayingRows h t.rows stays

@@ -1,6 +1,8 @@
 pub mod Relax
 pub mod Queue
 pub mod Begun
+pub mod Nodes
+pub mod Lost
 pub mod Hops
 pub mod Carried
 pub mod Trees

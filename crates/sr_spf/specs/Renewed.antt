@@ -1,11 +1,15 @@
 -- Trees of an old graph that stay in a new one.
-use Rattle.std.specs.Prelude.{◌≡◌, ℕ, ◌<◌, Bool, true, false, not, is_some, List, [], ◌∷◌, ◌++◌, length, map, count_by, Option, Some, None, unwrap_or, slice_index_or}
+use Rattle.std.specs.Prelude.{◌≡◌, ℕ, ◌<◌, Bool, true, false, not, is_some, List, [], ◌∷◌, ◌++◌, length, map, count_by, Option, Some, None, unwrap_or, slice_get, slice_index_or}
+use Rattle.sr_lanes.specs.declared.words.NodeBits.{NodeBits}
 use Rattle.sr_model.specs.declared.link.LinkNo.{LinkNo}
-use Rattle.sr_model.specs.Graph.{Graph, IsGraph, node_count, has}
+use Rattle.sr_model.specs.Graph.{Graph, IsGraph, node_count, link_count, tail, has}
 use Rattle.sr_model.specs.Walk.{IsRow}
+use Rattle.sr_spf.specs.Carried.{IsCarried}
 use Rattle.sr_spf.specs.Hops.{HopLists, AreNextHops, AreHopsFrom}
 use Rattle.sr_spf.specs.Trees.{Forest, tree_count, row_at, lists_at, hops_at}
+use Rattle.sr_spf.specs.Lost.{StandsBut}
 use Rattle.sr_spf.specs.declared.rows.Counted.{Counted}
+use Rattle.sr_spf.specs.declared.renewed.Renewal.{Renewal}
 
 -- the number of the link in the new graph, where the list has one; else the link itself
 abbrev pub moved_link : List (Option LinkNo) → LinkNo → LinkNo
@@ -23,14 +27,26 @@ AreInPlace links = (link : LinkNo) → moved_link links link ≡ link
 abbrev pub fallen : List Bool → ℕ
 fallen stays = count_by (λ stay. not stay) stays
 
+-- link l has the number that it had, and begins at a marked node
+pub record IsInPlace (h : Graph) (stays : List Bool) (links : List (Option LinkNo)) (l : ℕ) : Type 0 where
+  pub number : slice_get links l ≡ Some (Some (record { 0 = l }))
+  pub marked : has stays (tail h l) ≡ true
+
+-- the set of each such link has the nodes towards which it is a next hop in the new graph
+abbrev pub AreStayingSets : Graph → List NodeBits → List Bool → List (Option LinkNo) → Type 0
+AreStayingSets h sets stays links =
+    (l : ℕ) (set : NodeBits) → l < link_count h → IsInPlace h stays links l → slice_get sets l ≡ Some set
+    → IsCarried h l set
+
 -- there is a mark for each node of the new graph, and there was a tree for each; the rows of the marked nodes are
--- those of the new graph, and so are their next hops, by the numbers of the links there
+-- those of the new graph, and so are their next hops, by the numbers of the links there, and the sets of their links
 pub record AreRenewable (h : Graph) (t : Forest) (stays : List Bool) (links : List (Option LinkNo)) : Type 0 where
   pub long : tree_count t ≡ node_count h
   pub marks : length stays ≡ node_count h
   pub rows : (u : ℕ) → u < node_count h → has stays u ≡ true → IsRow h [] u (row_at t.rows u)
   pub hops : (u v : ℕ) → u < node_count h → v < node_count h → has stays u ≡ true
       → AreNextHops h u v (moved_links links (hops_at t u v))
+  pub carried : AreStayingSets h t.carried stays links
 
 -- the item that the other list has at the next place stands behind the items that there were
 pub record SharesNext {X : Type 0} (other before after : List X) : Type 0 where
@@ -49,6 +65,20 @@ pub record AreStayingRows (h : Graph) (rows : List (List ℕ)) (stays : List Boo
   pub long : length rows ≡ node_count h
   pub marks : length stays ≡ node_count h
   pub each : (u : ℕ) → u < node_count h → has stays u ≡ true → IsRow h [] u (row_at rows u)
+
+-- there is a mark and a set for each node; a search from a node that isn't marked may begin with its row, but for the
+-- nodes of its set
+pub record AreRowsBut (h : Graph) (rows : List (List ℕ)) (r : Renewal) : Type 0 where
+  pub long : length rows ≡ node_count h
+  pub marks : length r.stays.items ≡ node_count h
+  pub sets : length r.lost.items ≡ node_count h
+  pub each : (u : ℕ) (lost : NodeBits) → u < node_count h → has r.stays.items u ≡ false
+      → slice_get r.lost.items u ≡ Some lost → StandsBut h u (row_at rows u) lost
+
+-- the marked trees are those of the new graph, and searches for the others may begin with their rows
+pub record IsRenewal (h : Graph) (t : Forest) (r : Renewal) (links : List (Option LinkNo)) : Type 0 where
+  pub stays : AreRenewable h t r.stays.items links
+  pub lost : AreRowsBut h t.rows r
 
 -- the next hops of the marked nodes are those of the graph, once they are moved
 pub record AreStayingTables (h : Graph) (tables : List HopLists) (stays : List Bool) (move : HopLists → HopLists)

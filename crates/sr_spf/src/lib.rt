@@ -6,6 +6,7 @@ mod begun;
 mod carried;
 mod dijkstra;
 mod hops;
+mod lost;
 mod renewed;
 mod rows;
 mod shared;
@@ -13,7 +14,9 @@ mod steps;
 mod trees;
 
 pub use begun::{least_way, row_after};
+pub use carried::ends_behind;
 pub use dijkstra::row;
-pub use renewed::are_in_place;
+pub use lost::{all_listed, cells_without};
+pub use renewed::{Renewal, are_in_place};
 pub use steps::{Searched, Steps};
 pub use trees::Trees;

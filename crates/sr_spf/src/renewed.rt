@@ -4,10 +4,11 @@ ghost use Rattle.sr_model.specs.Graph.{node_count, link_count};
 ghost use Rattle.sr_spf.specs.Carried.{AreCarried};
 ghost use Rattle.sr_spf.specs.Hops.{AreHopsFrom};
 ghost use Rattle.sr_spf.specs.Trees.{AreRows, AreHopTables};
-ghost use Rattle.sr_spf.specs.Renewed.{fallen, searches, rows_found, moved_table, row_found, AreInPlace, AreStayingRows, AreStayingTables, IsFoundRow, AreFoundRows, IsFoundTable};
+ghost use Rattle.sr_spf.specs.Renewed.{fallen, searches, rows_found, moved_table, row_found, AreInPlace, AreRowsBut, AreStayingRows, AreStayingTables, IsFoundRow, AreFoundRows, IsFoundTable};
 
 use crate::hops::{HopTable, hops_of};
-use crate::rows::{Counted, measured};
+use crate::lost::{all_listed, cells_without};
+use crate::rows::{Counted, measured_after};
 use crate::shared::Shared;
 use crate::steps::Steps;
 use crate::trees::NODES;
@@ -20,23 +21,36 @@ use std::alloc::{AllocError, Global};
 use std::sync::ledger::Ledger;
 use std::thread::Threads;
 
-/// The distances from the node in the whole graph, unless its row stays.
+/// What of the trees of an old graph serves a new one.
+#[derive(Debug, Drop)]
+pub struct Renewal {
+    /// By number, whether the tree of the node stays.
+    pub stays: Vec<bool>,
+    /// By number, the nodes to which the node's old distance may be another in the new graph, where its tree doesn't stay.
+    pub lost: Vec<NodeBits>,
+}
+
+/// The distances from the node in the whole graph, unless its row stays: the search goes on from those that stand.
 fn found_row(
     alloc: Global,
     graph: &Graph,
     nothing: &LinkSet,
-    stays: &[bool],
+    renewal: &Renewal,
+    old: &Shared<Seq<u64>>,
     node: NodeNo,
 ) -> Result<Option<Counted>, AllocError>
     requires nothing { nothing.now ≡ [] }
-    requires marks { length stays.now ≡ node_count graph.now }
+    requires old { AreRowsBut graph.now old.now renewal.now }
     requires node { node.0 < node_count graph.now }
-    ensures { IfOk result (IsFoundRow graph.now stays.now node.0) }
+    ensures { IfOk result (IsFoundRow graph.now renewal.now.stays.items node.0) }
 {
-    if stays[node.0 as usize] {
+    if renewal.stays[node.0 as usize] {
         return Ok(None);
     }
-    let counted = measured(alloc, graph, nothing, node)?;
+    let lost = renewal.lost[node.0 as usize];
+    let cells = cells_without(alloc, old.get(node.0 as usize).as_slice(), lost)?;
+    let nodes = all_listed(alloc, lost)?;
+    let counted = measured_after(alloc, graph, nothing, node, cells, &nodes)?;
     Ok(Some(counted))
 }
 
@@ -45,19 +59,20 @@ fn found_rows(
     rt: &(impl Threads + Sync),
     alloc: Global,
     graph: &Graph,
-    stays: &[bool],
+    renewal: &Renewal,
+    old: &Shared<Seq<u64>>,
 ) -> Result<Vec<Option<Counted>>, AllocError>
-    requires { length stays.now ≡ node_count graph.now }
-    ensures { IfOk result (λ all. AreFoundRows graph.now stays.now all.items) }
+    requires { AreRowsBut graph.now old.now renewal.now }
+    ensures { IfOk result (λ all. AreFoundRows graph.now renewal.now.stays.items all.items) }
 {
     let nothing = graph.nothing(alloc)?;
     let found = |node: u32| -> Result<Option<Counted>, AllocError>
         requires nothing { nothing ≡ [] }
         requires few { node_count graph.now ≤ 256 }
-        requires marks { length stays.now ≡ node_count graph.now }
+        requires old { AreRowsBut graph.now old.now renewal.now }
         requires node { node < node_count graph.now }
-        ensures { IfOk result (IsFoundRow graph.entry.now stays.entry.now node) }
-    { found_row(alloc, graph, &nothing, stays, NodeNo(node as u16)) };
+        ensures { IfOk result (IsFoundRow graph.entry.now renewal.entry.now.stays.items node) }
+    { found_row(alloc, graph, &nothing, renewal, old, NodeNo(node as u16)) };
     made_of_each(rt, alloc, graph.node_count(), NODES, &found)
 }
 
@@ -99,17 +114,17 @@ pub(crate) fn renewed_rows<L: Ledger>(
     rt: &(impl Threads + Sync),
     alloc: Global,
     graph: &Graph,
-    stays: &[bool],
+    renewal: &Renewal,
     old: &Shared<Seq<u64>>,
     steps: &mut Steps<L>,
 ) -> Result<Shared<Seq<u64>>, AllocError>
-    requires { AreStayingRows graph.now old.now stays.now }
+    requires { AreStayingRows graph.now old.now renewal.now.stays.items × AreRowsBut graph.now old.now renewal.now }
     ensures rows { IfOk result (λ rows. AreRows graph.now rows (node_count graph.now)) }
-    ensures steps { OnOk result (steps.new ≡ steps.old + fallen stays.now) }
-    ensures most { steps.new ≤ steps.old + fallen stays.now }
+    ensures steps { OnOk result (steps.new ≡ steps.old + fallen renewal.now.stays.items) }
+    ensures most { steps.new ≤ steps.old + fallen renewal.now.stays.items }
     ensures least { steps.old ≤ steps.new }
 {
-    let all = found_rows(rt, alloc, graph, stays)?;
+    let all = found_rows(rt, alloc, graph, renewal, old)?;
     let found = all_found_taken_in(alloc, all, steps)?;
     Shared::renewed(alloc, old, found)
 }
@@ -136,15 +151,15 @@ fn found_table(
     alloc: Global,
     graph: &Graph,
     carried: &[NodeBits],
-    stays: &[bool],
+    renewal: &Renewal,
     node: NodeNo,
 ) -> Result<Option<HopTable>, AllocError>
     requires carried { AreCarried graph.now carried.now (link_count graph.now) }
-    requires marks { length stays.now ≡ node_count graph.now }
+    requires marks { length renewal.now.stays.items ≡ node_count graph.now }
     requires node { node.0 < node_count graph.now }
-    ensures { IfOk result (IsFoundTable graph.now stays.now node.0) }
+    ensures { IfOk result (IsFoundTable graph.now renewal.now.stays.items node.0) }
 {
-    if stays[node.0 as usize] {
+    if renewal.stays[node.0 as usize] {
         return Ok(None);
     }
     let table = hops_of(alloc, graph, carried, node)?;
@@ -158,20 +173,20 @@ pub(crate) fn kept_tables(
     graph: &Graph,
     carried: &[NodeBits],
     old: &Shared<HopTable>,
-    stays: &[bool],
+    renewal: &Renewal,
 ) -> Result<Shared<HopTable>, AllocError>
     requires carried { AreCarried graph.now carried.now (link_count graph.now) }
-    requires old { AreStayingTables graph.now old.now stays.now (λ t. t) }
+    requires old { AreStayingTables graph.now old.now renewal.now.stays.items (λ t. t) }
     ensures { IfOk result (λ hops. AreHopTables graph.now hops (node_count graph.now)) }
 {
     let found = |node: u32| -> Result<Option<HopTable>, AllocError>
         requires carried { AreCarried graph.now carried.now (link_count graph.now) }
-        requires marks { length stays.now ≡ node_count graph.now }
+        requires marks { length renewal.now.stays.items ≡ node_count graph.now }
         requires node { node < node_count graph.now }
-        ensures { IfOk result (IsFoundTable graph.entry.now stays.entry.now node) }
+        ensures { IfOk result (IsFoundTable graph.entry.now renewal.entry.now.stays.items node) }
     {
         let _count = graph.node_count();
-        found_table(alloc, graph, carried, stays, NodeNo(node as u16))
+        found_table(alloc, graph, carried, renewal, NodeNo(node as u16))
     };
     let tables = made_of_each(rt, alloc, graph.node_count(), NODES, &found)?;
     Shared::renewed(alloc, old, tables)
@@ -183,16 +198,16 @@ fn moved_or_found(
     graph: &Graph,
     carried: &[NodeBits],
     old: &Shared<HopTable>,
-    stays: &[bool],
+    renewal: &Renewal,
     links: &[Option<LinkNo>],
     node: NodeNo,
 ) -> Result<HopTable, AllocError>
     requires carried { AreCarried graph.now carried.now (link_count graph.now) }
-    requires old { AreStayingTables graph.now old.now stays.now (moved_table links.now) }
+    requires old { AreStayingTables graph.now old.now renewal.now.stays.items (moved_table links.now) }
     requires node { node.0 < node_count graph.now }
     ensures { IfOk result (AreHopsFrom graph.now node.0) }
 {
-    if stays[node.0 as usize] {
+    if renewal.stays[node.0 as usize] {
         return old.get(node.0 as usize).moved(alloc, links);
     }
     hops_of(alloc, graph, carried, node)
@@ -206,16 +221,16 @@ pub(crate) fn moved_tables(
     graph: &Graph,
     carried: &[NodeBits],
     old: &Shared<HopTable>,
-    stays: &[bool],
+    renewal: &Renewal,
     links: &[Option<LinkNo>],
 ) -> Result<Shared<HopTable>, AllocError>
     requires carried { AreCarried graph.now carried.now (link_count graph.now) }
-    requires old { AreStayingTables graph.now old.now stays.now (moved_table links.now) }
+    requires old { AreStayingTables graph.now old.now renewal.now.stays.items (moved_table links.now) }
     ensures { IfOk result (λ hops. AreHopTables graph.now hops (node_count graph.now)) }
 {
     let moved = |node: u32| -> Result<HopTable, AllocError>
         requires carried { AreCarried graph.now carried.now (link_count graph.now) }
-        requires old { AreStayingTables graph.now old.now stays.now (moved_table links.now) }
+        requires old { AreStayingTables graph.now old.now renewal.now.stays.items (moved_table links.now) }
         requires node { node < node_count graph.now }
         ensures { IfOk result (AreHopsFrom graph.entry.now node) }
     {
@@ -225,7 +240,7 @@ pub(crate) fn moved_tables(
             graph,
             carried,
             old,
-            stays,
+            renewal,
             links,
             NodeNo(node as u16),
         )

@@ -2,9 +2,11 @@
 ghost use Rattle.std.specs.Prelude.{◌≡◌, ◌+◌, ◌<◌, ◌≤◌, [], length, IfOk, OnOk};
 ghost use Rattle.sr_model.specs.Graph.{node_count};
 ghost use Rattle.sr_model.specs.Walk.{IsRow};
+ghost use Rattle.sr_spf.specs.Begun.{IsBegun};
 ghost use Rattle.sr_spf.specs.Trees.{AreRows};
 ghost use Rattle.sr_spf.specs.Rows.{rows_in};
 
+use crate::begun::row_after;
 use crate::dijkstra::row;
 use crate::shared::Shared;
 use crate::steps::{Searched, Steps};
@@ -58,6 +60,47 @@ pub(crate) fn measured(
     ensures { IfOk result (λ c. IsRow graph.now [] node.0 c.row) }
 {
     measured_from::<Brand>(alloc, graph, nothing, node, Blank::new(1))
+}
+
+/// The distances from the node in the whole graph, where those of all nodes but the lost ones are known. `nothing` is the set
+/// of no links.
+fn measured_after_from<L: Ledger>(
+    alloc: Global,
+    graph: &Graph,
+    nothing: &LinkSet,
+    node: NodeNo,
+    cells: Vec<u64>,
+    lost: &[NodeNo],
+    blank: Blank,
+) -> Result<Counted, AllocError>
+    requires blank { (blank.name ≡ L.name) × (blank.parts ≡ L.parts) × (0 < L.parts) }
+    requires nothing { nothing.now ≡ [] }
+    requires node { node.0 < node_count graph.now }
+    requires begun { IsBegun graph.now [] node.0 cells.items lost.now }
+    ensures { IfOk result (λ c. IsRow graph.now [] node.0 c.row) }
+{
+    let mut steps = Steps::<L>::new(blank);
+    let row = row_after(alloc, graph, nothing, node, cells, lost, &mut steps)?;
+    let searched = steps.give_up();
+    Ok(Counted { row, searched })
+}
+
+/// The distances from the node in the whole graph, where those of all nodes but the lost ones are known, by a counter of
+/// their own.
+pub(crate) fn measured_after(
+    alloc: Global,
+    graph: &Graph,
+    nothing: &LinkSet,
+    node: NodeNo,
+    cells: Vec<u64>,
+    lost: &[NodeNo],
+) -> Result<Counted, AllocError>
+    requires nothing { nothing.now ≡ [] }
+    requires node { node.0 < node_count graph.now }
+    requires begun { IsBegun graph.now [] node.0 cells.items lost.now }
+    ensures { IfOk result (λ c. IsRow graph.now [] node.0 c.row) }
+{
+    measured_after_from::<Brand>(alloc, graph, nothing, node, cells, lost, Blank::new(1))
 }
 
 /// The distances from each node, by number. The nodes are split among threads where there are any.

@@ -7,11 +7,11 @@ ghost use Rattle.sr_model.specs.declared.link.TheConstants.{MOST_NODES as MostNo
 ghost use Rattle.sr_spf.specs.Carried.{IsCarried, AreCarried};
 ghost use Rattle.sr_spf.specs.Hops.{AreNextHops, AreHopsFrom};
 ghost use Rattle.sr_spf.specs.Trees.{AreTrees, AreHopTables, row_at, cell_at, hops_at, lists_at, tree_count, distance_of};
-ghost use Rattle.sr_spf.specs.Renewed.{AreRenewable, fallen};
+ghost use Rattle.sr_spf.specs.Renewed.{IsRenewal, fallen};
 
-use crate::carried::carried_of_all;
+use crate::carried::{carried_of_all, renewed_sets};
 use crate::hops::{HopTable, hops_of};
-use crate::renewed::{are_in_place, kept_tables, moved_tables, renewed_rows};
+use crate::renewed::{Renewal, are_in_place, kept_tables, moved_tables, renewed_rows};
 use crate::rows::rows_of;
 use crate::shared::Shared;
 use crate::steps::Steps;
@@ -98,30 +98,30 @@ impl Trees {
         })
     }
 
-    /// The distances and next hops from each node of a new graph. The marked trees stay, and share what stays; `links` has
-    /// the new number of each link that has one. One search is counted for each other tree. The nodes are split among
-    /// threads where there are any.
+    /// The distances and next hops from each node of a new graph. The marked trees stay, and share what stays; the searches
+    /// for the others go on from the distances that stand. `links` has the new number of each link that has one. One
+    /// search is counted for each tree that doesn't stay. The nodes are split among threads where there are any.
     pub fn renew<L: Ledger>(
         &self,
         rt: &(impl Threads + Sync),
         alloc: Global,
         graph: &Graph,
-        stays: &[bool],
+        renewal: &Renewal,
         links: &[Option<LinkNo>],
         steps: &mut Steps<L>,
     ) -> Result<Trees, AllocError>
-        requires { AreRenewable graph.now self.now stays.now links.now }
+        requires { IsRenewal graph.now self.now renewal.now links.now }
         ensures trees { IfOk result (λ t. AreTrees graph.now t) }
-        ensures steps { OnOk result (steps.new ≡ steps.old + fallen stays.now) }
-        ensures most { steps.new ≤ steps.old + fallen stays.now }
+        ensures steps { OnOk result (steps.new ≡ steps.old + fallen renewal.now.stays.items) }
+        ensures most { steps.new ≤ steps.old + fallen renewal.now.stays.items }
         ensures least { steps.old ≤ steps.new }
     {
-        let rows = renewed_rows(rt, alloc, graph, stays, &self.rows, steps)?;
-        let carried = carried_of_all(alloc, graph, &rows)?;
+        let rows = renewed_rows(rt, alloc, graph, renewal, &self.rows, steps)?;
+        let carried = renewed_sets(alloc, graph, &rows, &self.carried, renewal, links)?;
         let hops = if are_in_place(links) {
-            kept_tables(rt, alloc, graph, &carried, &self.hops, stays)?
+            kept_tables(rt, alloc, graph, &carried, &self.hops, renewal)?
         } else {
-            moved_tables(rt, alloc, graph, &carried, &self.hops, stays, links)?
+            moved_tables(rt, alloc, graph, &carried, &self.hops, renewal, links)?
         };
         Ok(Trees {
             rows,

@@ -9,11 +9,11 @@ use Rattle.sr_spf.proofs.trees.Trees.renew.Goals.{then-are_in_place+in_ok-hops, 
 
 pub kept_tables-requires-clause-old : goal.kept_tables-requires-clause-old
 kept_tables-requires-clause-old g c = λ κs below.
-    tables-kept _ _ _ _ c.self.invariant (subst (λ (t : Forest). AreRenewable c.args.graph.now t c.args.stays.now c.args.links.now) (sym c.self.view_is) c.requires) (c.are_in_place.ensures c.if-are_in_place.true)
+    tables-kept _ _ _ _ c.self.invariant (subst (λ (t : Forest). AreRenewable c.args.graph.now t c.args.renewal.now.stays.items c.args.links.now) (sym c.self.view_is) c.requires.stays) (c.are_in_place.ensures c.if-are_in_place.true)
 
 pub moved_tables-requires-clause-old : goal.moved_tables-requires-clause-old
 moved_tables-requires-clause-old g c = λ κs below.
-    tables-moved _ _ _ _ c.self.invariant (subst (λ (t : Forest). AreRenewable c.args.graph.now t c.args.stays.now c.args.links.now) (sym c.self.view_is) c.requires)
+    tables-moved _ _ _ _ c.self.invariant (subst (λ (t : Forest). AreRenewable c.args.graph.now t c.args.renewal.now.stays.items c.args.links.now) (sym c.self.view_is) c.requires.stays)
 
 pub returns-clause-trees : goal.returns-clause-trees
 returns-clause-trees g c =

@@ -1,15 +1,11 @@
 -- What lists of nodes keep.
-use Rattle.std.proofs.Common.{◌≡◌, ◌≢◌, ℕ, zero, suc, ◌+◌, ◌<◌, ◌≤◌, ⊎_elim, List, [], ◌∷◌, ◌++◌, length, refl, arith, ap, sym, ◌∙◌, subst}
+use Rattle.std.proofs.Common.{◌≡◌, ◌≢◌, ℕ, ◌+◌, ◌<◌, ◌≤◌, ⊎_elim, List, [], ◌∷◌, ◌++◌, length, refl, arith, ap, sym, ◌∙◌, subst, get_or}
+use Rattle.std.specs.Prelude.{Contains}
 use Rattle.std.proofs.lemmas.Bool.{cases_eq, cases_lt}
 use Rattle.std.proofs.lemmas.List.{length-append, get_or_push, get_or_append_left}
-use Rattle.sr_model.specs.declared.case.Case.{Case}
+use Rattle.std.proofs.lemmas.List.Elements.{Contains-get_or}
 use Rattle.sr_model.specs.declared.link.NodeNo.{NodeNo}
-use Rattle.sr_model.specs.Case.{IsCase, source_of}
-use Rattle.sr_model.specs.Graph.{node_count, link_at, IsGraph, IsLink}
-use Rattle.sr_model.specs.Label.{Net}
-use Rattle.sr_model.specs.Walk.{IsNextHop}
-use Rattle.sr_walks.proofs.Walks.{walk-within}
-use Rattle.sr_post.specs.Nodes.{listed_at, AreThose}
+use Rattle.sr_spf.specs.Nodes.{listed_at, AreThose}
 
 -- what stands for a node past the end of a list
 abbrev pub no_node : NodeNo
@@ -61,24 +57,9 @@ those-up P m n nodes r le none = record {
       (cases_lt u m);
 }
 
--- each stands no lower than its place
-those-above : (P : ℕ → Type 0) (m : ℕ) (nodes : List NodeNo) → AreThose P m nodes → (j : ℕ) → j < length nodes → j ≤ listed_at nodes j
-those-above P m nodes r zero lt = omega arith
-those-above P m nodes r (suc j) lt =
-    let before : j ≤ listed_at nodes j = those-above P m nodes r j (omega arith) in
-    let up : listed_at nodes j < listed_at nodes (suc j) = r.ascending j (suc j) (omega arith) lt in
-    omega arith
-
--- so there are no more than m
-pub those-few : (P : ℕ → Type 0) (m : ℕ) (nodes : List NodeNo) → AreThose P m nodes → length nodes ≤ m
-those-few P m nodes r =
-    ⊎_elim
-    (λ (more : m < length nodes). let above : m ≤ listed_at nodes m = those-above P m nodes r m more in let below : listed_at nodes m < m = (r.each m more).0 in absurd (omega arith))
-    (λ (few : length nodes ≤ m). few)
-    (cases_lt m (length nodes))
-
--- a destination that is affected is a node of the graph
-pub affected-within : (n : Net) (case : Case) (v : ℕ) → IsGraph n.graph → IsCase n.graph case → IsNextHop n.graph [] (source_of n.graph case) v case.link.0 → v < node_count n.graph
-affected-within n case v graph within hop =
-    let k : IsLink n.graph (link_at n.graph case.link.0) = graph.each case.link.0 within in
-    walk-within n.graph [] (source_of n.graph case) (case.link.0 ∷ hop.more) v graph k.0 hop.shortest.0
+-- a node that is listed stands in the list
+pub listed-contains : (P : ℕ → Type 0) (m : ℕ) (nodes : List NodeNo) (v : ℕ) → AreThose P m nodes → v < m → P v → Contains nodes (record { 0 = v })
+listed-contains P m nodes v those lt is =
+    let at = those.all v lt is in
+    let same : get_or nodes at.0 (record { 0 = 0 }) ≡ record { 0 = v } = ap (λ k. record { 0 = k }) at.2 in
+    subst (λ (node : NodeNo). Contains nodes node) same (Contains-get_or nodes at.0 (record { 0 = 0 }) at.1)

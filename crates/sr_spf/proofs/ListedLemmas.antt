@@ -8,9 +8,9 @@ use Rattle.sr_lanes.specs.Bits.{is_in, IsFirstIn, IsWithout}
 use Rattle.sr_lanes.proofs.SizeLemmas.{without-same, without-other, without-inside}
 use Rattle.sr_model.specs.declared.link.NodeNo.{NodeNo}
 use Rattle.sr_model.specs.declared.link.TheConstants.{FAR}
-use Rattle.sr_post.specs.Nodes.{AreThose}
-use Rattle.sr_post.specs.Sets.{AreCellsWithout}
-use Rattle.sr_post.proofs.NodeLemmas.{those-none, those-push, those-up}
+use Rattle.sr_spf.specs.Lost.{AreCellsWithout}
+use Rattle.sr_spf.specs.Nodes.{AreThose}
+use Rattle.sr_spf.proofs.NodeLemmas.{those-none, those-push, those-up}
 
 -- the nodes of the set below m are listed, and the others are left
 pub record AreListedBelow (all left : NodeBits) (nodes : List NodeNo) (m : ℕ) : Type 0 where

@@ -1,6 +1,6 @@
 use Rattle.sr_lanes.specs.Bits.{member_count}
-use Rattle.sr_post.proofs.ListedLemmas.{IsListing}
-use Rattle.sr_post.proofs.listed.all_listed.Given as goal
+use Rattle.sr_spf.proofs.ListedLemmas.{IsListing}
+use Rattle.sr_spf.proofs.lost.all_listed.Given as goal
 
 abbrev pub invariant-left : goal.invariant-left
 invariant-left l = IsListing l.fn.set l.left l.nodes.items
