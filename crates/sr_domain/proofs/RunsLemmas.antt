@@ -1,10 +1,11 @@
 -- The run of elements with a key, in a list that is sorted by key.
-use Rattle.std.proofs.Common.{◌≡◌, ℕ, zero, suc, ◌+◌, ◌-◌, ◌<◌, ◌≤◌, Bool, true, false, cond, List, [], ◌∷◌, length, length-drop, get_or, take, drop, filter, ltb, refl, arith, ap, subst, sym, ◌∙◌}
+use Rattle.std.proofs.Common.{◌≡◌, ℕ, zero, suc, ◌+◌, ◌-◌, ◌<◌, ◌≤◌, Bool, true, false, cond, List, [], ◌∷◌, length, length-drop, get_or, take, drop, filter, ltb, refl, arith, ap, true≢false, subst, sym, ◌∙◌}
 use Rattle.std.specs.Cmp.{IsTotalOrder}
 use Rattle.std.specs.List.Sorted.{IsPartitionPoint, IsPartitionedBy, IsSortedBy}
-use Rattle.std.specs.Ordering.{eq_by_cmp, is_eq, is_le, is_lt, ordering_index, ordering_reverse}
+use Rattle.std.specs.Ordering.{eq_by_cmp, is_eq, is_gt, is_le, is_lt, ordering_index, ordering_reverse}
 use Rattle.std.specs.declared.cmp.Ordering.{Ordering}
 use Rattle.std.specs.declared.cmp.Ordering.TheVariants.{Less, Equal, Greater}
+use Rattle.std.proofs.lemmas.Bool.{false_from_ne_true}
 use Rattle.std.proofs.lemmas.List.{get_or-drop, take_all}
 use Rattle.std.proofs.lemmas.List.Sorted.{IsPartitionedBy-ltb, searchable_from_sorted}
 
@@ -32,6 +33,11 @@ after-is : (o : Ordering) → is_le o ≡ false → is_eq (ordering_reverse o) �
 after-is Less e = absurd (cc)
 after-is Equal e = absurd (cc)
 after-is Greater e = refl
+
+pub past-is : (o : Ordering) → is_gt o ≡ true → is_le o ≡ false
+past-is Less e = absurd (cc)
+past-is Equal e = absurd (cc)
+past-is Greater e = refl
 
 -- what a partition point asks, of the tests by which a run begins and ends
 pub partitioned-lt : {K : Type 0} {R : K → K → Ordering} (o : IsTotalOrder R) → {X : Type 0} (key : X → K) (xs : List X) (x : K) → IsSortedBy (λ a b. is_lt (R (key a) (key b))) xs → IsPartitionedBy (λ y. is_lt (R (key y) x)) xs
@@ -95,3 +101,19 @@ run-of {K} {R} o {X} key xs x low n from to =
         ap (λ (m : ℕ). is_le (R (key (get_or xs m d)) x)) (let e : k ≡ low + (k - low) = omega arith in e)
         ∙ ap (λ (y : X). is_le (R (key y) x)) (sym (get_or-drop low xs (k - low) d))
         ∙ ap (λ (r : List X). is_le (R (key (get_or r (k - low) d)) x)) (sym (rest-is xs low))
+
+-- where the first that isn't below a key is above it, or there is none, there is no run of the key
+pub no-run-of : {K : Type 0} {R : K → K → Ordering} (o : IsTotalOrder R) → {X : Type 0} (key : X → K) (xs : List X) (x : K) (low : ℕ)
+    → IsSortedBy (λ a b. is_lt (R (key a) (key b))) xs
+    → IsPartitionPoint (λ y. is_lt (R (key y) x) ≡ true) (λ y. is_lt (R (key y) x) ≡ false) xs low
+    → ((d : X) → low < length xs → is_le (R (key (get_or xs low d)) x) ≡ false)
+    → [] ≡ filter (λ y. eq_by_cmp R x (key y)) xs
+no-run-of {K} {R} o {X} key xs x low up from past =
+    run (λ y. eq_by_cmp R x (key y)) xs low 0
+    (λ k d less _. turned d k ∙ before-is (R (key (get_or xs k d)) x) (from.0 k d (omega arith) less))
+    (λ k d at below within. absurd (omega arith))
+    (λ k d at within. turned d k ∙ after-is (R (key (get_or xs k d)) x)
+    (false_from_ne_true (is_le (R (key (get_or xs k d)) x)) (λ e. true≢false (sym (partitioned-le o key xs x up low k d (omega arith) within e) ∙ past d (omega arith)))))
+  where
+    turned : (d : X) (k : ℕ) → is_eq (R x (key (get_or xs k d))) ≡ is_eq (ordering_reverse (R (key (get_or xs k d)) x))
+    turned d k = ap is_eq (o.antisymm x (key (get_or xs k d)))

@@ -26,12 +26,15 @@ pub(crate) fn by_name(mut notes: Vec<RiskNote>) -> Vec<RiskNote>
     notes
 }
 
-/// The notes under the name, of notes in order of names.
+/// The notes under the name, of notes in order of names. Their end is searched for only where there are any.
 fn notes_under<'a>(notes: &'a [RiskNote], name: &RiskName) -> &'a [RiskNote]
     requires { AreNotesInOrder notes.now }
     ensures { result.now ≡ filter (is_under name.now) notes.now }
 {
     let start = notes.partition_point(|note| note.name.cmp(name).is_lt());
+    if start == notes.len() || notes[start].name.cmp(name).is_gt() {
+        return &[];
+    }
     let rest = &notes[start..];
     let count = rest.partition_point(|note| note.name.cmp(name).is_le());
     &rest[..count]
