@@ -30,8 +30,8 @@ pub record IsSetOf (test : ℕ → Type 0) (count : ℕ) (set : NodeBits) : Type
   pub each : (v : ℕ) → v < count → (is_in set v ≡ true) ↔ test v
   pub above : (v : ℕ) → count ≤ v → is_in set v ≡ false
 
--- the nodes with the same labels, with the same segments, with an index in both nets or in neither, with the same depth,
--- with links of the same pairs, and nodes with the same links in the same risk groups
+-- the nodes with the same labels, with the same segments, with an index in both nets or in neither, with the same
+-- depth, with links of the same pairs, and nodes with the same links in the same risk groups
 pub record Likeness : Type 0 where
   pub labels : NodeBits
   pub segments : NodeBits

@@ -1,5 +1,5 @@
 -- What the words of certificates say: rows, and labels.
-use Rattle.std.proofs.Common.{◌≡◌, ℕ, ◌+◌, ◌<◌, ◌≤◌, List, [], ◌∷◌, length, map, drop, Some, None, refl, sym, ap, ◌∙◌, arith}
+use Rattle.std.proofs.Common.{◌≡◌, ℕ, ◌+◌, ◌<◌, ◌≤◌, ◌⊎◌, inl, inr, List, [], ◌∷◌, length, map, drop, Some, None, refl, sym, ap, ◌∙◌, arith}
 use Rattle.std.specs.Prelude.{codes}
 use Rattle.std.proofs.lemmas.List.{length-map}
 use Rattle.sr_script.specs.declared.command.Command.{Command}
@@ -18,6 +18,15 @@ use Rattle.sr_script.proofs.ListLemmas.{values-one, values-read, values-count, v
 pub record BeginsProof (ws : List (List ℕ)) (second : List ℕ) : Type 0 where
   pub first_is : word_at ws 0 ≡ codes "proof"
   pub second_is : word_at ws 1 ≡ second
+
+-- words of a row or of an end with no word behind say no command
+pub none-behind : (ws : List (List ℕ)) (second : List ℕ) → BeginsProof ws second → (second ≡ codes "row") ⊎ (second ≡ codes "done") → length ws < 3
+    → (command : Command) → ¬ SaysCommand ws command
+none-behind ws second begins either short (ProofRow cells) p = absurd (omega (arith, short, p.count, length-map cells Cell, p.room))
+none-behind ws second begins either short (ProofDone []) p = absurd (omega (arith, short, p.count))
+none-behind ws second begins either short (ProofDone (label ∷ labels)) p = absurd (omega (arith, short, p.count, length-map labels (Number 0 MOST_LABEL)))
+none-behind ws second begins (inl row) short command p = grind (arith, row)
+none-behind ws second begins (inr done) short command p = grind (arith, done)
 
 -- ---- rows
 
@@ -40,11 +49,6 @@ pub row-unsaid : (ws : List (List ℕ)) → BeginsProof ws (codes "row")
     → ((cells : List ℕ) → map cell_read (drop 2 ws) ≡ map Some cells → MOST_CELLS < length cells) → (command : Command) → ¬ SaysCommand ws command
 row-unsaid ws begins none (ProofRow cells) p = absurd (omega (arith, none cells (row-read ws cells p), p.room))
 row-unsaid ws begins none command p = grind arith
-
--- and so do those with no cell
-pub row-short : (ws : List (List ℕ)) → BeginsProof ws (codes "row") → length ws < 3 → (command : Command) → ¬ SaysCommand ws command
-row-short ws begins short (ProofRow cells) p = absurd (omega (arith, short, p.count, length-map cells Cell, p.room))
-row-short ws begins short command p = grind arith
 
 pub row-refused : (ws : List (List ℕ)) (fault : LineFault) → BeginsProof ws (codes "row") → IsListFault (map cell_read (drop 2 ws)) MOST_CELLS fault → IsFormFault ws fault
 row-refused ws BadForm begins none = row-unsaid ws begins none
@@ -91,12 +95,6 @@ pub labels-unsaid : (ws : List (List ℕ)) → BeginsProof ws (codes "done") →
 labels-unsaid ws begins other none (ProofDone []) p = absurd (other (p.count, p.others.1.0))
 labels-unsaid ws begins other none (ProofDone (label ∷ labels)) p = absurd (omega (arith, none (label ∷ labels) (labels-read ws label labels p), p.room))
 labels-unsaid ws begins other none command p = grind arith
-
--- and so do those with no word behind
-pub labels-short : (ws : List (List ℕ)) → BeginsProof ws (codes "done") → length ws < 3 → (command : Command) → ¬ SaysCommand ws command
-labels-short ws begins short (ProofDone []) p = absurd (omega (arith, short, p.count))
-labels-short ws begins short (ProofDone (label ∷ labels)) p = absurd (omega (arith, short, p.count, length-map labels (Number 0 MOST_LABEL)))
-labels-short ws begins short command p = grind arith
 
 pub labels-refused : (ws : List (List ℕ)) (fault : LineFault) → BeginsProof ws (codes "done") → ¬ ((length ws ≡ 3) × (word_at ws 2 ≡ codes "none"))
     → IsListFault (map (number_in 0 MOST_LABEL) (drop 2 ws)) MOST_LABELS fault → IsFormFault ws fault

@@ -22,7 +22,7 @@ post-over n m same case p i = record {
   hops = subst (λ (g : Graph). AreKeptHops g p.failed (source_of g case) p.kept) (sym same) i.hops;
 }
 
--- what is found for a destination is what is listed in the case
+-- the answer that is found for a destination is the one listed in the case
 pub listed-found : (n : Net) (case : Case) (d : ℕ) (list : List NodeAnswer) → AreLists n case list → (found : Option Answer) → MatchOption found (NoAnswer list d) (HasAnswer list d) → (answer : Answer) → found ≡ Some answer → IsCaseListed n case d answer
 listed-found n case d list are found m answer is =
     let h : HasAnswer list d answer = MatchOption-at_some (NoAnswer list d) (HasAnswer list d) answer is m in

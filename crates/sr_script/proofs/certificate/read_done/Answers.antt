@@ -1,13 +1,14 @@
-use Rattle.std.proofs.Common.{◌≡◌, ◌∙◌, sym, ap, arith, map, drop}
+use Rattle.std.proofs.Common.{◌≡◌, ◌∙◌, sym, ap, refl, inr, arith, map, drop}
+use Rattle.std.specs.Prelude.{codes}
 use Rattle.std.proofs.lemmas.Bool.{false≢true}
 use Rattle.sr_script.specs.declared.command.TheConstants.{MOST_LABEL}
 use Rattle.sr_script.specs.Number.{number_in}
 use Rattle.sr_script.specs.Words.{words}
-use Rattle.sr_script.proofs.CertificateWords.{none-said, labels-said, labels-short, labels-refused}
+use Rattle.sr_script.proofs.CertificateWords.{none-said, labels-said, none-behind, labels-refused}
 use Rattle.sr_script.proofs.certificate.read_done.Goals as goal
 
 pub returns-then-len-lt3-clause-refused : goal.returns-then-len-lt3-clause-refused
-returns-then-len-lt3-clause-refused c = labels-short c.args.words.now (record { first_is = c.requires.first; second_is = c.requires.second }) (omega arith)
+returns-then-len-lt3-clause-refused c = none-behind c.args.words.now (codes "done") (record { first_is = c.requires.first; second_is = c.requires.second }) (inr refl) (omega arith)
 
 pub returns-then-has_no_labels-clause-said : goal.returns-then-has_no_labels-clause-said
 returns-then-has_no_labels-clause-said c =

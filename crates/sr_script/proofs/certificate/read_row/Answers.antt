@@ -1,11 +1,12 @@
-use Rattle.std.proofs.Common.{◌≡◌, ◌∙◌, sym, ap, arith, map, drop}
+use Rattle.std.proofs.Common.{◌≡◌, ◌∙◌, sym, ap, refl, inl, arith, map, drop}
+use Rattle.std.specs.Prelude.{codes}
 use Rattle.sr_script.specs.Number.{cell_read}
 use Rattle.sr_script.specs.Words.{words}
-use Rattle.sr_script.proofs.CertificateWords.{row-said, row-short, row-refused}
+use Rattle.sr_script.proofs.CertificateWords.{row-said, none-behind, row-refused}
 use Rattle.sr_script.proofs.certificate.read_row.Goals as goal
 
 pub returns-then-len-lt3-clause-refused : goal.returns-then-len-lt3-clause-refused
-returns-then-len-lt3-clause-refused c = row-short c.args.words.now (record { first_is = c.requires.first; second_is = c.requires.second }) (omega arith)
+returns-then-len-lt3-clause-refused c = none-behind c.args.words.now (codes "row") (record { first_is = c.requires.first; second_is = c.requires.second }) (inl refl) (omega arith)
 
 pub returns-in-Ok-clause-said : goal.returns-in-Ok-clause-said
 returns-in-Ok-clause-said c =
