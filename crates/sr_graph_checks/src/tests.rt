@@ -2,6 +2,7 @@
 
 mod adjacencies;
 mod audits;
+mod bypass;
 mod certificates;
 mod changes;
 mod distances;

@@ -20,7 +20,7 @@ use std::test::Fail;
 /// The net of nodes 1 to 4 in a ring of metric 1, with a chord between 1 and 3: this metric from 1
 /// to 3, and 3 back. In order of key the links are 1>2, 1>3, 1>4, 2>1, 2>3, 3>1, 3>2, 3>4, 4>1 and
 /// 4>3.
-fn ring_with_chord(alloc: Global, chord: u32) -> Result<Net, Fail> {
+pub fn ring_with_chord(alloc: Global, chord: u32) -> Result<Net, Fail> {
     let links: [Line; 10] = [
         (1, 2, 1),
         (2, 1, 1),
@@ -94,7 +94,7 @@ fn left_from<L: Ledger>(
 }
 
 /// What the failure of the case leaves.
-fn left_of(alloc: Global, net: &Net, trees: &Trees, case: Case) -> Result<Post, AllocError>
+pub fn left_of(alloc: Global, net: &Net, trees: &Trees, case: Case) -> Result<Post, AllocError>
     requires trees { AreTrees net.now.graph trees.now }
     requires case { IsCase net.now.graph case }
     ensures { IfOk result (IsPost net.now case) }

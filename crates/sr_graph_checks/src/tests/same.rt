@@ -1,7 +1,9 @@
-//! Which graphs are the same, and which nets have the same lists.
+//! Which graphs are the same, which nets have the same lists, and what is the same at another depth.
 
 use super::fixtures::{Line, Span, id, net_with, spanned};
 use sr_graph::Graph;
+use sr_labels::Net;
+use sr_model::{MOST_DEPTH, NodeNo};
 use std::alloc::Global;
 use std::test::Fail;
 
@@ -72,5 +74,37 @@ fn shallower_lists_are_the_same_lists(rt: HostRuntime) -> Result<(), Fail> {
     let net = net_with(alloc, triangle(alloc, 1, 3)?, 0, 8)?;
     let shallow = net_with(alloc, triangle(alloc, 1, 3)?, 0, 3)?;
     assert!(rt; net.has_same_lists(&shallow));
+    Ok(())
+}
+
+/// Whether the nodes announce the same ranges and indices in both nets.
+fn have_same_labels(one: &Net, other: &Net) -> bool {
+    let few = one.graph().node_count();
+    if other.graph().node_count() != few {
+        return false;
+    }
+    for number in 0..few {
+        let node = NodeNo(number as u16);
+        let (labels, others) = (one.labels(node), other.labels(node));
+        if labels.srgb().ranges() != others.srgb().ranges() || labels.index() != others.index() {
+            return false;
+        }
+    }
+    true
+}
+
+/// Node 1 has no index, and nodes 2 and 3 have one.
+#[test]
+fn another_depth_is_all_that_differs(rt: HostRuntime) -> Result<(), Fail> {
+    let alloc = rt.alloc();
+    let net = net_with(alloc, triangle(alloc, 1, 3)?, 1, 8)?;
+    for depth in [0, 3, 8, 12] {
+        assert!(rt; depth <= MOST_DEPTH);
+        let other = net.with_depth(depth)?;
+        assert_eq!(rt; other.depth(), depth);
+        assert!(rt; other.graph().is_same(net.graph()));
+        assert!(rt; have_same_labels(&net, &other));
+    }
+    assert_eq!(rt; net.depth(), 8);
     Ok(())
 }
