@@ -99,10 +99,10 @@ pub fn renewal(
     old: &Trees,
 ) -> Result<Renewal, AllocError>
     requires old { (g : Topology) × AreTrees g old.now }
-    requires count { tree_count old.now ≡ node_count graph.now }
-    requires nodes { changes.now.nodes ≡ tree_count old.now }
+    requires counts { (tree_count old.now ≡ node_count graph.now) × (changes.now.nodes ≡ tree_count old.now) }
     ensures kept { (n m : Net) → AreChanges n m changes.now → AreTrees n.graph old.now
         → IfOk result (λ r. AreKeptTrees n m r.stays.items) }
+    ensures lost { IfOk result (λ r. AreLostSets graph.now old.now.rows changes.now.links r.stays.items r.lost.items) }
     ensures renewal { (n m : Net) → AreChanges n m changes.now → AreTrees n.graph old.now → changes.now.same ≡ true
         → graph.now ≡ m.graph → IfOk result (λ r. IsRenewal m.graph old.now r changes.now.partners) }
 {
