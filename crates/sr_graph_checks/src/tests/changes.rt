@@ -1,4 +1,5 @@
-//! A ring with a chord, in which one metric changes. What is wanted is from the definitions.
+//! A ring in which one metric changes, with a chord and without. What is wanted is from the
+//! definitions.
 ghost use Rattle.std.specs.Prelude.{◌≡◌, ◌<◌, IfOk};
 ghost use Rattle.sr_model.specs.Case.{IsCase};
 ghost use Rattle.sr_spf.specs.Trees.{tree_count, AreTrees};
@@ -6,12 +7,15 @@ ghost use Rattle.sr_post.specs.Post.{IsPost};
 ghost use Rattle.sr_delta.specs.Changes.{AreChanges};
 ghost use Rattle.sr_delta.specs.KeptTrees.{AreKeptTrees};
 
-use super::fixtures::{Line, id, net_of, trees_of};
-use sr_delta::{Change, Changes, OldCase, Staying, case_stays, changes, kept_trees, tree_stays};
+use super::fixtures::{Line, RING, id, net_of, trees_of};
+use sr_delta::{
+    Change, Changes, OldCase, Staying, case_stays, changes, kept_trees, renewal, tree_stays,
+};
 use sr_labels::Net;
+use sr_lanes::NodeBits;
 use sr_model::{Case, Ident, Kind, LinkKey, LinkNo, NodeNo};
 use sr_post::{Post, post, tails, walks};
-use sr_spf::{Steps, Trees};
+use sr_spf::{Renewal, Steps, Trees};
 use std::alloc::{AllocError, Global};
 use std::marker::Brand;
 use std::sync::ledger::{Blank, Ledger};
@@ -35,6 +39,18 @@ pub fn ring_with_chord(alloc: Global, chord: u32) -> Result<Net, Fail> {
     ];
     net_of(alloc, 4, links.as_slice())
 }
+
+/// Nodes 1 to 4 in a ring of metric 1, but for the link from 1 to 2.
+const RING_WITH_DETOUR: [Line; 8] = [
+    (4, 1, 1),
+    (1, 4, 1),
+    (3, 4, 1),
+    (4, 3, 1),
+    (2, 3, 1),
+    (3, 2, 1),
+    (1, 2, 5),
+    (2, 1, 1),
+];
 
 /// Whether the metric from 1 to 3 alone differs, which was 3 and is 2.
 fn is_the_chord(links: &[Change]) -> bool {
@@ -178,6 +194,39 @@ fn leaves_cases(alloc: Global, old: &Net, new: &Net, trees: &Trees) -> Result<bo
             && node.as_slice() == [3, 5, 8].as_slice()
             && risk.as_slice() == [5].as_slice(),
     )
+}
+
+/// What of the old trees serves the new net.
+fn renewal_of(alloc: Global, old: &Net, new: &Net, trees: &Trees) -> Result<Renewal, Fail>
+    requires { AreTrees old.now.graph trees.now }
+{
+    let found = changes(alloc, old, new)?;
+    if new.graph().node_count() != trees.node_count() {
+        return Err(Fail::new("the nodes differ"));
+    }
+    Ok(renewal(alloc, new.graph(), &found, trees)?)
+}
+
+/// Whether the trees of nodes 2 and 3 stay, and the others but for a few distances: from node 1
+/// those to 2 and to 3, and from node 4 that to 2, to which the walk by way of 3 is as short.
+fn loses_what_is_past_2(renewal: &Renewal) -> bool {
+    let from_1 = NodeBits::none().with(1).with(2);
+    let from_4 = NodeBits::none().with(1);
+    renewal.stays.as_slice() == [false, true, true, false].as_slice()
+        && renewal.lost.first() == Some(&from_1)
+        && renewal.lost.last() == Some(&from_4)
+}
+
+/// The metric from 1 to 2 goes from 1 to 5.
+#[test]
+fn a_metric_loses_what_is_past_its_end(rt: HostRuntime) -> Result<(), Fail> {
+    let alloc = rt.alloc();
+    let old = net_of(alloc, 4, &RING)?;
+    let new = net_of(alloc, 4, &RING_WITH_DETOUR)?;
+    let trees = trees_of(&rt, alloc, old.graph())?;
+    let renewal = renewal_of(alloc, &old, &new, &trees)?;
+    assert!(rt; loses_what_is_past_2(&renewal));
+    Ok(())
 }
 
 /// The metric from 1 to 3 goes from 3 to 2.
