@@ -1,14 +1,14 @@
 -- Nodes past the ends of changed links, as the changes are gone through.
-use Rattle.std.proofs.Common.{◌≡◌, ◌≢◌, ◌↔◌, ◌⊎◌, ℕ, ◌+◌, ◌<◌, ◌≤◌, ⊎_elim, inl, inr, Bool, true, false, List, [], ◌∷◌, ◌++◌, length, refl, arith, ap, sym, ◌∙◌, subst}
+use Rattle.std.proofs.Common.{◌≡◌, ◌↔◌, ℕ, ◌+◌, ◌<◌, ◌≤◌, ⊎_elim, inl, inr, Bool, true, false, List, [], ◌∷◌, ◌++◌, length, refl, arith, ap, sym, ◌∙◌, subst}
 use Rattle.std.specs.Prelude.{not, ◌&&◌, ◌||◌, ◌==◌, nat_lt, Some, slice_get, slice_index}
-use Rattle.std.proofs.lemmas.Bool.{cases_lt, cases_eq, and_parts, and_from, or_cases, or_left, or_right, lt-ltb, ltb-true, eqb-true, eq-eqb, cases_Bool, true≢false}
+use Rattle.std.proofs.lemmas.Bool.{cases_lt, and_parts, and_from, or_cases, or_left, or_right, lt-ltb, ltb-true, eqb-true, eq-eqb, cases_Bool, true≢false}
 use Rattle.std.proofs.lemmas.List.{length_push}
 use Rattle.std.proofs.lemmas.Option.{slice_get_within}
 use Rattle.sr_seq.proofs.ListLemmas.{get-push}
 use Rattle.sr_lanes.specs.Bits.{is_in, IsWithout}
 use Rattle.sr_lanes.specs.Passes.{has_distance, is_tight}
 use Rattle.sr_lanes.specs.declared.words.NodeBits.{NodeBits}
-use Rattle.sr_lanes.proofs.SizeLemmas.{without-same, without-other, without-inside}
+use Rattle.sr_lanes.proofs.SizeLemmas.{without-other, without-inside}
 use Rattle.sr_model.specs.declared.link.TheConstants.{FAR}
 use Rattle.sr_model.specs.Graph.{Graph, node_count, carries, has}
 use Rattle.sr_spf.specs.Trees.{row_at}

@@ -1,4 +1,4 @@
-use Rattle.std.proofs.Common.{◌≡◌, length, arith, ap, ◌∙◌}
+use Rattle.std.proofs.Common.{length, ap, ◌∙◌}
 use Rattle.sr_delta.specs.Lost.{AreLostSets}
 use Rattle.sr_delta.proofs.LostLemmas.{rows-stand}
 use Rattle.sr_delta.proofs.lost.renewal.Goals as goal
