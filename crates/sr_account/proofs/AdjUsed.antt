@@ -12,7 +12,7 @@ use Rattle.sr_subtlv.specs.declared.adj_sid.AdjSid.{AdjSid}
 use Rattle.sr_lsp.specs.declared.reach.Reach.{Reach}
 use Rattle.sr_lsp.specs.declared.table.Part.TheVariants as part
 use Rattle.sr_lsdb.specs.declared.facts.Facts.{Facts}
-use Rattle.sr_domain.specs.Announced.{adj_label, adj_sid_label, adj_sid_labels, is_backup_as, is_for_one, label_in, least, lesser}
+use Rattle.sr_lsdb.specs.Announcement.{adj_label, adj_sid_label, adj_sid_labels, is_backup_as, is_for_one, label_in, least, lesser}
 use Rattle.sr_domain.specs.Net.{IsNetOf}
 use Rattle.sr_domain.proofs.MemberLemmas.{nowhere, picked-to}
 use Rattle.sr_account.specs.declared.aside.Reason.{Reason}

@@ -27,9 +27,10 @@ use Rattle.sr_lsdb.specs.declared.facts.Facts.{Facts}
 use Rattle.sr_lsdb.specs.Order.{id_cmp}
 use Rattle.sr_lsdb.proofs.OrderLemmas.{id_total}
 use Rattle.sr_laws.proofs.Ascending.{AreAmong, ascending-one}
-use Rattle.sr_domain.specs.declared.announced.Announcement.{Announcement}
+use Rattle.sr_lsdb.specs.declared.announcement.Announcement.{Announcement}
 use Rattle.sr_domain.specs.declared.links.FoundLink.{FoundLink}
-use Rattle.sr_domain.specs.Announced.{announced_by, announced_in, announcement_of, announcements_of, counts, is_announced, parts_of, two_way_of}
+use Rattle.sr_lsdb.specs.Announcement.{announced_by, announcement_of}
+use Rattle.sr_domain.specs.Announced.{announced_in, announcements_of, counts, is_announced, parts_of, two_way_of}
 use Rattle.sr_domain.specs.Links.{link_by, link_of, links_of}
 use Rattle.sr_domain.specs.Net.{IsNetOf}
 use Rattle.sr_domain.proofs.MemberLemmas.{here, later, picked-to}

@@ -20,9 +20,10 @@ use Rattle.sr_lsp.specs.declared.table.Part.TheVariants as part
 use Rattle.sr_lsdb.specs.declared.facts.Stored.{Stored}
 use Rattle.sr_lsdb.specs.declared.facts.Facts.{Facts}
 use Rattle.sr_lsdb.specs.Facts.{stored_under}
-use Rattle.sr_domain.specs.declared.announced.Announcement.{Announcement}
+use Rattle.sr_lsdb.specs.declared.announcement.Announcement.{Announcement}
 use Rattle.sr_domain.specs.declared.links.FoundLink.{FoundLink}
-use Rattle.sr_domain.specs.Announced.{announced_by, announced_in, announcement_of, announcements_of, counts, first_id, is_announced, is_live, is_present, parts_of, two_way_of}
+use Rattle.sr_lsdb.specs.Announcement.{announced_by, announcement_of}
+use Rattle.sr_domain.specs.Announced.{announced_in, announcements_of, counts, first_id, is_announced, is_live, is_present, parts_of, two_way_of}
 use Rattle.sr_domain.specs.Nodes.{labels_of, node_by, nodes_of}
 use Rattle.sr_domain.specs.Links.{is_in_use, labelled, link_by, link_of, links_of}
 use Rattle.sr_domain.specs.Net.{IsNetOf}

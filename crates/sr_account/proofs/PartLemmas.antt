@@ -5,8 +5,8 @@ use Rattle.sr_lsp.specs.declared.reach.Reach.{Reach}
 use Rattle.sr_lsp.specs.declared.table.Part.{Part}
 use Rattle.sr_lsp.specs.declared.table.Part.TheVariants as part
 use Rattle.sr_lsdb.specs.declared.facts.Facts.{Facts}
-use Rattle.sr_domain.specs.declared.announced.Announcement.{Announcement}
-use Rattle.sr_domain.specs.Announced.{announced_by, announcement_of}
+use Rattle.sr_lsdb.specs.declared.announcement.Announcement.{Announcement}
+use Rattle.sr_lsdb.specs.Announcement.{announced_by, announcement_of}
 use Rattle.sr_account.specs.declared.aside.Reason.{Reason}
 use Rattle.sr_account.specs.Items.{PartPlace}
 use Rattle.sr_account.specs.Reasons.{PartFails}

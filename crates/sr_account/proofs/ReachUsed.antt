@@ -12,9 +12,10 @@ use Rattle.sr_lsp.specs.declared.reach.Reach.{Reach}
 use Rattle.sr_lsp.specs.declared.table.Part.TheVariants as part
 use Rattle.sr_lsdb.specs.declared.facts.Facts.{Facts}
 use Rattle.sr_lsdb.specs.Tables.{is_down}
-use Rattle.sr_domain.specs.declared.announced.Announcement.{Announcement}
+use Rattle.sr_lsdb.specs.declared.announcement.Announcement.{Announcement}
 use Rattle.sr_domain.specs.declared.links.FoundLink.{FoundLink}
-use Rattle.sr_domain.specs.Announced.{adj_label, announced_by, announcement_of, announcements_of, counts, is_announced, is_present}
+use Rattle.sr_lsdb.specs.Announcement.{adj_label, announced_by, announcement_of}
+use Rattle.sr_domain.specs.Announced.{announcements_of, counts, is_announced, is_present}
 use Rattle.sr_domain.specs.Links.{effective_metric, is_in_use, link_of, links_of}
 use Rattle.sr_domain.specs.Net.{IsNetOf}
 use Rattle.sr_domain.proofs.NetLemmas.{found_as}

@@ -11,9 +11,10 @@ use Rattle.sr_lsp.specs.declared.reach.Reach.{Reach}
 use Rattle.sr_lsp.specs.declared.risk.Risk.{Risk}
 use Rattle.sr_lsp.specs.declared.table.Part.TheVariants as part
 use Rattle.sr_lsdb.specs.declared.facts.Facts.{Facts}
-use Rattle.sr_domain.specs.declared.announced.Announcement.{Announcement}
+use Rattle.sr_lsdb.specs.declared.announcement.Announcement.{Announcement}
 use Rattle.sr_domain.specs.declared.risks.RiskName.{RiskName}
-use Rattle.sr_domain.specs.Announced.{announcement_of, announcements_of, is_announced, is_present}
+use Rattle.sr_lsdb.specs.Announcement.{announcement_of}
+use Rattle.sr_domain.specs.Announced.{announcements_of, is_announced, is_present}
 use Rattle.sr_domain.specs.Groups.{name_of, same_name}
 use Rattle.sr_domain.proofs.KeyLemmas.{any-to, any-from}
 use Rattle.sr_account.specs.declared.aside.Reason.{Reason}

@@ -21,7 +21,7 @@ use Rattle.sr_lsdb.specs.declared.facts.Stored.{Stored}
 use Rattle.sr_lsdb.specs.declared.facts.Facts.{Facts}
 use Rattle.sr_lsdb.specs.Order.{pair_cmp}
 use Rattle.sr_lsdb.proofs.OrderLemmas.{pair_exact, pair_total}
-use Rattle.sr_domain.specs.declared.announced.Announcement.{Announcement}
+use Rattle.sr_lsdb.specs.declared.announcement.Announcement.{Announcement}
 use Rattle.sr_domain.specs.declared.links.FoundLink.{FoundLink}
 use Rattle.sr_domain.specs.declared.risks.RiskNote.{RiskNote}
 use Rattle.sr_domain.specs.Announced.{announcements_of, counts, parts_of}

@@ -16,7 +16,7 @@ use Rattle.sr_model.specs.Key.{pair_of}
 use Rattle.sr_lsdb.specs.declared.facts.Facts.{Facts}
 use Rattle.sr_lsdb.specs.Order.{pair_cmp}
 use Rattle.sr_lsdb.proofs.OrderLemmas.{pair_total, pair_exact}
-use Rattle.sr_domain.specs.declared.announced.Announcement.{Announcement}
+use Rattle.sr_lsdb.specs.declared.announcement.Announcement.{Announcement}
 use Rattle.sr_domain.specs.declared.risks.RiskName.{RiskName}
 use Rattle.sr_domain.specs.Announced.{announcements_of}
 use Rattle.sr_domain.specs.Groups.{is_name, numbered_name, same_name, same_pair, unnumbered_name}

@@ -18,9 +18,10 @@ use Rattle.sr_lsp.specs.declared.table.Part.{Part}
 use Rattle.sr_lsp.specs.declared.table.Part.TheVariants as part
 use Rattle.sr_lsdb.specs.declared.facts.Stored.{Stored}
 use Rattle.sr_lsdb.specs.declared.facts.Facts.{Facts}
-use Rattle.sr_domain.specs.declared.announced.Announcement.{Announcement}
+use Rattle.sr_lsdb.specs.declared.announcement.Announcement.{Announcement}
 use Rattle.sr_domain.specs.declared.links.FoundLink.{FoundLink}
-use Rattle.sr_domain.specs.Announced.{adj_label, adj_sid_label, adj_sid_labels, announcement_of, announcements_of, counts, is_announced, is_present, least, lesser, parts_of}
+use Rattle.sr_lsdb.specs.Announcement.{adj_label, adj_sid_label, adj_sid_labels, announcement_of, least, lesser}
+use Rattle.sr_domain.specs.Announced.{announcements_of, counts, is_announced, is_present, parts_of}
 use Rattle.sr_domain.specs.Links.{effective_metric, link_of}
 use Rattle.sr_domain.specs.Net.{IsNetOf}
 use Rattle.sr_domain.proofs.MemberLemmas.{cases, here, later, nowhere, picked-from}

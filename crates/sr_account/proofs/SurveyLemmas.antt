@@ -8,7 +8,7 @@ use Rattle.sr_model.specs.declared.name.PairKey.{PairKey}
 use Rattle.sr_model.specs.Key.{pair_of}
 use Rattle.sr_lsdb.specs.declared.facts.Facts.{Facts}
 use Rattle.sr_lsdb.specs.Order.{pair_cmp}
-use Rattle.sr_domain.specs.declared.announced.Announcement.{Announcement}
+use Rattle.sr_lsdb.specs.declared.announcement.Announcement.{Announcement}
 use Rattle.sr_domain.specs.declared.links.FoundLink.{FoundLink}
 use Rattle.sr_domain.specs.Links.{links_of}
 use Rattle.sr_domain.proofs.AnnouncedLemmas.{filter-kept_at}

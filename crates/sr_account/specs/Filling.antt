@@ -9,8 +9,9 @@ use Rattle.sr_lsp.specs.declared.table.Part.{Part}
 use Rattle.sr_lsp.specs.declared.table.Part.TheVariants as part
 use Rattle.sr_lsdb.specs.declared.facts.Stored.{Stored}
 use Rattle.sr_lsdb.specs.declared.facts.Facts.{Facts}
-use Rattle.sr_domain.specs.declared.announced.Announcement.{Announcement}
-use Rattle.sr_domain.specs.Announced.{adj_label, adj_sid_label, announced_by, counts, parts_of}
+use Rattle.sr_lsdb.specs.declared.announcement.Announcement.{Announcement}
+use Rattle.sr_lsdb.specs.Announcement.{adj_label, adj_sid_label, announced_by}
+use Rattle.sr_domain.specs.Announced.{counts, parts_of}
 use Rattle.sr_domain.specs.Links.{is_in_use}
 use Rattle.sr_account.specs.declared.aside.Reason.{Reason}
 use Rattle.sr_account.specs.declared.sources.LinkSource.{LinkSource}

@@ -17,10 +17,11 @@ use Rattle.sr_lsp.specs.declared.table.Part.{Part}
 use Rattle.sr_lsp.specs.declared.table.Part.TheVariants as part
 use Rattle.sr_lsdb.specs.declared.facts.Facts.{Facts}
 use Rattle.sr_lsdb.specs.Tables.{is_down}
-use Rattle.sr_domain.specs.declared.announced.Announcement.{Announcement}
+use Rattle.sr_lsdb.specs.declared.announcement.Announcement.{Announcement}
 use Rattle.sr_domain.specs.declared.links.FoundLink.{FoundLink}
 use Rattle.sr_domain.specs.declared.nodes.NodeSid.{NodeSid}
-use Rattle.sr_domain.specs.Announced.{adj_label, adj_sid_label, adj_sid_labels, announcement_of, announcements_of, is_announced, is_backup_as, is_for_one, is_present, least}
+use Rattle.sr_lsdb.specs.Announcement.{adj_label, adj_sid_label, adj_sid_labels, announcement_of, is_backup_as, is_for_one, least}
+use Rattle.sr_domain.specs.Announced.{announcements_of, is_announced, is_present}
 use Rattle.sr_domain.specs.Nodes.{imposition_by, is_of_node, node_sid_by, ranges_in}
 use Rattle.sr_domain.specs.Links.{effective_metric, links_of}
 use Rattle.sr_domain.specs.Groups.{is_name, name_of, numbered_name, unnumbered_name}

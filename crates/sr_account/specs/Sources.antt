@@ -6,7 +6,7 @@ use Rattle.sr_subtlv.specs.declared.adj_sid.AdjSid.{AdjSid}
 use Rattle.sr_lsp.specs.declared.reach.Reach.{Reach}
 use Rattle.sr_lsp.specs.declared.table.Part.TheVariants as part
 use Rattle.sr_lsdb.specs.declared.facts.Facts.{Facts}
-use Rattle.sr_domain.specs.Announced.{adj_label}
+use Rattle.sr_lsdb.specs.Announcement.{adj_label}
 use Rattle.sr_account.specs.declared.sources.LinkSource.{LinkSource}
 use Rattle.sr_account.specs.Items.{PartPlace, IsPartAt}
 use Rattle.sr_account.specs.Items.Item.{OfPart, OfAdj}

@@ -20,7 +20,7 @@ use Rattle.sr_lsdb.specs.declared.facts.Stored.{Stored}
 use Rattle.sr_lsdb.specs.declared.facts.Facts.{Facts}
 use Rattle.sr_lsdb.specs.Order.{id_cmp}
 use Rattle.sr_lsdb.specs.Tables.{is_down}
-use Rattle.sr_domain.specs.declared.announced.Announcement.{Announcement}
+use Rattle.sr_lsdb.specs.declared.announcement.Announcement.{Announcement}
 use Rattle.sr_domain.specs.declared.links.FoundLink.{FoundLink}
 use Rattle.sr_domain.specs.declared.nodes.NodeSid.{NodeSid}
 use Rattle.sr_domain.specs.declared.risks.RiskName.{RiskName}

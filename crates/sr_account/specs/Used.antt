@@ -16,9 +16,10 @@ use Rattle.sr_lsp.specs.declared.capability.Capability.{Capability}
 use Rattle.sr_lsp.specs.declared.table.Part.{Part}
 use Rattle.sr_lsp.specs.declared.table.Part.TheVariants as part
 use Rattle.sr_lsdb.specs.declared.facts.Facts.{Facts}
-use Rattle.sr_domain.specs.declared.announced.Announcement.{Announcement}
+use Rattle.sr_lsdb.specs.declared.announcement.Announcement.{Announcement}
 use Rattle.sr_domain.specs.declared.nodes.NodeSid.{NodeSid}
-use Rattle.sr_domain.specs.Announced.{adj_sid_label, adj_sid_labels, announcement_of, announcements_of, least}
+use Rattle.sr_lsdb.specs.Announcement.{adj_sid_label, adj_sid_labels, announcement_of, least}
+use Rattle.sr_domain.specs.Announced.{announcements_of}
 use Rattle.sr_domain.specs.Nodes.{imposition_by, node_sid_by}
 use Rattle.sr_domain.specs.Links.{effective_metric}
 use Rattle.sr_account.specs.Items.{Item, PartPlace, PlaceBefore, sid_place}

@@ -2,14 +2,14 @@
 ghost use Rattle.std.specs.Prelude.{◌≡◌, ◌≢◌, ◌↔◌, ◌≤◌, ◌⊎◌, true, false, length, IsTrue};
 ghost use Rattle.sr_subtlv.specs.declared.sid.Sid.TheVariants.{Label};
 ghost use Rattle.sr_lsdb.specs.declared.facts.Facts.{Facts as Domain};
-ghost use Rattle.sr_domain.specs.Announced.{adj_label, adj_sid_labels, is_for_one, least};
+ghost use Rattle.sr_lsdb.specs.Announcement.{adj_label, adj_sid_labels, is_for_one, least};
 ghost use Rattle.sr_account.specs.Reasons.{AdjFails, ReachFails};
 ghost use Rattle.sr_account.specs.Steps.{AnnouncementFails, GivesOne, IsAdjReason, IsFirstOf, IsRepeatedSid, IsSurvey, IsFoundReason};
 
 use crate::aside::Reason;
 use crate::survey::{Ends, Survey, is_among};
-use sr_domain::{Announcement, adj_sid_label, effective_metric, holds, is_present, least_label};
-use sr_lsdb::Facts;
+use sr_domain::{effective_metric, holds, is_present};
+use sr_lsdb::{Announcement, Facts, adj_sid_label, least_label};
 use sr_lsp::Reach;
 use sr_model::SystemId;
 use sr_subtlv::{AdjSid, Sid};

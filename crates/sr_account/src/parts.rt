@@ -13,8 +13,7 @@ use crate::entries::{announcement_reason, unannounced_reason};
 use crate::prefixes::prefix_reason;
 use crate::risks::risk_reason;
 use crate::survey::Survey;
-use sr_domain::announced_by;
-use sr_lsdb::Facts;
+use sr_lsdb::{Facts, announced_by};
 use sr_lsp::{LspId, PartRef};
 
 /// What the part is, by name.

@@ -9,10 +9,10 @@ ghost use Rattle.sr_account.specs.Laws.{IsInOrder};
 ghost use Rattle.sr_account.specs.Sources.{AreSources};
 
 use crate::laws::are_in_order;
-use sr_domain::{adj_sid_label, announced_by, is_present, least_label, link_by};
+use sr_domain::{is_present, link_by};
 use sr_graph::Graph;
 use sr_labels::Net;
-use sr_lsdb::Facts;
+use sr_lsdb::{Facts, adj_sid_label, announced_by, least_label};
 use sr_lsp::{LspId, PartRef, Parts, Reach};
 use sr_model::{LinkNo, SystemId};
 use sr_subtlv::AdjSid;

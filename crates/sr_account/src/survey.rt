@@ -8,10 +8,8 @@ ghost use Rattle.sr_domain.specs.Groups.{name_cmp};
 ghost use Rattle.sr_domain.specs.Links.{links_of};
 ghost use Rattle.sr_account.specs.Steps.{AreSortedFrom, IsSurvey, ends_cmp, ends_of, has_link, link_pair, names_by, names_in};
 
-use sr_domain::{
-    Announcement, RiskName, announcements, holds, keys_of, link_by, numbered_name, unnumbered_name,
-};
-use sr_lsdb::Facts;
+use sr_domain::{RiskName, announcements, holds, keys_of, link_by, numbered_name, unnumbered_name};
+use sr_lsdb::{Announcement, Facts};
 use sr_model::{LinkKey, PairKey, SystemId};
 use std::alloc::{AllocError, Global};
 

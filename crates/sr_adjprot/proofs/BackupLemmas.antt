@@ -10,8 +10,8 @@ use Rattle.sr_model.specs.KeyOrder.{same_key}
 use Rattle.sr_model.specs.Case.{key_at}
 use Rattle.sr_model.specs.Label.{Net, adj_at}
 use Rattle.sr_lsdb.specs.declared.facts.Facts.{Facts}
-use Rattle.sr_domain.specs.declared.announced.Announcement.{Announcement}
-use Rattle.sr_domain.specs.Announced.{announcement_of, adj_sid_labels, least, lesser}
+use Rattle.sr_lsdb.specs.declared.announcement.Announcement.{Announcement}
+use Rattle.sr_lsdb.specs.Announcement.{announcement_of, adj_sid_labels, least, lesser}
 use Rattle.sr_domain.specs.Links.{is_in_use}
 use Rattle.sr_domain.proofs.MemberLemmas.{here, cases, nowhere, picked-from, picked-to}
 use Rattle.sr_adjprot.specs.declared.protected.Flagged.{Flagged}

@@ -21,9 +21,10 @@ use Rattle.sr_lsp.specs.declared.table.Part.{Part}
 use Rattle.sr_lsp.specs.declared.table.Part.TheVariants.{Reach}
 use Rattle.sr_lsdb.specs.declared.facts.Stored.{Stored}
 use Rattle.sr_lsdb.specs.declared.facts.Facts.{Facts}
-use Rattle.sr_domain.specs.declared.announced.Announcement.{Announcement}
+use Rattle.sr_lsdb.specs.declared.announcement.Announcement.{Announcement}
 use Rattle.sr_domain.specs.declared.links.FoundLink.{FoundLink}
-use Rattle.sr_domain.specs.Announced.{counts, parts_of, announced_by, announcement_of, announced_in, announcements_of, is_announced, two_way_of, adj_label, adj_sid_labels, least, lesser}
+use Rattle.sr_lsdb.specs.Announcement.{announced_by, announcement_of, adj_label, adj_sid_labels, least, lesser}
+use Rattle.sr_domain.specs.Announced.{counts, parts_of, announced_in, announcements_of, is_announced, two_way_of}
 use Rattle.sr_domain.specs.Least.{IsLeastNumber, IsAdjLabel}
 use Rattle.sr_domain.specs.Links.{is_in_use, link_by, link_of, links_of, labelled}
 use Rattle.sr_domain.specs.Net.{IsNetOf}

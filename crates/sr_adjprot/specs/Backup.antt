@@ -7,7 +7,7 @@ use Rattle.sr_model.specs.Case.{key_at}
 use Rattle.sr_model.specs.Label.{Net, adj_at}
 use Rattle.sr_lsp.specs.declared.reach.Reach.{Reach as ReachPart}
 use Rattle.sr_lsdb.specs.declared.facts.Facts.{Facts}
-use Rattle.sr_domain.specs.Announced.{announcement_of, adj_sid_labels, least}
+use Rattle.sr_lsdb.specs.Announcement.{announcement_of, adj_sid_labels, least}
 use Rattle.sr_domain.specs.Links.{is_in_use}
 use Rattle.sr_adjprot.specs.declared.answer.AdjAnswer.{AdjAnswer}
 use Rattle.sr_adjprot.specs.declared.answer.BackupLabel.{BackupLabel}

@@ -9,7 +9,8 @@ use Rattle.sr_lsp.specs.declared.reach.Reach.{Reach as ReachPart}
 use Rattle.sr_lsp.specs.declared.table.Part.TheVariants.{Reach}
 use Rattle.sr_lsdb.specs.declared.facts.Stored.{Stored}
 use Rattle.sr_lsdb.specs.declared.facts.Facts.{Facts}
-use Rattle.sr_domain.specs.Announced.{counts, parts_of, announced_by, announcement_of, adj_sid_labels}
+use Rattle.sr_lsdb.specs.Announcement.{announced_by, announcement_of, adj_sid_labels}
+use Rattle.sr_domain.specs.Announced.{counts, parts_of}
 use Rattle.sr_domain.specs.Least.{IsLeastNumber}
 use Rattle.sr_domain.specs.Links.{is_in_use}
 

@@ -10,9 +10,10 @@ use Rattle.sr_lsp.specs.declared.table.Part.{Part}
 use Rattle.sr_lsp.specs.declared.table.Part.TheVariants.{Reach}
 use Rattle.sr_lsdb.specs.declared.facts.Stored.{Stored}
 use Rattle.sr_lsdb.specs.declared.facts.Facts.{Facts}
-use Rattle.sr_domain.specs.declared.announced.Announcement.{Announcement}
+use Rattle.sr_lsdb.specs.declared.announcement.Announcement.{Announcement}
 use Rattle.sr_adjprot.specs.declared.protected.Flagged.{Flagged}
-use Rattle.sr_domain.specs.Announced.{counts, parts_of, announced_by, adj_sid_labels, least}
+use Rattle.sr_lsdb.specs.Announcement.{announced_by, adj_sid_labels, least}
+use Rattle.sr_domain.specs.Announced.{counts, parts_of}
 use Rattle.sr_domain.specs.Links.{is_in_use}
 
 -- the announcement, where its link is in use

@@ -4,8 +4,8 @@ ghost use Rattle.std.specs.List.{filter_map};
 ghost use Rattle.sr_lsp.specs.Parts.{part_of};
 ghost use Rattle.sr_adjprot.specs.Protected.{if_used as if_used_in, flagged_by as flagged_by_in, flagged_of, protected_of, is_own_label as is_own_in, label_beside as label_beside_in, labels_beside};
 
-use sr_domain::{Announcement, announced_by, is_present, least_label, link_by};
-use sr_lsdb::Facts;
+use sr_domain::{is_present, link_by};
+use sr_lsdb::{Announcement, Facts, announced_by, least_label};
 use sr_lsp::{PartRef, Parts};
 use sr_model::{LinkKey, MOST_LINKS, SystemId};
 use std::alloc::{AllocError, Global};

@@ -1,36 +1,17 @@
--- Least labels, appended lists, and what a filter by keys keeps.
-use Rattle.std.proofs.Common.{◌≡◌, ℕ, ◌+◌, ◌<◌, Bool, true, false, cond, List, [], ◌∷◌, ◌++◌, length, get_or, take, refl, arith, ap, sym, ◌∙◌, Option, Some, None, append_assoc}
-use Rattle.std.specs.List.{filter_map, list_any}
-use Rattle.std.specs.Option.{option_to_list}
-use Rattle.std.specs.List.{cons_option, filter}
+-- What keys there are of announcements, and what a filter by keys keeps.
+use Rattle.std.proofs.Common.{◌≡◌, ℕ, ◌+◌, ◌<◌, Bool, true, false, cond, List, [], ◌∷◌, ◌++◌, length, get_or, take, refl, ap, sym, ◌∙◌, append_assoc}
+use Rattle.std.specs.List.{filter, list_any}
 use Rattle.std.specs.List.Sorted.{IsStrictlySortedBy}
 use Rattle.std.proofs.Common.{◌||◌, append-nil}
 use Rattle.std.proofs.lemmas.Cmp.{eq_by_cmp_equiv}
 use Rattle.std.proofs.lemmas.List.{take_more}
 use Rattle.std.proofs.lemmas.List.Folds.{list_any-append}
-use Rattle.std.proofs.lemmas.List.Elements.{filter_map-append, filter_more}
+use Rattle.std.proofs.lemmas.List.Elements.{filter_more}
 use Rattle.sr_model.specs.declared.name.LinkKey.{LinkKey}
 use Rattle.sr_model.proofs.KeyOrderLemmas.{key_total}
-use Rattle.sr_domain.specs.declared.announced.Announcement.{Announcement}
+use Rattle.sr_lsdb.specs.declared.announcement.Announcement.{Announcement}
 use Rattle.sr_model.specs.KeyOrder.{key_cmp, same_key}
-use Rattle.sr_domain.specs.Announced.{least, lesser, AreKeysOf}
-
-lesser-swap : (r : Option ℕ) (x y : ℕ) → lesser (lesser r y) x ≡ lesser (lesser r x) y
-lesser-swap None x y = ap Some (omega arith)
-lesser-swap (Some z) x y = ap Some (omega arith)
-
--- one more number at the end
-pub least-push : (xs : List ℕ) (y : ℕ) → least (xs ++ y ∷ []) ≡ lesser (least xs) y
-least-push [] y = refl
-least-push (x ∷ xs) y = ap (λ r. lesser r x) (least-push xs y) ∙ lesser-swap (least xs) x y
-
--- one more element
-pub filter_map-more : {X Y : Type 0} (h : X → Option Y) (xs : List X) (i : ℕ) (d : X) → i < length xs → filter_map h (take (i + 1) xs) ≡ filter_map h (take i xs) ++ option_to_list (h (get_or xs i d))
-filter_map-more h xs i d within = rw (take_more xs i d within) (filter_map-append h (take i xs) (get_or xs i d ∷ []) ∙ ap (λ r. filter_map h (take i xs) ++ r) (one (h (get_or xs i d))))
-  where
-    one : {Y : Type 0} (o : Option Y) → cons_option o [] ≡ option_to_list o
-    one None = refl
-    one (Some y) = refl
+use Rattle.sr_domain.specs.Announced.{AreKeysOf}
 
 or_last : (e b : Bool) → cond e true b ≡ (b || (e || false))
 or_last true true = refl
@@ -48,12 +29,6 @@ keys-more anns a keys keys' are ascending updates = record {
       ∙ ap (λ b. b || (same_key k a.key || false)) (are.each k)
       ∙ sym (list_any-append (λ (b : Announcement). same_key k b.key) anns (a ∷ []));
 }
-
-pub filter_map-some : {X Y : Type 0} (h : X → Option Y) (xs : List X) (i : ℕ) (d : X) (y : Y) → i < length xs → h (get_or xs i d) ≡ Some y → filter_map h (take (i + 1) xs) ≡ filter_map h (take i xs) ++ y ∷ []
-filter_map-some h xs i d y within e = filter_map-more h xs i d within ∙ ap (λ o. filter_map h (take i xs) ++ option_to_list o) e
-
-pub filter_map-none : {X Y : Type 0} (h : X → Option Y) (xs : List X) (i : ℕ) (d : X) → i < length xs → h (get_or xs i d) ≡ None → filter_map h (take (i + 1) xs) ≡ filter_map h (take i xs)
-filter_map-none h xs i d within e = filter_map-more h xs i d within ∙ ap (λ o. filter_map h (take i xs) ++ option_to_list o) e ∙ append-nil (filter_map h (take i xs))
 
 pub keys-step : (anns : List Announcement) (i : ℕ) (d : Announcement) (keys keys' : List LinkKey) → i < length anns → AreKeysOf (take i anns) keys → IsStrictlySortedBy key_cmp keys' → ((q : LinkKey) → list_any (same_key q) keys' ≡ cond (same_key (get_or anns i d).key q) true (list_any (same_key q) keys)) → AreKeysOf (take (i + 1) anns) keys'
 keys-step anns i d keys keys' within are ascending updates = rw (take_more anns i d within) (keys-more (take i anns) (get_or anns i d) keys keys' are ascending updates)

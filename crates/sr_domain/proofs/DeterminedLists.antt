@@ -16,7 +16,7 @@ use Rattle.sr_model.specs.declared.name.PairKey.{PairKey}
 use Rattle.sr_model.proofs.KeyOrderLemmas.{key_total, key-from_cmp}
 use Rattle.sr_laws.proofs.Ascending.{AreAmong}
 use Rattle.sr_lsdb.specs.declared.facts.Facts.{Facts}
-use Rattle.sr_domain.specs.declared.announced.Announcement.{Announcement}
+use Rattle.sr_lsdb.specs.declared.announcement.Announcement.{Announcement}
 use Rattle.sr_domain.specs.Announced.{AreKeysOf}
 use Rattle.sr_domain.specs.Groups.{AreGroupsOf}
 

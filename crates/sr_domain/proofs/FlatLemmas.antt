@@ -15,7 +15,7 @@ use Rattle.sr_lsp.specs.declared.table.Part.TheVariants.{Prefix}
 use Rattle.sr_lsdb.specs.declared.facts.Stored.{Stored}
 use Rattle.sr_lsdb.specs.declared.facts.Facts.{Facts}
 use Rattle.sr_domain.specs.declared.nodes.NodeSid.{NodeSid}
-use Rattle.sr_domain.specs.Announced.{adj_label, adj_sid_labels, least, lesser}
+use Rattle.sr_lsdb.specs.Announcement.{adj_label, adj_sid_labels, least, lesser}
 use Rattle.sr_domain.specs.Nodes.{own_parts, node_sid_by, node_sid_of, lesser_sid, least_sid, sid_of_part, least_of_parts, sid_from}
 use Rattle.sr_domain.specs.Least.{host_sids, candidates, IsFirstLeastSid, IsLeastNumber, IsAdjLabel}
 use Rattle.sr_domain.proofs.NodesLemmas.{lesser-assoc}

@@ -25,9 +25,10 @@ use Rattle.sr_lsdb.specs.declared.facts.Stored.{Stored}
 use Rattle.sr_lsdb.specs.declared.facts.Facts.{Facts}
 use Rattle.sr_lsdb.specs.Facts.{IsStoredWell, IsCost, AreInRange}
 use Rattle.sr_lsdb.specs.Order.{id_cmp}
-use Rattle.sr_domain.specs.declared.announced.Announcement.{Announcement}
+use Rattle.sr_lsdb.specs.declared.announcement.Announcement.{Announcement}
 use Rattle.sr_domain.specs.declared.links.FoundLink.{FoundLink}
-use Rattle.sr_domain.specs.Announced.{is_live, first_id, is_present, counts, parts_of, announced_by, announcement_of, announced_in, announcements_of, is_announced, two_way_of}
+use Rattle.sr_lsdb.specs.Announcement.{announced_by, announcement_of}
+use Rattle.sr_domain.specs.Announced.{is_live, first_id, is_present, counts, parts_of, announced_in, announcements_of, is_announced, two_way_of}
 use Rattle.sr_domain.specs.Nodes.{node_by, nodes_of}
 use Rattle.sr_lsdb.specs.Tables.{is_down}
 use Rattle.sr_domain.specs.Links.{effective_metric, is_in_use, link_by, link_of, links_of, JoinsNodes}

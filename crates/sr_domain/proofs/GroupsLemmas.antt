@@ -14,7 +14,7 @@ use Rattle.std.proofs.lemmas.Map.Keys.{IsStrictlyIncreasing-from_sorted, Less-fr
 use Rattle.std.proofs.lemmas.Map.Lookups.{CmpEqualImpliesEq, exact_pairs, exact_unsigned}
 use Rattle.std.specs.Cmp.{Equal-is}
 use Rattle.sr_model.specs.declared.name.PairKey.{PairKey}
-use Rattle.sr_domain.specs.declared.announced.Announcement.{Announcement}
+use Rattle.sr_lsdb.specs.declared.announcement.Announcement.{Announcement}
 use Rattle.sr_domain.specs.declared.groups.RiskTable.{RiskTable}
 use Rattle.sr_domain.specs.declared.risks.RiskNote.{RiskNote}
 use Rattle.sr_domain.specs.declared.risks.RiskName.{RiskName}

@@ -16,7 +16,7 @@ use Rattle.std.specs.Cmp.{Equal-is}
 use Rattle.sr_model.specs.declared.name.LinkKey.{LinkKey}
 use Rattle.sr_model.specs.KeyOrder.{key_cmp, same_key}
 use Rattle.sr_model.proofs.KeyOrderLemmas.{key_total, key-from_cmp}
-use Rattle.sr_domain.specs.declared.announced.Announcement.{Announcement}
+use Rattle.sr_lsdb.specs.declared.announcement.Announcement.{Announcement}
 use Rattle.sr_domain.specs.Announced.{AreKeysOf, is_announced, announced_key}
 use Rattle.sr_domain.proofs.MemberLemmas.{here, later, mapped-to, mapped-from}
 

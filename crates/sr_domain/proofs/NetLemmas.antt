@@ -24,7 +24,7 @@ use Rattle.sr_model.specs.Label.{Labels}
 use Rattle.sr_model.specs.Rule.{IsAccepted, AreAnnounced, adj_labels_of, NoAdjClash, IsFirstBroken}
 use Rattle.sr_labels.specs.Rules.{HaveSrgbs}
 use Rattle.sr_lsdb.specs.declared.facts.Facts.{Facts}
-use Rattle.sr_domain.specs.declared.announced.Announcement.{Announcement}
+use Rattle.sr_lsdb.specs.declared.announcement.Announcement.{Announcement}
 use Rattle.sr_domain.specs.declared.links.FoundLink.{FoundLink}
 use Rattle.sr_domain.specs.Announced.{two_way_of, is_announced, AreKeysOf}
 use Rattle.sr_domain.specs.Nodes.{nodes_of, all_labels, labels_of}

@@ -24,7 +24,7 @@ use Rattle.sr_lsdb.specs.Order.{id_cmp}
 use Rattle.sr_lsdb.specs.Renewed.{said_of, all_said, SayTheSame}
 use Rattle.sr_lsdb.specs.Tables.{stored_at}
 use Rattle.sr_labels.specs.Depth.{with_depth}
-use Rattle.sr_domain.specs.declared.announced.Announcement.{Announcement}
+use Rattle.sr_lsdb.specs.declared.announcement.Announcement.{Announcement}
 use Rattle.sr_domain.specs.declared.links.FoundLink.{FoundLink}
 use Rattle.sr_domain.specs.declared.risks.RiskNote.{RiskNote}
 use Rattle.sr_domain.specs.Announced.{is_live, parts_of, first_id, is_present, counts, announced_in, announcements_of, two_way, two_way_of, AreKeysOf}

@@ -8,7 +8,7 @@ use Rattle.sr_model.specs.declared.name.PairKey.{PairKey}
 use Rattle.sr_model.specs.Key.{pair_of}
 use Rattle.sr_graph.specs.declared.draft.DraftLink.{DraftLink}
 use Rattle.sr_domain.specs.declared.links.FoundLink.{FoundLink}
-use Rattle.sr_domain.specs.declared.announced.Announcement.{Announcement}
+use Rattle.sr_lsdb.specs.declared.announcement.Announcement.{Announcement}
 use Rattle.sr_domain.specs.declared.groups.RiskTable.{RiskTable}
 use Rattle.sr_domain.specs.declared.names.PairName.{PairName}
 use Rattle.sr_domain.specs.declared.risks.RiskName.{RiskName}

@@ -17,7 +17,7 @@ use Rattle.sr_lsp.specs.declared.risk.Risk.{Risk as RiskPart}
 use Rattle.sr_lsdb.specs.declared.facts.Stored.{Stored}
 use Rattle.sr_lsdb.specs.declared.facts.Facts.{Facts}
 use Rattle.sr_lsdb.specs.Order.{pair_cmp}
-use Rattle.sr_domain.specs.declared.announced.Announcement.{Announcement}
+use Rattle.sr_lsdb.specs.declared.announcement.Announcement.{Announcement}
 use Rattle.sr_domain.specs.declared.risks.RiskName.{RiskName}
 use Rattle.sr_domain.specs.declared.risks.RiskNote.{RiskNote}
 use Rattle.sr_domain.specs.contracts.risks.RiskNameOrd.TheImpl as risk_name

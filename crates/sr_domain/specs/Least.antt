@@ -8,7 +8,7 @@ use Rattle.sr_subtlv.specs.declared.adj_sid.AdjSid.{AdjSid}
 use Rattle.sr_lsp.specs.declared.table.Part.{Part}
 use Rattle.sr_lsp.specs.declared.table.Part.TheVariants.{Prefix}
 use Rattle.sr_lsdb.specs.declared.facts.Facts.{Facts}
-use Rattle.sr_domain.specs.Announced.{adj_sid_labels}
+use Rattle.sr_lsdb.specs.Announcement.{adj_sid_labels}
 use Rattle.sr_domain.specs.Nodes.{node_sid_by, parts_of_node}
 use Rattle.sr_domain.specs.declared.nodes.NodeSid.{NodeSid}
 

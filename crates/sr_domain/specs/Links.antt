@@ -12,7 +12,7 @@ use Rattle.sr_model.specs.KeyOrder.{key_cmp}
 use Rattle.sr_wire.specs.declared.registry.TheConstants.{MAXIMUM_METRIC}
 use Rattle.sr_lsdb.specs.declared.facts.Facts.{Facts}
 use Rattle.sr_lsdb.specs.Tables.{metric_at, is_down}
-use Rattle.sr_domain.specs.declared.announced.Announcement.{Announcement}
+use Rattle.sr_lsdb.specs.declared.announcement.Announcement.{Announcement}
 use Rattle.sr_domain.specs.declared.links.FoundLink.{FoundLink}
 use Rattle.sr_domain.specs.Announced.{two_way_of}
 use Rattle.sr_domain.specs.Nodes.{nodes_of}

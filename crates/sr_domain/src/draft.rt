@@ -9,13 +9,12 @@ ghost use Rattle.sr_domain.specs.GroupTables.{GivesGroups, IsRiskTable, draft_li
 ghost use Rattle.sr_model.specs.declared.link.TheConstants.{MOST_LINKS};
 ghost use Rattle.sr_domain.specs.Links.{KeysAscend, link_key, link_label};
 
-use crate::announced::Announcement;
 use crate::groups::{RiskTable, by_name, groups_of};
 use crate::links::FoundLink;
 use crate::names::names_of;
 use crate::risks::notes;
 use sr_graph::DraftLink;
-use sr_lsdb::Facts;
+use sr_lsdb::{Announcement, Facts};
 use sr_model::MOST_LINKS;
 use sr_seq::Seq;
 use std::alloc::{AllocError, Global};

@@ -3,11 +3,11 @@ ghost use Rattle.std.specs.Prelude.{IfOk};
 ghost use Rattle.sr_lsdb.specs.Facts.{AreInRange};
 ghost use Rattle.sr_domain.specs.Steps.{AreGathered};
 
-use crate::announced::{Announcement, announcements};
+use crate::announced::announcements;
 use crate::links::{FoundLink, link_list};
 use crate::nodes::node_list;
 use crate::two_way::two_way;
-use sr_lsdb::Facts;
+use sr_lsdb::{Announcement, Facts};
 use sr_model::SystemId;
 use std::alloc::{AllocError, Global};
 

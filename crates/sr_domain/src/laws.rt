@@ -3,7 +3,7 @@
 ghost use Rattle.std.specs.Prelude.{◌≡◌, ℕ, List, [], MatchOption};
 ghost use Rattle.sr_subtlv.specs.declared.adj_sid.AdjSid.{AdjSid};
 ghost use Rattle.sr_lsdb.specs.declared.facts.Facts.{Facts};
-ghost use Rattle.sr_domain.specs.Announced.{adj_label};
+ghost use Rattle.sr_lsdb.specs.Announcement.{adj_label};
 ghost use Rattle.sr_domain.specs.Nodes.{node_sid_of};
 ghost use Rattle.sr_domain.specs.Least.{candidates, IsFirstLeastSid, IsAdjLabel};
 ghost use Rattle.sr_domain.specs.Determined.{FactsHaveOneNet, FactsHaveOneFault, BrokenFactsHaveNoNet};

@@ -18,9 +18,7 @@ mod risks;
 mod topology;
 mod two_way;
 
-pub use announced::{
-    Announcement, adj_sid_label, announced_by, announcements, is_present, least_label,
-};
+pub use announced::{announcements, is_present};
 pub use clash::adj_labels;
 pub use draft::sort_links;
 pub use fault::DomainFault;

@@ -3,8 +3,7 @@ ghost use Rattle.std.specs.Prelude.{◌≡◌, IfOk};
 ghost use Rattle.std.specs.List.{filter_map};
 ghost use Rattle.sr_domain.specs.Links.{effective_metric, link_by};
 
-use crate::announced::Announcement;
-use sr_lsdb::Facts;
+use sr_lsdb::{Announcement, Facts};
 use sr_model::LinkKey;
 use sr_wire::registry::MAXIMUM_METRIC;
 use std::alloc::{AllocError, Global};

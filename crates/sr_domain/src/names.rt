@@ -3,8 +3,8 @@ ghost use Rattle.std.specs.Prelude.{◌≡◌, ◌++◌, IfOk, OnOk};
 ghost use Rattle.std.specs.List.Sorted.{IsStrictlySortedBy};
 ghost use Rattle.sr_domain.specs.GroupTables.{HaveSameNames, named, names_from, pair_name_cmp};
 
-use crate::announced::Announcement;
 use crate::risks::{RiskName, numbered_name, unnumbered_name};
+use sr_lsdb::Announcement;
 use sr_model::PairKey;
 use std::alloc::{AllocError, Global};
 

@@ -6,7 +6,6 @@ ghost use Rattle.sr_domain.specs.Rules.{IsDomainFault};
 ghost use Rattle.sr_domain.specs.Steps.{AreParts, AreReady};
 ghost use Rattle.sr_domain.specs.Net.{IsNetOf};
 
-use crate::announced::Announcement;
 use crate::clash::check_labels;
 use crate::draft::{label_list, risk_table, sort_links};
 use crate::fault::DomainFault;
@@ -17,7 +16,7 @@ use crate::topology::graph_of;
 use crate::two_way::keys_of;
 use sr_graph::Graph;
 use sr_labels::{Net, NodeLabels};
-use sr_lsdb::Facts;
+use sr_lsdb::{Announcement, Facts};
 use std::alloc::{AllocError, Global};
 
 /// The net of this graph and these labels.

@@ -3,8 +3,8 @@ ghost use Rattle.std.specs.Prelude.{◌≡◌, ℕ, ◌++◌, map, IfOk, OnOk};
 ghost use Rattle.sr_lsp.specs.Parts.{part_of};
 ghost use Rattle.sr_domain.specs.Groups.{notes_by, notes_from, notes_of, numbered_name, unnumbered_name};
 
-use crate::announced::{Announcement, is_present};
-use sr_lsdb::Facts;
+use crate::announced::is_present;
+use sr_lsdb::{Announcement, Facts};
 use sr_lsp::{PartRef, Parts};
 use sr_model::{Ident, MOST_LINKS, SystemId};
 use std::alloc::{AllocError, Global};

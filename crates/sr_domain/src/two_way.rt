@@ -5,7 +5,7 @@ ghost use Rattle.std.specs.List.Sorted.{IsStrictlySortedBy};
 ghost use Rattle.sr_model.specs.KeyOrder.{key_cmp, same_key};
 ghost use Rattle.sr_domain.specs.Announced.{two_way as two_way_in, AreKeysOf, announced_key};
 
-use crate::announced::Announcement;
+use sr_lsdb::Announcement;
 use sr_model::LinkKey;
 use std::alloc::{AllocError, Global};
 

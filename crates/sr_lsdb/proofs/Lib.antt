@@ -1,3 +1,4 @@
+pub mod AnnouncementLemmas
 pub mod OrderLemmas
 pub mod RangeLemmas
 mod DraftLemmas

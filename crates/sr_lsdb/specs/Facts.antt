@@ -30,6 +30,10 @@ stored_of lsp = record { sequence = lsp.sequence; live = if lsp.lifetime == 0 th
 abbrev pub no_facts : Facts
 no_facts = record { database = []; costs = []; downs = []; depth = 3 }
 
+-- a live PDU stands under its own id
+abbrev pub StandsUnderItsId : (LspId × Stored) → Type 0
+StandsUnderItsId entry = IfSome entry.1.live (λ lsp. lsp.id ≡ entry.0)
+
 -- what is stored of a live PDU fits its layouts, and stands under its own id
 abbrev pub IsStoredWell : (LspId × Stored) → Type 0
 IsStoredWell entry = IfSome entry.1.live (λ lsp. FitsLsp lsp × (lsp.id ≡ entry.0))

@@ -1,4 +1,5 @@
 pub mod Order
+pub mod Announcement
 pub mod Facts
 pub mod Edit
 pub mod Tables

@@ -1,6 +1,7 @@
 //! The link-state database and the rest of the facts of a domain, and the edits that are staged and accepted.
 #![tactic(auto)]
 
+mod announcement;
 mod editor;
 mod facts;
 mod laws;
@@ -12,6 +13,7 @@ mod stage_fault;
 mod tables;
 mod touched;
 
+pub use announcement::{Announcement, adj_sid_label, announced_by, least_label};
 pub use editor::Editor;
 pub use facts::{Facts, Stored};
 pub use laws::{edits_keep_the_range, ids_are_ordered, pairs_are_ordered};

@@ -2,7 +2,7 @@
 ghost use Rattle.std.specs.Prelude.{◌≡◌, [], OnOk};
 ghost use Rattle.sr_lsdb.specs.Edit.{apply};
 ghost use Rattle.sr_lsdb.specs.Edit.Edit.{BringUp, SetCost, SetDepth, TakeDown};
-ghost use Rattle.sr_lsdb.specs.Facts.{no_facts};
+ghost use Rattle.sr_lsdb.specs.Facts.{StandsUnderItsId, no_facts};
 ghost use Rattle.sr_lsdb.specs.Sides.{Drafts, IsNoted, latest, with_stored};
 ghost use Rattle.sr_lsdb.specs.Touched.{EndsIn};
 
@@ -90,7 +90,8 @@ impl Sides {
 
     /// Stores under an id in the draft.
     pub(crate) fn store(&mut self, idle: bool, id: &LspId, stored: Stored) -> Result<(), AllocError>
-        requires { IsNoted self.old }
+        requires noted { IsNoted self.old }
+        requires id { StandsUnderItsId (id.now, stored) }
         ensures { Drafts idle
             (with_stored id.now stored (latest idle self.old)) self.old self.new result }
     {

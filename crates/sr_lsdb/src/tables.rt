@@ -1,5 +1,5 @@
 //! The tables of the facts, which contracts see as lists in order.
-ghost use Rattle.std.specs.Prelude.{◌≡◌, [], false, true, if◌then◌else◌, Some, OnOk, OnErr};
+ghost use Rattle.std.specs.Prelude.{◌≡◌, [], false, true, if◌then◌else◌, Some, All, OnOk, OnErr};
 ghost use Rattle.std.specs.Option.{option_copied};
 ghost use Rattle.std.specs.BTreeMap.{insert_entry, is_at};
 ghost use Rattle.std.specs.BTreeSet.{insert_key};
@@ -9,6 +9,7 @@ ghost use Rattle.sr_model.specs.declared.name.PairKey.{PairKey as Pair};
 ghost use Rattle.sr_model.specs.KeyOrder.{key_cmp};
 ghost use Rattle.sr_lsp.specs.declared.lsp.LspId.{LspId as Id};
 ghost use Rattle.sr_lsdb.specs.Alike.{said_at};
+ghost use Rattle.sr_lsdb.specs.Facts.{StandsUnderItsId};
 ghost use Rattle.sr_lsdb.specs.Order.{id_cmp, pair_cmp};
 ghost use Rattle.sr_lsdb.specs.Renewed.{all_said};
 ghost use Rattle.sr_lsdb.specs.Tables.{TakesOver, is_down, metric_at, stored_at};
@@ -33,7 +34,12 @@ impl Model for Database {
 
     ghost Value = { List (Id × Held) };
 
+    ghost use Rattle.std.specs.Prelude.{All};
+    ghost use Rattle.sr_lsdb.specs.Facts.{StandsUnderItsId};
+
     ghost view = { λ d. d.entries.entries };
+
+    ghost invariant = { λ d. All StandsUnderItsId d.entries.entries };
 }
 
 impl Database {
@@ -46,9 +52,10 @@ impl Database {
         }
     }
 
-    /// What is stored, by id.
+    /// What is stored, by id. Each live PDU stands under its own id.
     pub fn as_map(&self) -> &BTreeMap<LspId, Stored>
-        ensures { result.now.entries ≡ self.now }
+        ensures entries { result.now.entries ≡ self.now }
+        ensures ids { All StandsUnderItsId self.now }
     {
         &self.entries
     }
@@ -62,6 +69,7 @@ impl Database {
 
     /// Stores under an id, in the place of what stood there. An error leaves the database as it was.
     pub(crate) fn insert(&mut self, id: LspId, stored: Stored) -> Result<(), AllocError>
+        requires { StandsUnderItsId (id, stored) }
         ensures entries { OnOk result (self.new ≡ insert_entry id_cmp self.old id stored) }
         ensures values { OnOk result ((other : Id) →
             stored_at self.new other ≡ if is_at (id_cmp id) other then Some stored else stored_at self.old other) }
@@ -77,7 +85,7 @@ impl Database {
             (TakesOver (is_at (id_cmp id.now)) (stored_at source.now) (stored_at self.old) (stored_at self.new)) }
         ensures err { OnErr result (self.new ≡ self.old) }
     {
-        match source.get(id) {
+        match source.as_map().get(id) {
             Some(stored) => {
                 let shared = stored.again()?;
                 self.insert(*id, shared)

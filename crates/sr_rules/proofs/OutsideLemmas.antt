@@ -13,7 +13,7 @@ use Rattle.sr_laws.proofs.Ranges.{label-none}
 use Rattle.sr_labels.proofs.IndexLists.{labelled}
 use Rattle.sr_labels.specs.Indices.{IsFirstWithout}
 use Rattle.sr_lsdb.specs.declared.facts.Facts.{Facts}
-use Rattle.sr_domain.specs.Announced.{lesser}
+use Rattle.sr_lsdb.specs.Announcement.{lesser}
 use Rattle.sr_domain.specs.Nodes.{labels_of, nodes_of, all_labels, ranges_of}
 use Rattle.sr_rules.specs.Broken.{IsFinding}
 use Rattle.sr_rules.specs.RuleSurvey.{with_ranges, nodes_with}

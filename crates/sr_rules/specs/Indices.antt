@@ -3,7 +3,7 @@ use Rattle.std.specs.Prelude.{◌≡◌, ℕ, ◌<◌, ◌≤◌, ◌-◌, ◌^�
 use Rattle.sr_model.specs.Label.{Labels, sizes}
 use Rattle.sr_model.specs.Rule.{node_at}
 use Rattle.sr_labels.specs.Indices.{AreAtLeast}
-use Rattle.sr_domain.specs.Announced.{lesser}
+use Rattle.sr_lsdb.specs.Announcement.{lesser}
 
 -- the index that a node announces
 abbrev pub index_in : Labels → Option ℕ

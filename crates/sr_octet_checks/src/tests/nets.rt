@@ -1,9 +1,9 @@
 //! Nets of two routers.
 
 use super::fixtures::{PDU, accept, changed, id, key, sent};
-use sr_domain::{Announcement, RiskName, net_of, unnumbered_name};
+use sr_domain::{RiskName, net_of, unnumbered_name};
 use sr_labels::Net;
-use sr_lsdb::Editor;
+use sr_lsdb::{Announcement, Editor};
 use sr_model::{Ident, LinkKey, LinkNo};
 use sr_subtlv::LinkIds;
 use std::alloc::Global;

@@ -11,7 +11,7 @@ use Rattle.sr_account.proofs.choice.least_own.Goals as goal
 pub loop-id-init : goal.loop-id-init
 loop-id-init c =
     ap (least_offer None) (items-ranged c.args.node c.own_ids-first.result c.as_map-database.result.now.entries c.into_iter-id-iterator.result c.own_ids-first.ensures (c.into_iter-id-iterator.ensures.into_iter_gives ∙ c.range-id-items.ensures.between tt))
-    ∙ ap (λ (es : List (LspId × Stored)). least_offer None (items_of_entries (filter (λ (e : LspId × Stored). is_own c.args.node e.0) es))) c.as_map-database.ensures
+    ∙ ap (λ (es : List (LspId × Stored)). least_offer None (items_of_entries (filter (λ (e : LspId × Stored). is_own c.args.node e.0) es))) c.as_map-database.ensures.entries
 
 pub loop-id-preserved-in-Some-live : goal.loop-id-preserved-in-Some-live
 loop-id-preserved-in-Some-live c =

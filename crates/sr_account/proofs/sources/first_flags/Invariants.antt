@@ -1,7 +1,7 @@
 use Rattle.std.proofs.Common.{◌≡◌, ℕ, ◌<◌, Some}
 use Rattle.std.specs.Prelude.{◌≢◌, slice_get}
 use Rattle.sr_subtlv.specs.declared.adj_sid.AdjSid.{AdjSid}
-use Rattle.sr_domain.specs.Announced.{adj_sid_label}
+use Rattle.sr_lsdb.specs.Announcement.{adj_sid_label}
 use Rattle.sr_account.proofs.sources.first_flags.Given as goal
 
 abbrev pub invariant-loop-sid : goal.invariant-loop-sid

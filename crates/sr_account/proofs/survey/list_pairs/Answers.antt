@@ -2,7 +2,7 @@ use Rattle.std.proofs.Common.{◌≡◌, ◌<◌, arith, length, ap, ◌∙◌, 
 use Rattle.std.specs.List.{list_any}
 use Rattle.sr_model.specs.Key.{mirror}
 use Rattle.sr_model.specs.KeyOrder.{same_key}
-use Rattle.sr_domain.specs.declared.announced.Announcement.{Announcement}
+use Rattle.sr_lsdb.specs.declared.announcement.Announcement.{Announcement}
 use Rattle.sr_domain.specs.Announced.{is_announced}
 use Rattle.sr_domain.specs.Links.{link_by}
 use Rattle.sr_domain.proofs.AnnouncedLemmas.{filter-dropped_at}

@@ -1,7 +1,7 @@
 use Rattle.std.proofs.Common.{◌≡◌, map, filter, take}
 use Rattle.std.specs.List.{filter_map}
 use Rattle.sr_model.specs.Key.{mirror}
-use Rattle.sr_domain.specs.declared.announced.Announcement.{Announcement}
+use Rattle.sr_lsdb.specs.declared.announcement.Announcement.{Announcement}
 use Rattle.sr_domain.specs.Announced.{is_announced}
 use Rattle.sr_domain.specs.Links.{link_by}
 use Rattle.sr_account.specs.Steps.{link_pair}

@@ -1,6 +1,6 @@
 use Rattle.std.proofs.Common.{List, sym, subst}
 use Rattle.std.proofs.lemmas.Result.{IfOk-weaker}
-use Rattle.sr_domain.specs.declared.announced.Announcement.{Announcement}
+use Rattle.sr_lsdb.specs.declared.announcement.Announcement.{Announcement}
 use Rattle.sr_domain.specs.Announced.{AreKeysOf}
 use Rattle.sr_domain.specs.Net.{IsNetOf}
 use Rattle.sr_domain.proofs.NetLemmas.{accepted, net-of}

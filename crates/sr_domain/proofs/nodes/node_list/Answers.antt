@@ -9,5 +9,5 @@ use Rattle.sr_domain.proofs.nodes.node_list.Goals as goal
 pub returns-clause-ascending : goal.returns-clause-ascending
 returns-clause-ascending c =
     let sorted : IsStrictlyIncreasing (filter_map node_by c.as_map.result.now.entries) = IsStrictlyIncreasing-from_sorted (filter_map node_by c.as_map.result.now.entries) (nodes-ascend c.as_map.result.now.entries c.len-count.ensures.ordered) in
-    let same : filter_map node_by c.as_map.result.now.entries ≡ c.in_ok-out.out.items = ap (filter_map node_by) c.as_map.ensures ∙ sym c.in_ok-out.ensures in
+    let same : filter_map node_by c.as_map.result.now.entries ≡ c.in_ok-out.out.items = ap (filter_map node_by) c.as_map.ensures.entries ∙ sym c.in_ok-out.ensures in
     subst (λ (nodes : List ℕ). IsStrictlyIncreasing nodes) same sorted

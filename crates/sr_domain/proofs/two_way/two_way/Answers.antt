@@ -3,7 +3,7 @@ use Rattle.std.specs.List.{list_any}
 use Rattle.sr_model.specs.declared.name.LinkKey.{LinkKey}
 use Rattle.sr_model.specs.Key.{mirror}
 use Rattle.sr_model.specs.KeyOrder.{same_key}
-use Rattle.sr_domain.specs.declared.announced.Announcement.{Announcement}
+use Rattle.sr_lsdb.specs.declared.announcement.Announcement.{Announcement}
 use Rattle.sr_domain.specs.Announced.{is_announced}
 use Rattle.sr_domain.proofs.AnnouncedLemmas.{filter-kept_at, filter-dropped_at, pushed}
 use Rattle.sr_domain.proofs.two_way.two_way.Goals as goal

@@ -1,8 +1,8 @@
 use Rattle.std.proofs.Common.{◌<◌, arith, length, ap, ◌∙◌, sym, take}
-use Rattle.sr_domain.specs.Announced.{adj_sid_label, adj_sid_labels, lesser, least}
-use Rattle.sr_domain.proofs.AnnouncedLemmas.{filter_map-some, filter_map-none, least-push}
-use Rattle.sr_domain.proofs.announced.least_label.Goals as goal
-use Rattle.sr_domain.proofs.announced.least_label.Goals.{in-Some, in-None}
+use Rattle.sr_lsdb.specs.Announcement.{adj_sid_label, adj_sid_labels, lesser, least}
+use Rattle.sr_lsdb.proofs.AnnouncementLemmas.{filter_map-some, filter_map-none, least-push}
+use Rattle.sr_lsdb.proofs.announcement.least_label.Goals as goal
+use Rattle.sr_lsdb.proofs.announcement.least_label.Goals.{in-Some, in-None}
 
 pub loop-sid-preserved : goal.loop-sid-preserved
 loop-sid-preserved c =
