@@ -112,3 +112,7 @@ GivesGroups groups announcements notes =
 -- the link as a graph takes it, with the groups of its pair
 abbrev pub draft_link : (PairKey → List ℕ) → FoundLink → DraftLink
 draft_link groups link = record { key = link.key; metric = link.metric; groups = groups (pair_of link.key) }
+
+-- the link has the groups that are given to its pair
+abbrev pub HasItsGroups : (PairKey → List ℕ) → DraftLink → Type 0
+HasItsGroups groups link = link.groups ≡ groups (pair_of link.key)

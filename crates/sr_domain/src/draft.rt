@@ -1,11 +1,13 @@
 //! The links of a domain as a graph takes them, with their shared-risk groups.
-ghost use Rattle.std.specs.Prelude.{◌≡◌, ◌≤◌, false, [], length, map, All, IfOk};
+ghost use Rattle.std.specs.Prelude.{◌≡◌, ℕ, ◌≤◌, false, [], List, length, map, All, IfOk, IfSome};
 ghost use Rattle.std.specs.List.Sorted.{IsPermutation, IsSortedByKey, IsStrictlyIncreasing};
+ghost use Rattle.sr_model.specs.declared.name.PairKey.{PairKey as Pair};
+ghost use Rattle.sr_model.specs.Key.{pair_of};
 ghost use Rattle.sr_model.specs.KeyOrder.{key_cmp};
 ghost use Rattle.sr_graph.specs.declared.draft.DraftLink.{DraftLink as Drafted};
 ghost use Rattle.sr_domain.specs.Announced.{announcements_of};
 ghost use Rattle.sr_domain.specs.Groups.{notes_of};
-ghost use Rattle.sr_domain.specs.GroupTables.{GivesGroups, IsRiskTable, draft_link, groups_in};
+ghost use Rattle.sr_domain.specs.GroupTables.{GivesGroups, HasItsGroups, IsRiskTable, draft_link, groups_in};
 ghost use Rattle.sr_model.specs.declared.link.TheConstants.{MOST_LINKS};
 ghost use Rattle.sr_domain.specs.Links.{KeysAscend, link_key, link_label};
 
@@ -15,7 +17,7 @@ use crate::names::names_of;
 use crate::risks::notes;
 use sr_graph::DraftLink;
 use sr_lsdb::{Announcement, Facts};
-use sr_model::MOST_LINKS;
+use sr_model::{LinkKey, MOST_LINKS};
 use sr_seq::Seq;
 use std::alloc::{AllocError, Global};
 use std::cmp::Ordering;
@@ -87,6 +89,38 @@ pub(crate) fn risk_table(
     Ok(RiskTable { names, notes })
 }
 
+/// The groups of the link's pair, of a link back that has them. It stands before the link where its node does.
+fn groups_back<'a>(drafted: &'a [DraftLink], key: &LinkKey) -> Option<&'a [u32]>
+    ensures { (groups : Pair → List ℕ) → All (HasItsGroups groups) drafted.now →
+        IfSome result (λ found. found.now ≡ groups (pair_of key.now)) }
+{
+    let back = key.mirrored();
+    let at = drafted.partition_point(|link| link.key < back);
+    if at < drafted.len() && drafted[at].key.pair() == key.pair() {
+        Some(drafted[at].groups.as_slice())
+    } else {
+        None
+    }
+}
+
+/// The groups of the link's pair, ascending: as a link back has them, and else as the table gives them.
+fn groups_for(
+    alloc: Global,
+    table: &RiskTable,
+    drafted: &[DraftLink],
+    key: &LinkKey,
+) -> Result<Vec<u32>, AllocError>
+    requires table { IsRiskTable table.now }
+    requires drafted { All (HasItsGroups (groups_in table.now)) drafted.now }
+    ensures ascending { IfOk result (λ v. IsStrictlyIncreasing v.items) }
+    ensures groups { IfOk result (λ v. v.items ≡ groups_in table.now (pair_of key.now)) }
+{
+    match groups_back(drafted, key) {
+        Some(groups) => Vec::from_slice(alloc, groups),
+        None => groups_of(alloc, table, &key.pair()),
+    }
+}
+
 /// The links with the groups of their pairs.
 pub(crate) fn draft_links(
     alloc: Global,
@@ -100,7 +134,7 @@ pub(crate) fn draft_links(
 {
     let mut out = Vec::with_capacity(alloc, links.len())?;
     for link in links {
-        let groups = groups_of(alloc, table, &link.key.pair())?;
+        let groups = groups_for(alloc, table, &out, &link.key)?;
         out.push(DraftLink {
             key: link.key,
             metric: link.metric,
