@@ -9,14 +9,10 @@ After each `commit` of a script `links`, `audit full` and `diff` of the last two
 """
 
 import re
-import subprocess
-import sys
+
+from shown import answers_of, over_scripts, words
 
 LINK = re.compile(r"[0-9a-f.]+>[0-9a-f.]+#\d+")
-
-
-def words(line):
-    return line.replace("\t", " ").rstrip("\r").split()
 
 
 def asking(lines):
@@ -30,17 +26,6 @@ def asking(lines):
             continue
         out += ["show", "TRY", "show", "commit", "show", "links", "show", "audit full", "show", "DIFF 1", "show", "DIFF 0", "show"]
     return out
-
-
-def answers_of(program, lines):
-    """What stands between the answers to `show`, and the versions that these show."""
-    script = "\n".join(lines) + "\n"
-    ran = subprocess.run([program, "run"], input=script.encode("latin-1"), stdout=subprocess.PIPE, check=False)
-    if ran.returncode not in (0, 1):
-        sys.exit(f"the program ended with status {ran.returncode}")
-    text = ran.stdout.decode("latin-1")
-    pieces = re.split(r"(?m)^show version (\d+) .*\n", text)
-    return pieces[0::2], [int(it) for it in pieces[1::2]]
 
 
 def keys_of(links):
@@ -80,7 +65,7 @@ def diff_of(version, old, new):
     return "\n".join(out) + "\n"
 
 
-def compare(program, lines):
+def compare(program, lines, _seed):
     """How many answers were compared, and those that differ, each with what it is to be."""
     asked = asking(lines)
     blank = ["" if it in ("TRY",) or it.startswith("DIFF") else it for it in asked]
@@ -111,24 +96,9 @@ def compare(program, lines):
         for got, want in wanted:
             count += 1
             if got != want:
-                wrong.append((got, want))
+                wrong.append(f"answered\n{got}\nwhere the audits say\n{want}")
     return count, wrong
 
 
-def main():
-    program, scripts = sys.argv[1], sys.argv[2:]
-    total, bad = 0, 0
-    for script in scripts:
-        with open(script, encoding="latin-1") as it:
-            lines = it.read().split("\n")
-        count, wrong = compare(program, lines)
-        total += count
-        bad += len(wrong)
-        for got, want in wrong[:1]:
-            print(f"{script}: answered\n{got}\nwhere the audits say\n{want}")
-    print(f"{total} answers compared, {bad} differ")
-    sys.exit(bad > 0)
-
-
 if __name__ == "__main__":
-    main()
+    over_scripts(compare)

@@ -10,17 +10,13 @@ accepted both answers have to be the same; where it was refused each question is
 
 import random
 import re
-import subprocess
-import sys
+
+from shown import answers_of, over_scripts, words
 
 ASKING = {"dist", "next", "label", "spaces", "repair", "adjrepair", "adjbackup", "walk", "load", "audit", "nodes",
           "links", "aside", "fails"}
 ALWAYS = ["audit", "audit full", "audit labels", "audit by node", "nodes", "links", "aside"]
 MOST = 8
-
-
-def words(line):
-    return line.replace("\t", " ").rstrip("\r").split()
 
 
 def questions_of(lines):
@@ -52,19 +48,11 @@ def plain(text):
     return re.sub(r"(?m)^refused \d+ ", "refused ", text)
 
 
-def answers_of(program, lines):
-    """What stands between the answers to `show`."""
-    script = "\n".join(lines) + "\n"
-    ran = subprocess.run([program, "run"], input=script.encode("latin-1"), stdout=subprocess.PIPE, check=False)
-    if ran.returncode not in (0, 1):
-        sys.exit(f"the program ended with status {ran.returncode}")
-    return re.split(r"(?m)^show version [^\n]*\n", ran.stdout.decode("latin-1"))
-
-
-def differences(program, lines, seed):
-    """The questions whose two answers differ."""
+def compare(program, lines, seed):
+    """How many answers were compared, and the questions whose two answers differ."""
     script, counts = tried([line for line in lines if words(line) != ["show"]], seed)
-    parts, at, found, compared = answers_of(program, script), 0, [], 0
+    parts, _ = answers_of(program, script)
+    at, wrong, count = 0, [], 0
     for some in counts:
         # what came before the first of them ends with the first `show`
         before = parts[at + 1:at + 1 + len(some)]
@@ -73,27 +61,12 @@ def differences(program, lines, seed):
         for question, one, other in zip(some, before, after):
             # words of a bad form are refused as such, whatever a commit would be
             wanted = other if commit.startswith("version ") or plain(other) == "refused 2 BadForm\n" else commit
-            compared += 1
-            if plain(one) != plain(wanted):
-                found.append((question, one, wanted))
-        at += 2 + 2 * len(some)
-    return found, compared
-
-
-def main():
-    program, paths = sys.argv[1], sys.argv[2:]
-    count = compared = 0
-    for seed, path in enumerate(paths):
-        with open(path, encoding="latin-1") as it:
-            lines = it.read().split("\n")
-        found, some = differences(program, lines, seed)
-        compared += some
-        for question, one, wanted in found:
             count += 1
-            print(f"{path}: {question}\n  tried: {one[:300]!r}\n  asked: {wanted[:300]!r}")
-    print(f"{len(paths)} scripts, {compared} answers compared, {count} differ")
-    return 1 if count else 0
+            if plain(one) != plain(wanted):
+                wrong.append(f"{question}\n  tried: {one[:300]!r}\n  asked: {wanted[:300]!r}")
+        at += 2 + 2 * len(some)
+    return count, wrong
 
 
 if __name__ == "__main__":
-    sys.exit(main())
+    over_scripts(compare)
