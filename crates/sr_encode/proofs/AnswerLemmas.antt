@@ -25,7 +25,7 @@ use Rattle.sr_encode.specs.declared.answers.NodeAnswer.{NodeAnswer}
 use Rattle.sr_encode.specs.declared.kept.Outcome.{Outcome}
 use Rattle.sr_encode.specs.declared.kept.Outcome.TheVariants.{Least as ListOutcome, NoPath as NoPathOutcome, NoList as NoListOutcome}
 use Rattle.sr_encode.specs.declared.kept.Kept.{Kept}
-use Rattle.sr_encode.specs.Kept.{outcome_at, answer_from, entry_from, entries, HasSegments, AreKeptWithin}
+use Rattle.sr_encode.specs.Kept.{outcome_at, answer_from, entry_from, entries, no_kept, HasSegments, AreKeptWithin, IsListOutcome, IsOfSome}
 use Rattle.sr_encode.specs.Answered.{node_answer_at, destination_at, AscendByNode, AreAffected, AreLists, AreListed}
 use Rattle.sr_seq.proofs.ListLemmas.{none-not_some}
 
@@ -153,28 +153,24 @@ lists-over n case x wanted list set r a = record {
   all = λ d is. a.all d ((r d).1 is);
 }
 
--- what stands for an answer past the end of those that are kept
-abbrev pub no_kept : Kept
-no_kept = record { destination = record { 0 = 0 }; outcome = 0; cost = 0 }
-
 -- the answers that are kept, read by place
-pub kept-at : (segments : List Segment) (outcomes : List Outcome) (kept : List Kept) (i : ℕ) → i < length kept → node_answer_at (entries segments outcomes kept) i ≡ entry_from segments outcomes (get_or kept i no_kept)
-kept-at segments outcomes kept i lt = get_or-map (entry_from segments outcomes) kept i no_kept no_entry lt
+pub kept-at : (start : ℕ) (segments : List Segment) (outcomes : List Outcome) (kept : List Kept) (i : ℕ) → i < length kept → node_answer_at (entries segments outcomes kept start) i ≡ entry_from start segments outcomes (get_or kept i no_kept)
+kept-at start segments outcomes kept i lt = get_or-map (entry_from start segments outcomes) kept i no_kept no_entry lt
 
 -- what a search by destination finds
-module _ (segments : List Segment) (outcomes : List Outcome) (kept : List Kept) (up : AscendByNode (entries segments outcomes kept)) (d : ℕ) where
+module _ (start : ℕ) (segments : List Segment) (outcomes : List Outcome) (kept : List Kept) (up : AscendByNode (entries segments outcomes kept start)) (d : ℕ) where
   abbrev node : ℕ → ℕ
   node i = (get_or kept i no_kept).destination.0
 
-  is-node : (i : ℕ) → i < length kept → destination_at (entries segments outcomes kept) i ≡ node i
-  is-node i lt = ap (λ (e : NodeAnswer). e.destination.0) (kept-at segments outcomes kept i lt)
+  is-node : (i : ℕ) → i < length kept → destination_at (entries segments outcomes kept start) i ≡ node i
+  is-node i lt = ap (λ (e : NodeAnswer). e.destination.0) (kept-at start segments outcomes kept i lt)
 
   rises : (i j : ℕ) → i ≤ j → j < length kept → node i ≤ node j
   rises i j le within =
       ⊎_elim
       (λ (same : i ≡ j). let P : ℕ → Type 0 = λ m. node m ≤ node j in subst P (sym same) (omega arith))
       (λ (ne : i ≢ j).
-      let lt : destination_at (entries segments outcomes kept) i < destination_at (entries segments outcomes kept) j = up i j (omega arith) (omega (arith, within, length-map kept (entry_from segments outcomes))) in
+      let lt : destination_at (entries segments outcomes kept start) i < destination_at (entries segments outcomes kept start) j = up i j (omega arith) (omega (arith, within, length-map kept (entry_from start segments outcomes))) in
       omega (arith, lt, is-node i (omega arith), is-node j within))
       (cases_eq i j)
 
@@ -183,12 +179,12 @@ module _ (segments : List Segment) (outcomes : List Outcome) (kept : List Kept) 
       let le' : node i ≤ node j = rises i j le within in
       grind (arith, nat_tests))
 
-  pub found-at : (at : ℕ) → at < length kept → IsBinarySearchResult (λ (x : Kept). nat_cmp x.destination.0 d) kept (Ok at) → destination_at (entries segments outcomes kept) at ≡ d
+  pub found-at : (at : ℕ) → at < length kept → IsBinarySearchResult (λ (x : Kept). nat_cmp x.destination.0 d) kept (Ok at) → destination_at (entries segments outcomes kept start) at ≡ d
   found-at at within is = is-node at within ∙ ranked _ d _ (sym (is no_kept))
 
-  pub missed-at : (at : ℕ) → IsBinarySearchResult (λ (x : Kept). nat_cmp x.destination.0 d) kept (Err at) → (i : ℕ) → i < length (entries segments outcomes kept) → destination_at (entries segments outcomes kept) i ≢ d
+  pub missed-at : (at : ℕ) → IsBinarySearchResult (λ (x : Kept). nat_cmp x.destination.0 d) kept (Err at) → (i : ℕ) → i < length (entries segments outcomes kept start) → destination_at (entries segments outcomes kept start) i ≢ d
   missed-at at is i inside same =
-      let within : i < length kept = omega (arith, inside, length-map kept (entry_from segments outcomes)) in
+      let within : i < length kept = omega (arith, inside, length-map kept (entry_from start segments outcomes)) in
       let here : node i ≡ d = sym (is-node i within) ∙ same in
       let parted = is comparisons_rise in
       ⊎_elim
@@ -208,43 +204,61 @@ range-behind xs ys a b begin end =
     let rest : drop a (xs ++ ys) ≡ ys = drop-append-le a xs ys (omega (arith, begin)) ∙ ap (λ l. l ++ ys) (drop_all a xs (omega (arith, begin))) in
     ap (λ l. take (b - a) l) rest ∙ take_all (b - a) ys (omega (arith, begin, end, length-append xs ys))
 
-answer-kept : (segments more : List Segment) (outcome : Outcome) (cost : ℕ) → HasSegments segments outcome → answer_from (segments ++ more) outcome cost ≡ answer_from segments outcome cost
-answer-kept segments more NoPathOutcome cost within = refl
-answer-kept segments more NoListOutcome cost within = refl
-answer-kept segments more (ListOutcome first begin end) cost within = ap (λ (l : List Segment). Least (record { first = first; segments = l; cost = cost })) (range-kept segments more begin end within.0 within.1)
+answer-kept : (start : ℕ) (segments more : List Segment) (outcome : Outcome) (cost : ℕ) → HasSegments segments outcome → answer_from start (segments ++ more) outcome cost ≡ answer_from start segments outcome cost
+answer-kept start segments more NoPathOutcome cost within = refl
+answer-kept start segments more NoListOutcome cost within = refl
+answer-kept start segments more (ListOutcome place begin end) cost within = ap (λ (l : List Segment). Least (record { first = record { 0 = start + place }; segments = l; cost = cost })) (range-kept segments more begin end within.0 within.1)
 
 pub within-more : (segments more : List Segment) (outcome : Outcome) → HasSegments segments outcome → HasSegments (segments ++ more) outcome
 within-more segments more NoPathOutcome within = within
 within-more segments more NoListOutcome within = within
-within-more segments more (ListOutcome first begin end) within = (within.0, omega (arith, within.1, length-append segments more))
+within-more segments more (ListOutcome place begin end) within = (within.0, omega (arith, within.1, length-append segments more))
 
 -- an answer stays where segments and outcomes come behind the others
-entry-kept : (segments more : List Segment) (outcomes added : List Outcome) (kept : Kept) → All (HasSegments segments) outcomes → kept.outcome < length outcomes → entry_from (segments ++ more) (outcomes ++ added) kept ≡ entry_from segments outcomes kept
-entry-kept segments more outcomes added kept lists lt =
+entry-kept : (start : ℕ) (segments more : List Segment) (outcomes added : List Outcome) (kept : Kept) → All (HasSegments segments) outcomes → kept.outcome < length outcomes → entry_from start (segments ++ more) (outcomes ++ added) kept ≡ entry_from start segments outcomes kept
+entry-kept start segments more outcomes added kept lists lt =
     let same : outcome_at (outcomes ++ added) kept.outcome ≡ outcome_at outcomes kept.outcome = get_or_append_left outcomes added NoPathOutcome kept.outcome lt in
-    let answer : answer_from (segments ++ more) (outcome_at (outcomes ++ added) kept.outcome) kept.cost ≡ answer_from segments (outcome_at outcomes kept.outcome) kept.cost =
-    ap (λ (o : Outcome). answer_from (segments ++ more) o kept.cost) same ∙ answer-kept segments more (outcome_at outcomes kept.outcome) kept.cost (All-get_or (HasSegments segments) outcomes kept.outcome NoPathOutcome lt lists) in
+    let answer : answer_from start (segments ++ more) (outcome_at (outcomes ++ added) kept.outcome) kept.cost ≡ answer_from start segments (outcome_at outcomes kept.outcome) kept.cost =
+    ap (λ (o : Outcome). answer_from start (segments ++ more) o kept.cost) same ∙ answer-kept start segments more (outcome_at outcomes kept.outcome) kept.cost (All-get_or (HasSegments segments) outcomes kept.outcome NoPathOutcome lt lists) in
     ap (λ (a : Answer). record { destination = kept.destination; answer = a }) answer
 
 -- and so do all answers
-entries-kept : (segments more : List Segment) (outcomes added : List Outcome) (kept : List Kept) → All (HasSegments segments) outcomes → All (λ (k : Kept). k.outcome < length outcomes) kept → entries (segments ++ more) (outcomes ++ added) kept ≡ entries segments outcomes kept
-entries-kept segments more outcomes added [] lists each = refl
-entries-kept segments more outcomes added (k ∷ ks) lists each =
-    let first : entry_from (segments ++ more) (outcomes ++ added) k ≡ entry_from segments outcomes k = entry-kept segments more outcomes added k lists (All-head (λ (o : Kept). o.outcome < length outcomes) k ks each) in
-    let rest : entries (segments ++ more) (outcomes ++ added) ks ≡ entries segments outcomes ks = entries-kept segments more outcomes added ks lists (All-tail (λ (o : Kept). o.outcome < length outcomes) k ks each) in
-    ap (λ (e : NodeAnswer). e ∷ entries (segments ++ more) (outcomes ++ added) ks) first ∙ ap (λ (l : List NodeAnswer). entry_from segments outcomes k ∷ l) rest
+entries-kept : (start : ℕ) (segments more : List Segment) (outcomes added : List Outcome) (kept : List Kept) → All (HasSegments segments) outcomes → All (λ (k : Kept). k.outcome < length outcomes) kept → entries (segments ++ more) (outcomes ++ added) kept start ≡ entries segments outcomes kept start
+entries-kept start segments more outcomes added [] lists each = refl
+entries-kept start segments more outcomes added (k ∷ ks) lists each =
+    let first : entry_from start (segments ++ more) (outcomes ++ added) k ≡ entry_from start segments outcomes k = entry-kept start segments more outcomes added k lists (All-head (λ (o : Kept). o.outcome < length outcomes) k ks each) in
+    let rest : entries (segments ++ more) (outcomes ++ added) ks start ≡ entries segments outcomes ks start = entries-kept start segments more outcomes added ks lists (All-tail (λ (o : Kept). o.outcome < length outcomes) k ks each) in
+    ap (λ (e : NodeAnswer). e ∷ entries (segments ++ more) (outcomes ++ added) ks start) first ∙ ap (λ (l : List NodeAnswer). entry_from start segments outcomes k ∷ l) rest
+
+-- each list is still that of some destination
+used-push : (outcomes added : List Outcome) (list : List Kept) (kept : Kept) → ((r : ℕ) → r < length outcomes → IsListOutcome (outcome_at outcomes r) → IsOfSome list r) → length added ≤ 1 → (0 < length added → kept.outcome ≡ length outcomes)
+    → (r : ℕ) → r < length (outcomes ++ added) → IsListOutcome (outcome_at (outcomes ++ added) r) → IsOfSome (list ++ kept ∷ []) r
+used-push outcomes added list kept used few last r lt is =
+    let long : length (list ++ kept ∷ []) ≡ length list + 1 = length-append list (kept ∷ []) in
+    ⊎_elim
+    (λ (old : r < length outcomes).
+    let of = used r old (subst (λ (o : Outcome). IsListOutcome o) (get_or_append_left outcomes added NoPathOutcome r old) is) in
+    let within : of.0 < length list = of.1 in
+    (of.0, omega (arith, within, long), ap (λ (k : Kept). k.outcome) (get_or_append_left list (kept ∷ []) no_kept of.0 within) ∙ of.2))
+    (λ (new : length outcomes ≤ r).
+    let more : length (outcomes ++ added) ≡ length outcomes + length added = length-append outcomes added in
+    let here : kept.outcome ≡ length outcomes = last (omega (arith, lt, more)) in
+    let at : length outcomes ≡ r = omega (arith, lt, more, few) in
+    (length list, omega (arith, long), ap (λ (k : Kept). k.outcome) (get_or_push list kept no_kept (length list) refl) ∙ here ∙ at))
+    (cases_lt r (length outcomes))
 
 -- one more is kept, with what it adds behind what the others have
-pub kept-push : (n : Net) (x : List Bool) (s : ℕ) (wanted left less : NodeBits) (segments more : List Segment) (outcomes added : List Outcome) (list : List Kept) (kept : Kept) → AreListedBut n x s wanted left (entries segments outcomes list) → AreKeptWithin segments outcomes list → All (HasSegments (segments ++ more)) (outcomes ++ added) → length added ≤ 1 → kept.outcome < length (outcomes ++ added) → IsFirstIn left kept.destination.0 → IsWithout left less kept.destination.0 → IsListed n x s kept.destination.0 (answer_from (segments ++ more) (outcome_at (outcomes ++ added) kept.outcome) kept.cost) → AreListedBut n x s wanted less (entries (segments ++ more) (outcomes ++ added) (list ++ kept ∷ [])) × AreKeptWithin (segments ++ more) (outcomes ++ added) (list ++ kept ∷ [])
-kept-push n x s wanted left less segments more outcomes added list kept listed within lists few below first taken answer =
-    let same : entries (segments ++ more) (outcomes ++ added) list ≡ entries segments outcomes list = entries-kept segments more outcomes added list within.lists within.each in
-    let entry : NodeAnswer = entry_from (segments ++ more) (outcomes ++ added) kept in
-    let joined : entries (segments ++ more) (outcomes ++ added) (list ++ kept ∷ []) ≡ entries segments outcomes list ++ entry ∷ [] = map-append (entry_from (segments ++ more) (outcomes ++ added)) list (kept ∷ []) ∙ ap (λ l. l ++ entry ∷ []) same in
+pub kept-push : (start : ℕ) (n : Net) (x : List Bool) (s : ℕ) (wanted left less : NodeBits) (segments more : List Segment) (outcomes added : List Outcome) (list : List Kept) (kept : Kept) → AreListedBut n x s wanted left (entries segments outcomes list start) → AreKeptWithin segments outcomes list → All (HasSegments (segments ++ more)) (outcomes ++ added) → length added ≤ 1 → (0 < length added → kept.outcome ≡ length outcomes) → kept.outcome < length (outcomes ++ added) → IsFirstIn left kept.destination.0 → IsWithout left less kept.destination.0 → IsListed n x s kept.destination.0 (answer_from start (segments ++ more) (outcome_at (outcomes ++ added) kept.outcome) kept.cost) → AreListedBut n x s wanted less (entries (segments ++ more) (outcomes ++ added) (list ++ kept ∷ []) start) × AreKeptWithin (segments ++ more) (outcomes ++ added) (list ++ kept ∷ [])
+kept-push start n x s wanted left less segments more outcomes added list kept listed within lists few last below first taken answer =
+    let same : entries (segments ++ more) (outcomes ++ added) list start ≡ entries segments outcomes list start = entries-kept start segments more outcomes added list within.lists within.each in
+    let entry : NodeAnswer = entry_from start (segments ++ more) (outcomes ++ added) kept in
+    let joined : entries (segments ++ more) (outcomes ++ added) (list ++ kept ∷ []) start ≡ entries segments outcomes list start ++ entry ∷ [] = map-append (entry_from start (segments ++ more) (outcomes ++ added)) list (kept ∷ []) ∙ ap (λ l. l ++ entry ∷ []) same in
     let others : All (λ (o : Kept). o.outcome < length (outcomes ++ added)) list = All-weaker (λ (o : Kept). o.outcome < length outcomes) (λ (o : Kept). o.outcome < length (outcomes ++ added)) (λ (o : Kept) lt. omega (arith, length-append outcomes added)) list within.each in (
-      subst (λ l. AreListedBut n x s wanted less l) (sym joined) (listed-next n x s wanted left less (entries segments outcomes list) entry listed first taken answer),
+      subst (λ l. AreListedBut n x s wanted less l) (sym joined) (listed-next n x s wanted left less (entries segments outcomes list start) entry listed first taken answer),
       record {
         lists = lists;
         each = All-push (λ (o : Kept). o.outcome < length (outcomes ++ added)) list kept others below;
+        used = used-push outcomes added list kept within.used few last;
         few = omega (arith, within.few, length-append outcomes added, length-append list (kept ∷ []));
       },
     )

@@ -8,6 +8,7 @@ pub mod StopLemmas
 pub mod ServeLemmas
 pub mod OfferLemmas
 pub mod AnswerLemmas
+pub mod PlacedLemmas
 pub mod KeptHops
 pub mod CollectLemmas
 pub mod CodeLemmas

@@ -1,5 +1,5 @@
 -- Which answers a source's limit makes of what is listed.
-use Rattle.std.proofs.Common.{◌≡◌, ℕ, ◌+◌, ◌-◌, ◌<◌, ◌≤◌, ⊎_elim, Bool, false, List, [], ◌∷◌, length, drop, slice_range, refl, arith, ap, sym, ◌∙◌, subst, cond, Option, Some, None}
+use Rattle.std.proofs.Common.{◌≡◌, ℕ, ◌+◌, ◌-◌, ◌<◌, ◌≤◌, ⊎_elim, Bool, false, List, [], ◌∷◌, length, drop, slice_range, get_or, refl, arith, ap, sym, ◌∙◌, subst, cond, Option, Some, None}
 use Rattle.std.specs.Prelude.{All, count_by}
 use Rattle.std.proofs.lemmas.Bool.{cases_lt, le-ltb, lt-ltb}
 use Rattle.std.proofs.lemmas.List.{get_or-map, length-drop, length-map, length-take}
@@ -21,9 +21,10 @@ use Rattle.sr_encode.specs.declared.kept.Outcome.{Outcome}
 use Rattle.sr_encode.specs.declared.kept.Outcome.TheVariants.{Least as ListOutcome, NoPath as NoPathOutcome, NoList as NoListOutcome}
 use Rattle.sr_encode.specs.Answered.{AreAnswers, AreLists, NoAnswer, answer_at, destination_at, node_answer_at}
 use Rattle.sr_encode.specs.Codes.{AreCodes, without_cost}
-use Rattle.sr_encode.specs.Kept.{HasSegments, answer_from, entries, entry_from, outcome_at}
+use Rattle.sr_encode.specs.Kept.{AreKeptWithin, HasSegments, answer_from, entries, entry_from, outcome_at}
 use Rattle.sr_encode.specs.Limited.{AreLetThrough, IsLetThrough, limit_at, limit_of, limited, limited_entries, limited_entry}
 use Rattle.sr_encode.proofs.AnswerLemmas.{no_entry}
+use Rattle.sr_encode.proofs.PlacedLemmas.{outcomes-as}
 
 -- a list that has fewer segments than the limit is let through, and no other
 fits-below : (most : Option ℕ) (depth k : ℕ) → k < limit_of most depth → FitsDepth most depth k
@@ -126,34 +127,55 @@ range-long : (segments : List Segment) (begin end : ℕ) → begin ≤ end → e
 range-long segments begin end up within = omega (arith, up, within, length-take (end - begin) (drop begin segments), length-drop begin segments)
 
 -- where all lists are let through, the answers are what is listed
-module _ (limit : ℕ) (segments : List Segment) (outcomes : List Outcome) where
-  answer-let_through : (o : Outcome) (cost : ℕ) → HasSegments segments o → IsLetThrough limit o → limited limit (answer_from segments o cost) ≡ answer_from segments o cost
+module _ (start limit : ℕ) (segments : List Segment) (outcomes : List Outcome) where
+  answer-let_through : (o : Outcome) (cost : ℕ) → HasSegments segments o → IsLetThrough limit o → limited limit (answer_from start segments o cost) ≡ answer_from start segments o cost
   answer-let_through NoPathOutcome cost has through = refl
   answer-let_through NoListOutcome cost has through = refl
-  answer-let_through (ListOutcome first begin end) cost has through =
-      limited-below limit (record { first = first; segments = slice_range segments begin end; cost = cost }) (omega (arith, has.0, has.1, through, range-long segments begin end has.0 has.1))
+  answer-let_through (ListOutcome place begin end) cost has through =
+      limited-below limit (record { first = record { 0 = start + place }; segments = slice_range segments begin end; cost = cost }) (omega (arith, has.0, has.1, through, range-long segments begin end has.0 has.1))
 
-  entry-let_through : (k : Kept) → All (HasSegments segments) outcomes → AreLetThrough limit outcomes → k.outcome < length outcomes → limited_entry limit (entry_from segments outcomes k) ≡ entry_from segments outcomes k
+  entry-let_through : (k : Kept) → All (HasSegments segments) outcomes → AreLetThrough limit outcomes → k.outcome < length outcomes → limited_entry limit (entry_from start segments outcomes k) ≡ entry_from start segments outcomes k
   entry-let_through k has through lt =
       ap (λ (a : Answer). record { destination = k.destination; answer = a })
       (answer-let_through (outcome_at outcomes k.outcome) k.cost (has k.outcome NoPathOutcome lt) (through k.outcome lt))
 
-  pub entries-let_through : (kept : List Kept) → All (HasSegments segments) outcomes → AreLetThrough limit outcomes → All (λ (k : Kept). k.outcome < length outcomes) kept → limited_entries limit (entries segments outcomes kept) ≡ entries segments outcomes kept
+  pub entries-let_through : (kept : List Kept) → All (HasSegments segments) outcomes → AreLetThrough limit outcomes → All (λ (k : Kept). k.outcome < length outcomes) kept → limited_entries limit (entries segments outcomes kept start) ≡ entries segments outcomes kept start
   entries-let_through [] has through each = refl
   entries-let_through (k ∷ ks) has through each =
       rw (entry-let_through k has through (All-head (λ (k : Kept). k.outcome < length outcomes) k ks each), entries-let_through ks has through (All-tail (λ (k : Kept). k.outcome < length outcomes) k ks each)) refl
 
+-- and where the answers are what is listed, all lists are let through
+pub answer-below : (limit : ℕ) (list : RepairList) → limited limit (Least list) ≡ Least list → length list.segments < limit
+answer-below limit list same =
+    ⊎_elim
+    (λ (lt : length list.segments < limit). lt)
+    (λ (le : limit ≤ length list.segments). absurd (let bad : TooDeep (length list.segments) ≡ Least list = sym (limited-above limit list le) ∙ same in cc bad))
+    (cases_lt (length list.segments) limit)
+
+module _ (start limit : ℕ) (segments : List Segment) (outcomes : List Outcome) (kept : List Kept) (within : AreKeptWithin segments outcomes kept) where
+  each-same : limited_entries limit (entries segments outcomes kept start) ≡ entries segments outcomes kept start → All (λ (e : NodeAnswer). limited limit e.answer ≡ e.answer) (entries segments outcomes kept start)
+  each-same same i d lt =
+      ap (λ (e : NodeAnswer). e.answer)
+      (sym (get_or-map (limited_entry limit) (entries segments outcomes kept start) i d d lt) ∙ ap (λ list. get_or list i d) same)
+
+  pub let_through-back : limited_entries limit (entries segments outcomes kept start) ≡ entries segments outcomes kept start → AreLetThrough limit outcomes
+  let_through-back same =
+      let all = outcomes-as start segments outcomes kept within (IsLetThrough limit) (λ (a : Answer). limited limit a ≡ a) tt tt (λ place begin end cost has q.
+      let below : length (slice_range segments begin end) < limit = answer-below limit (record { first = record { 0 = start + place }; segments = slice_range segments begin end; cost = cost }) q in
+      omega (arith, below, has.0, has.1, range-long segments begin end has.0 has.1)) (each-same same) in
+      λ r lt. all r NoPathOutcome lt
+
 -- nothing that is listed is too deep
-pub none-deep : (segments : List Segment) (outcomes : List Outcome) (kept : List Kept) → count_by (λ (e : NodeAnswer). is_too_deep e.answer) (entries segments outcomes kept) ≡ 0
-none-deep segments outcomes [] = refl
-none-deep segments outcomes (k ∷ ks) =
-    sum_by-cons (λ (e : NodeAnswer). cond (is_too_deep e.answer) 1 0) (entry_from segments outcomes k) (entries segments outcomes ks)
-    ∙ omega (arith, ap {B = ℕ} (λ (b : Bool). cond b 1 0) (flat (outcome_at outcomes k.outcome)), none-deep segments outcomes ks)
+pub none-deep : (start : ℕ) (segments : List Segment) (outcomes : List Outcome) (kept : List Kept) → count_by (λ (e : NodeAnswer). is_too_deep e.answer) (entries segments outcomes kept start) ≡ 0
+none-deep start segments outcomes [] = refl
+none-deep start segments outcomes (k ∷ ks) =
+    sum_by-cons (λ (e : NodeAnswer). cond (is_too_deep e.answer) 1 0) (entry_from start segments outcomes k) (entries segments outcomes ks start)
+    ∙ omega (arith, ap {B = ℕ} (λ (b : Bool). cond b 1 0) (flat (outcome_at outcomes k.outcome)), none-deep start segments outcomes ks)
   where
-    flat : (o : Outcome) → is_too_deep (answer_from segments o k.cost) ≡ false
+    flat : (o : Outcome) → is_too_deep (answer_from start segments o k.cost) ≡ false
     flat NoPathOutcome = refl
     flat NoListOutcome = refl
-    flat (ListOutcome first begin end) = refl
+    flat (ListOutcome place begin end) = refl
 
 -- how many answers are of a sort, where an answer and what is listed for it are of it alike
 count-same : (limit : ℕ) (test : Answer → Bool) → ((a : Answer) → test (limited limit a) ≡ test a) → (list : List NodeAnswer) → count_by (λ (e : NodeAnswer). test e.answer) (limited_entries limit list) ≡ count_by (λ (e : NodeAnswer). test e.answer) list

@@ -1,5 +1,5 @@
 -- Answers that are kept with renumbered links are the renumbered answers.
-use Rattle.std.proofs.Common.{◌≡◌, ℕ, ◌<◌, ◌≤◌, ◌-◌, List, [], ◌∷◌, map, length, take, drop, slice_range, refl, arith, ap, sym, ◌∙◌, subst, cond, Option}
+use Rattle.std.proofs.Common.{◌≡◌, ℕ, ◌+◌, ◌<◌, ◌≤◌, ◌-◌, List, [], ◌∷◌, map, length, take, drop, slice_range, refl, arith, ap, sym, ◌∙◌, subst, cond, Option}
 use Rattle.std.specs.Prelude.{All, Bool, count_by}
 use Rattle.std.proofs.lemmas.List.{get_or-map, length-map, drop-map, take-map}
 use Rattle.std.proofs.lemmas.List.Elements.{All-map, All-weaker, All-head, All-tail}
@@ -7,7 +7,7 @@ use Rattle.std.proofs.lemmas.List.Sums.{sum_by-cons}
 use Rattle.sr_model.specs.declared.link.LinkNo.{LinkNo}
 use Rattle.sr_model.specs.declared.repair.Segment.{Segment}
 use Rattle.sr_model.specs.declared.repair.Answer.{Answer}
-use Rattle.sr_model.specs.declared.repair.Answer.TheVariants.{Least, NoPath, NoList, TooDeep}
+use Rattle.sr_model.specs.declared.repair.Answer.TheVariants.{Least}
 use Rattle.sr_model.specs.declared.audit.Counts.{Counts}
 use Rattle.sr_model.specs.Audit.{is_least, is_no_path, is_no_list, is_too_deep}
 use Rattle.sr_encode.specs.declared.answers.NodeAnswer.{NodeAnswer}
@@ -15,107 +15,152 @@ use Rattle.sr_encode.specs.declared.kept.Kept.{Kept}
 use Rattle.sr_encode.specs.declared.kept.Outcome.{Outcome}
 use Rattle.sr_encode.specs.declared.kept.Outcome.TheVariants.{Least as ListOutcome, NoPath as NoPathOutcome, NoList as NoListOutcome}
 use Rattle.sr_spf.specs.Renewed.{moved_link}
-use Rattle.sr_encode.specs.Answered.{AscendByNode, counts_in, destination_at}
-use Rattle.sr_encode.specs.Kept.{AreKeptWithin, HasSegments, answer_from, entries, entry_from, outcome_at}
-use Rattle.sr_encode.proofs.AnswerLemmas.{no_entry}
-use Rattle.sr_encode.specs.Renumbered.{moved_segment, moved_answer, moved_entry, moved_outcome}
+use Rattle.sr_encode.specs.declared.renumbered.Renumbering.{Renumbering}
+use Rattle.sr_encode.specs.Answered.{AscendByNode, counts_in}
+use Rattle.sr_encode.specs.Kept.{AreKeptWithin, HasSegments, IsListOutcome, answer_from, entries, entry_from, outcome_at}
+use Rattle.sr_encode.specs.Placed.{HasNumber, HaveNumbers, StandFrom, StandsFrom}
+use Rattle.sr_encode.specs.Renumbered.{moved_segment, moved_answer, moved_entry, moved_entries, moved_first, moved_outcome, CanMove, HasPlace, KeepsPlace}
+use Rattle.sr_encode.proofs.PlacedLemmas.{ascend-kept, outcomes-as}
 
-module _ (links : List (Option LinkNo)) (segments : List Segment) (outcomes : List Outcome) where
+module _ (r : Renumbering) (segments : List Segment) (outcomes : List Outcome) where
+  abbrev links : List (Option LinkNo)
+  links = r.links.now
+
   range-moved : (a b : ℕ) → slice_range (map (moved_segment links) segments) a b ≡ map (moved_segment links) (slice_range segments a b)
   range-moved a b = ap (λ l. take (b - a) l) (drop-map (moved_segment links) a segments) ∙ take-map (moved_segment links) (b - a) (drop a segments)
 
-  answer-moved : (o : Outcome) (cost : ℕ) → answer_from (map (moved_segment links) segments) (moved_outcome links o) cost ≡ moved_answer links (answer_from segments o cost)
-  answer-moved NoPathOutcome cost = refl
-  answer-moved NoListOutcome cost = refl
-  answer-moved (ListOutcome first begin end) cost = ap (λ (l : List Segment). Least (record { first = moved_link links first; segments = l; cost = cost })) (range-moved begin end)
+  answer-moved : (o : Outcome) (cost : ℕ) → CanMove r o → answer_from r.after (map (moved_segment links) segments) (moved_outcome r o) cost ≡ moved_answer links (answer_from r.before segments o cost)
+  answer-moved NoPathOutcome cost can = refl
+  answer-moved NoListOutcome cost can = refl
+  answer-moved (ListOutcome place begin end) cost can =
+      let first : r.after + (moved_first r place - r.after) ≡ moved_first r place = omega (arith, can.1) in
+      ap (λ (k : ℕ). Least (record { first = record { 0 = k }; segments = slice_range (map (moved_segment links) segments) begin end; cost = cost })) first
+      ∙ ap (λ (l : List Segment). Least (record { first = moved_link links (record { 0 = r.before + place }); segments = l; cost = cost })) (range-moved begin end)
 
-  outcome-moved : (r : ℕ) → r < length outcomes → outcome_at (map (moved_outcome links) outcomes) r ≡ moved_outcome links (outcome_at outcomes r)
-  outcome-moved r lt = get_or-map (moved_outcome links) outcomes r NoPathOutcome NoPathOutcome lt
+  outcome-moved : (k : ℕ) → k < length outcomes → outcome_at (map (moved_outcome r) outcomes) k ≡ moved_outcome r (outcome_at outcomes k)
+  outcome-moved k lt = get_or-map (moved_outcome r) outcomes k NoPathOutcome NoPathOutcome lt
 
-  entry-moved : (k : Kept) → k.outcome < length outcomes → entry_from (map (moved_segment links) segments) (map (moved_outcome links) outcomes) k ≡ moved_entry links (entry_from segments outcomes k)
-  entry-moved k lt =
+  entry-moved : (k : Kept) → All (CanMove r) outcomes → k.outcome < length outcomes → entry_from r.after (map (moved_segment links) segments) (map (moved_outcome r) outcomes) k ≡ moved_entry links (entry_from r.before segments outcomes k)
+  entry-moved k can lt =
       ap (λ (a : Answer). record { destination = k.destination; answer = a })
-      (ap (λ o. answer_from (map (moved_segment links) segments) o k.cost) (outcome-moved k.outcome lt) ∙ answer-moved (outcome_at outcomes k.outcome) k.cost)
+      (ap (λ o. answer_from r.after (map (moved_segment links) segments) o k.cost) (outcome-moved k.outcome lt) ∙ answer-moved (outcome_at outcomes k.outcome) k.cost (can k.outcome NoPathOutcome lt))
 
-  pub entries-moved : (kept : List Kept) → All (λ (k : Kept). k.outcome < length outcomes) kept → entries (map (moved_segment links) segments) (map (moved_outcome links) outcomes) kept ≡ map (moved_entry links) (entries segments outcomes kept)
-  entries-moved [] each = refl
-  entries-moved (k ∷ kept) each = rw (entry-moved k (All-head (λ (k : Kept). k.outcome < length outcomes) k kept each), entries-moved kept (All-tail (λ (k : Kept). k.outcome < length outcomes) k kept each)) refl
+  pub entries-moved : (kept : List Kept) → All (CanMove r) outcomes → All (λ (k : Kept). k.outcome < length outcomes) kept → entries (map (moved_segment links) segments) (map (moved_outcome r) outcomes) kept r.after ≡ moved_entries links (entries segments outcomes kept r.before)
+  entries-moved [] can each = refl
+  entries-moved (k ∷ kept) can each = rw (entry-moved k can (All-head (λ (k : Kept). k.outcome < length outcomes) k kept each), entries-moved kept can (All-tail (λ (k : Kept). k.outcome < length outcomes) k kept each)) refl
 
-  segments-within : (o : Outcome) → HasSegments segments o → HasSegments (map (moved_segment links) segments) (moved_outcome links o)
+  segments-within : (o : Outcome) → HasSegments segments o → HasSegments (map (moved_segment links) segments) (moved_outcome r o)
   segments-within NoPathOutcome within = within
   segments-within NoListOutcome within = within
-  segments-within (ListOutcome first begin end) within = (within.0, omega (arith, within.1, length-map segments (moved_segment links)))
+  segments-within (ListOutcome place begin end) within = (within.0, omega (arith, within.1, length-map segments (moved_segment links)))
 
-  moved-within : (kept : List Kept) → AreKeptWithin segments outcomes kept → AreKeptWithin (map (moved_segment links) segments) (map (moved_outcome links) outcomes) kept
-  moved-within kept r =
-      let long : length (map (moved_outcome links) outcomes) ≡ length outcomes = length-map outcomes (moved_outcome links) in
+  list-before : (o : Outcome) → IsListOutcome (moved_outcome r o) → IsListOutcome o
+  list-before NoPathOutcome is = is
+  list-before NoListOutcome is = is
+  list-before (ListOutcome place begin end) is = is
+
+  pub moved-within : (kept : List Kept) → AreKeptWithin segments outcomes kept → AreKeptWithin (map (moved_segment links) segments) (map (moved_outcome r) outcomes) kept
+  moved-within kept w =
+      let long : length (map (moved_outcome r) outcomes) ≡ length outcomes = length-map outcomes (moved_outcome r) in
       record {
-        lists = All-map (HasSegments (map (moved_segment links) segments)) (moved_outcome links) outcomes (All-weaker (HasSegments segments) (λ o. HasSegments (map (moved_segment links) segments) (moved_outcome links o)) segments-within outcomes r.lists);
-        each = All-weaker (λ (k : Kept). k.outcome < length outcomes) (λ (k : Kept). k.outcome < length (map (moved_outcome links) outcomes)) (λ k lt. omega (arith, lt, long)) kept r.each;
-        few = omega (arith, r.few, long);
+        lists = All-map (HasSegments (map (moved_segment links) segments)) (moved_outcome r) outcomes (All-weaker (HasSegments segments) (λ o. HasSegments (map (moved_segment links) segments) (moved_outcome r o)) segments-within outcomes w.lists);
+        each = All-weaker (λ (k : Kept). k.outcome < length outcomes) (λ (k : Kept). k.outcome < length (map (moved_outcome r) outcomes)) (λ k lt. omega (arith, lt, long)) kept w.each;
+        used = λ k lt is. w.used k (omega (arith, lt, long)) (list-before (outcome_at outcomes k) (subst (λ (o : Outcome). IsListOutcome o) (outcome-moved k (omega (arith, lt, long))) is));
+        few = omega (arith, w.few, long);
       }
 
+  -- where first links keep their places and segments their links, all is as it was
+  answer-keeps : (o : Outcome) (cost : ℕ) → map (moved_segment links) segments ≡ segments → KeepsPlace r o → answer_from r.after segments o cost ≡ moved_answer links (answer_from r.before segments o cost)
+  answer-keeps NoPathOutcome cost same keeps = refl
+  answer-keeps NoListOutcome cost same keeps = refl
+  answer-keeps (ListOutcome place begin end) cost same keeps =
+      ap (λ (k : ℕ). Least (record { first = record { 0 = k }; segments = slice_range segments begin end; cost = cost })) (sym keeps)
+      ∙ ap (λ (l : List Segment). Least (record { first = moved_link links (record { 0 = r.before + place }); segments = l; cost = cost })) (ap (λ (l : List Segment). slice_range l begin end) (sym same) ∙ range-moved begin end)
+
+  entry-keeps : (k : Kept) → map (moved_segment links) segments ≡ segments → All (KeepsPlace r) outcomes → k.outcome < length outcomes → entry_from r.after segments outcomes k ≡ moved_entry links (entry_from r.before segments outcomes k)
+  entry-keeps k same keep lt =
+      ap (λ (a : Answer). record { destination = k.destination; answer = a })
+      (answer-keeps (outcome_at outcomes k.outcome) k.cost same (keep k.outcome NoPathOutcome lt))
+
+  pub entries-keep : (kept : List Kept) → map (moved_segment links) segments ≡ segments → All (KeepsPlace r) outcomes → All (λ (k : Kept). k.outcome < length outcomes) kept → entries segments outcomes kept r.after ≡ moved_entries links (entries segments outcomes kept r.before)
+  entries-keep [] same keep each = refl
+  entries-keep (k ∷ kept) same keep each = rw (entry-keeps k same keep (All-head (λ (k : Kept). k.outcome < length outcomes) k kept each), entries-keep kept same keep (All-tail (λ (k : Kept). k.outcome < length outcomes) k kept each)) refl
+
+-- segments that each stay are the same
+pub segments-same : (links : List (Option LinkNo)) (segments : List Segment) → All (λ (s : Segment). moved_segment links s ≡ s) segments → map (moved_segment links) segments ≡ segments
+segments-same links [] all = refl
+segments-same links (s ∷ segments) all = rw (All-head (λ (s : Segment). moved_segment links s ≡ s) s segments all, segments-same links segments (All-tail (λ (s : Segment). moved_segment links s ≡ s) s segments all)) refl
+
 -- how many answers are of a sort that doesn't depend on links
-count-moved : (links : List (Option LinkNo)) (test : Answer → Bool) → ((a : Answer) → test (moved_answer links a) ≡ test a) → (list : List NodeAnswer) → count_by (λ (e : NodeAnswer). test e.answer) (map (moved_entry links) list) ≡ count_by (λ (e : NodeAnswer). test e.answer) list
-count-moved links test same [] = refl
-count-moved links test same (e ∷ list) =
-    sum_by-cons (λ (x : NodeAnswer). cond (test x.answer) 1 0) (moved_entry links e) (map (moved_entry links) list)
-    ∙ omega (arith, ap {B = ℕ} (λ (b : Bool). cond b 1 0) (same e.answer), count-moved links test same list)
-    ∙ sym (sum_by-cons (λ (x : NodeAnswer). cond (test x.answer) 1 0) e list)
+count-moved : (r : Renumbering) (a b : ℕ) (s s' : List Segment) (outcomes : List Outcome) (test : Answer → Bool) → ((o : Outcome) (cost : ℕ) → test (answer_from b s' (moved_outcome r o) cost) ≡ test (answer_from a s o cost)) → (kept : List Kept) → All (λ (k : Kept). k.outcome < length outcomes) kept → count_by (λ (e : NodeAnswer). test e.answer) (entries s' (map (moved_outcome r) outcomes) kept b) ≡ count_by (λ (e : NodeAnswer). test e.answer) (entries s outcomes kept a)
+count-moved r a b s s' outcomes test same [] each = refl
+count-moved r a b s s' outcomes test same (k ∷ kept) each =
+    let here : outcome_at (map (moved_outcome r) outcomes) k.outcome ≡ moved_outcome r (outcome_at outcomes k.outcome) = get_or-map (moved_outcome r) outcomes k.outcome NoPathOutcome NoPathOutcome (All-head (λ (k : Kept). k.outcome < length outcomes) k kept each) in
+    let test_same : test (answer_from b s' (outcome_at (map (moved_outcome r) outcomes) k.outcome) k.cost) ≡ test (answer_from a s (outcome_at outcomes k.outcome) k.cost) = ap (λ o. test (answer_from b s' o k.cost)) here ∙ same (outcome_at outcomes k.outcome) k.cost in
+    sum_by-cons (λ (x : NodeAnswer). cond (test x.answer) 1 0) (entry_from b s' (map (moved_outcome r) outcomes) k) (entries s' (map (moved_outcome r) outcomes) kept b)
+    ∙ omega (arith, ap {B = ℕ} (λ (t : Bool). cond t 1 0) test_same, count-moved r a b s s' outcomes test same kept (All-tail (λ (k : Kept). k.outcome < length outcomes) k kept each))
+    ∙ sym (sum_by-cons (λ (x : NodeAnswer). cond (test x.answer) 1 0) (entry_from a s outcomes k) (entries s outcomes kept a))
 
-least-moved : (links : List (Option LinkNo)) (a : Answer) → is_least (moved_answer links a) ≡ is_least a
-least-moved links (Least list) = refl
-least-moved links NoPath = refl
-least-moved links NoList = refl
-least-moved links (TooDeep needed) = refl
+module _ (r : Renumbering) (a b : ℕ) (s s' : List Segment) where
+  least-moved : (o : Outcome) (cost : ℕ) → is_least (answer_from b s' (moved_outcome r o) cost) ≡ is_least (answer_from a s o cost)
+  least-moved NoPathOutcome cost = refl
+  least-moved NoListOutcome cost = refl
+  least-moved (ListOutcome place begin end) cost = refl
 
-path-moved : (links : List (Option LinkNo)) (a : Answer) → is_no_path (moved_answer links a) ≡ is_no_path a
-path-moved links (Least list) = refl
-path-moved links NoPath = refl
-path-moved links NoList = refl
-path-moved links (TooDeep needed) = refl
+  path-moved : (o : Outcome) (cost : ℕ) → is_no_path (answer_from b s' (moved_outcome r o) cost) ≡ is_no_path (answer_from a s o cost)
+  path-moved NoPathOutcome cost = refl
+  path-moved NoListOutcome cost = refl
+  path-moved (ListOutcome place begin end) cost = refl
 
-list-moved : (links : List (Option LinkNo)) (a : Answer) → is_no_list (moved_answer links a) ≡ is_no_list a
-list-moved links (Least list) = refl
-list-moved links NoPath = refl
-list-moved links NoList = refl
-list-moved links (TooDeep needed) = refl
+  list-moved : (o : Outcome) (cost : ℕ) → is_no_list (answer_from b s' (moved_outcome r o) cost) ≡ is_no_list (answer_from a s o cost)
+  list-moved NoPathOutcome cost = refl
+  list-moved NoListOutcome cost = refl
+  list-moved (ListOutcome place begin end) cost = refl
 
-deep-moved : (links : List (Option LinkNo)) (a : Answer) → is_too_deep (moved_answer links a) ≡ is_too_deep a
-deep-moved links (Least list) = refl
-deep-moved links NoPath = refl
-deep-moved links NoList = refl
-deep-moved links (TooDeep needed) = refl
+  deep-moved : (o : Outcome) (cost : ℕ) → is_too_deep (answer_from b s' (moved_outcome r o) cost) ≡ is_too_deep (answer_from a s o cost)
+  deep-moved NoPathOutcome cost = refl
+  deep-moved NoListOutcome cost = refl
+  deep-moved (ListOutcome place begin end) cost = refl
 
-counts-moved : (links : List (Option LinkNo)) (list : List NodeAnswer) → counts_in (map (moved_entry links) list) ≡ counts_in list
-counts-moved links list =
-    rw (count-moved links is_least (least-moved links) list, count-moved links is_no_path (path-moved links) list, count-moved links is_no_list (list-moved links) list, count-moved links is_too_deep (deep-moved links) list)
-    refl
+  counts-moved : (outcomes : List Outcome) (kept : List Kept) → All (λ (k : Kept). k.outcome < length outcomes) kept → counts_in (entries s' (map (moved_outcome r) outcomes) kept b) ≡ counts_in (entries s outcomes kept a)
+  counts-moved outcomes kept each =
+      rw (count-moved r a b s s' outcomes is_least least-moved kept each, count-moved r a b s s' outcomes is_no_path path-moved kept each, count-moved r a b s s' outcomes is_no_list list-moved kept each, count-moved r a b s s' outcomes is_too_deep deep-moved kept each)
+      refl
 
-ascend-moved : (links : List (Option LinkNo)) (list : List NodeAnswer) → AscendByNode list → AscendByNode (map (moved_entry links) list)
-ascend-moved links list up i j lt end =
-    let long : length (map (moved_entry links) list) ≡ length list = length-map list (moved_entry links) in
-    let there : destination_at list i < destination_at list j = up i j lt (omega (arith, long)) in
-    let first : destination_at (map (moved_entry links) list) i ≡ destination_at list i = ap (λ (e : NodeAnswer). e.destination.0) (get_or-map (moved_entry links) list i no_entry no_entry (omega (arith, long))) in
-    let second : destination_at (map (moved_entry links) list) j ≡ destination_at list j = ap (λ (e : NodeAnswer). e.destination.0) (get_or-map (moved_entry links) list j no_entry no_entry (omega (arith, long))) in
-    omega (arith, there, first, second)
+-- what can be moved: what is told of the answers is told of the outcomes
+stand-moved : (links : List (Option LinkNo)) (after : ℕ) (list : List NodeAnswer) → HaveNumbers list → StandFrom after (moved_entries links list) → All (λ (e : NodeAnswer). HasNumber e.answer × StandsFrom after (moved_answer links e.answer)) list
+stand-moved links after list numbers stand i d lt = (
+  numbers i d lt,
+  subst (λ (e : NodeAnswer). StandsFrom after e.answer) (get_or-map (moved_entry links) list i d (moved_entry links d) lt) (stand i (moved_entry links d) (omega (arith, lt, length-map list (moved_entry links)))),
+)
+
+module _ (r : Renumbering) (segments : List Segment) (outcomes : List Outcome) (kept : List Kept) (within : AreKeptWithin segments outcomes kept) (numbers : HaveNumbers (entries segments outcomes kept r.before)) where
+  pub can-move : StandFrom r.after (moved_entries r.links.now (entries segments outcomes kept r.before)) → All (CanMove r) outcomes
+  can-move stand = outcomes-as r.before segments outcomes kept within (CanMove r) (λ (a : Answer). HasNumber a × StandsFrom r.after (moved_answer r.links.now a)) tt tt (λ place begin end cost has q. q) (stand-moved r.links.now r.after (entries segments outcomes kept r.before) numbers stand)
+
+  pub have-places : All (HasPlace r.before) outcomes
+  have-places = outcomes-as r.before segments outcomes kept within (HasPlace r.before) HasNumber tt tt (λ place begin end cost has q. q) numbers
 
 -- kept answers whose links are renumbered are the renumbered answers
-pub entries-as : (links : List (Option LinkNo)) (s s' : List Segment) (o o' : List Outcome) (k k' : List Kept) → AreKeptWithin s o k → s' ≡ map (moved_segment links) s → o' ≡ map (moved_outcome links) o → k' ≡ k → entries s' o' k' ≡ map (moved_entry links) (entries s o k)
-entries-as links s s' o o' k k' r segments outcomes kept =
-    ap (λ x. entries x o' k') segments
-    ∙ ap (λ x. entries (map (moved_segment links) s) x k') outcomes
-    ∙ ap (λ x. entries (map (moved_segment links) s) (map (moved_outcome links) o) x) kept
-    ∙ entries-moved links s o k r.each
+pub entries-as : (r : Renumbering) (s s' : List Segment) (o o' : List Outcome) (k k' : List Kept) → AreKeptWithin s o k → All (CanMove r) o → s' ≡ map (moved_segment r.links.now) s → o' ≡ map (moved_outcome r) o → k' ≡ k → entries s' o' k' r.after ≡ moved_entries r.links.now (entries s o k r.before)
+entries-as r s s' o o' k k' within can segments outcomes kept =
+    ap (λ x. entries x o' k' r.after) segments
+    ∙ ap (λ x. entries (map (moved_segment r.links.now) s) x k' r.after) outcomes
+    ∙ ap (λ x. entries (map (moved_segment r.links.now) s) (map (moved_outcome r) o) x r.after) kept
+    ∙ entries-moved r s o k can within.each
 
 -- and what is true of kept answers stays so
-pub kept-as : (links : List (Option LinkNo)) (s s' : List Segment) (o o' : List Outcome) (k k' : List Kept) (counts : Counts) → AreKeptWithin s o k → AscendByNode (entries s o k) → counts ≡ counts_in (entries s o k) → length k ≤ 256 → s' ≡ map (moved_segment links) s → o' ≡ map (moved_outcome links) o → k' ≡ k → AreKeptWithin s' o' k' × AscendByNode (entries s' o' k') × (counts ≡ counts_in (entries s' o' k')) × (length k' ≤ 256)
-kept-as links s s' o o' k k' counts r up are few segments outcomes kept =
-    let same = entries-as links s s' o o' k k' r segments outcomes kept in (
-      subst (λ x. AreKeptWithin x o' k') (sym segments)
-          (subst (λ x. AreKeptWithin (map (moved_segment links) s) x k') (sym outcomes)
-          (subst (λ x. AreKeptWithin (map (moved_segment links) s) (map (moved_outcome links) o) x) (sym kept) (moved-within links s o k r))),
-      subst (λ list. AscendByNode list) (sym same) (ascend-moved links (entries s o k) up),
-      are ∙ sym (ap counts_in same ∙ counts-moved links (entries s o k)),
-      omega (arith, few, ap length kept),
-    )
+pub kept-as : (r : Renumbering) (s s' : List Segment) (o o' : List Outcome) (k k' : List Kept) (counts : Counts) → AreKeptWithin s o k → ((start : ℕ) → AscendByNode (entries s o k start)) → ((start : ℕ) → counts ≡ counts_in (entries s o k start)) → length k ≤ 256 → s' ≡ map (moved_segment r.links.now) s → o' ≡ map (moved_outcome r) o → k' ≡ k
+    → AreKeptWithin s' o' k' × ((start : ℕ) → AscendByNode (entries s' o' k' start)) × ((start : ℕ) → counts ≡ counts_in (entries s' o' k' start)) × (length k' ≤ 256)
+kept-as r s s' o o' k k' counts within up are few segments outcomes kept = (
+  subst (λ x. AreKeptWithin x o' k') (sym segments)
+      (subst (λ x. AreKeptWithin (map (moved_segment r.links.now) s) x k') (sym outcomes)
+      (subst (λ x. AreKeptWithin (map (moved_segment r.links.now) s) (map (moved_outcome r) o) x) (sym kept) (moved-within r s o k within))),
+  λ start. subst (λ x. AscendByNode (entries s' o' x start)) (sym kept) (ascend-kept start start s s' o o' k (up start)),
+  λ start.
+      are start
+      ∙ sym (counts-moved r start start s s' o k within.each)
+      ∙ ap (λ x. counts_in (entries s' x k start)) (sym outcomes)
+      ∙ ap (λ x. counts_in (entries s' o' x start)) (sym kept),
+  omega (arith, few, ap length kept),
+)

@@ -1,5 +1,5 @@
 -- How the outcomes of a search are collected, each once.
-use Rattle.std.specs.Prelude.{◌≡◌, ℕ, ◌*◌, ◌^◌, ◌<◌, ◌≤◌, List, ◌++◌, length, Option, Some, None, slice_index_or, slice_range, All}
+use Rattle.std.specs.Prelude.{◌≡◌, ℕ, ◌+◌, ◌*◌, ◌^◌, ◌<◌, ◌≤◌, List, ◌++◌, length, Option, Some, None, slice_index_or, slice_range, All}
 use Rattle.sr_model.specs.declared.link.TheConstants.{FAR}
 use Rattle.sr_model.specs.declared.repair.Segment.{Segment}
 use Rattle.sr_encode.specs.declared.collected.Collected.{Collected}
@@ -8,7 +8,7 @@ use Rattle.sr_encode.specs.declared.kept.Outcome.TheVariants.{Least, NoPath, NoL
 use Rattle.sr_encode.specs.declared.kept.TheConstants.{NO_PATH, NO_LIST}
 use Rattle.sr_encode.specs.declared.waypoint.Waypoint.{Waypoint}
 use Rattle.sr_encode.specs.Kept.{outcome_at, HasSegments}
-use Rattle.sr_encode.specs.Waypoints.{path_to, AreParents}
+use Rattle.sr_encode.specs.Waypoints.{path_to, waypoint_at, AreParents}
 
 -- a search has at most this many outcomes, since it has at most two more than there are nodes (this project's rule)
 abbrev pub most_outcomes : ℕ
@@ -18,12 +18,12 @@ most_outcomes = 300
 abbrev pub most_segments : ℕ
 most_segments = 2 ^ 16
 
--- the outcome is the list to the waypoint at place k
+-- the outcome is the list to the waypoint at place k, its first link told by its place behind link number `start`
 abbrev pub IsOutcomeOf : Collected → ℕ → Outcome → Type 0
 IsOutcomeOf g k NoPath = ⊥
 IsOutcomeOf g k NoList = ⊥
-IsOutcomeOf g k (Least first begin end) =
-    path_to g.queue.now k ≡ record { first = first.0; segments = slice_range g.segments.items begin end }
+IsOutcomeOf g k (Least place begin end) =
+    path_to g.queue.now k ≡ record { first = g.start + place; segments = slice_range g.segments.items begin end }
 
 -- the outcome at place r is that of the waypoint at this place, and else no path where the cost is FAR, or no list
 abbrev pub IsOutcomeFor : Collected → ℕ → Option ℕ → ℕ → Type 0
@@ -46,25 +46,33 @@ pub record IsCollected (g : Collected) : Type 0 where
 -- the segments of at most one list were put behind the others
 pub record HasMoreSegments (before after : Collected) : Type 0 where
   pub queue : after.queue.now ≡ before.queue.now
+  pub start : after.start ≡ before.start
   pub outcomes : after.outcomes.items ≡ before.outcomes.items
   pub known : after.known.items ≡ before.known.items
   pub more : List Segment
   pub segments : after.segments.items ≡ before.segments.items ++ more
   pub few : length more ≤ most_segments
 
--- an outcome stands at place r afterwards, and at most one came behind the others
+-- an outcome stands at place r afterwards, and at most that one came behind the others
 pub record Gains (before after : Collected) (r : ℕ) : Type 0 where
   pub collected : IsCollected after
   pub queue : after.queue.now ≡ before.queue.now
+  pub start : after.start ≡ before.start
   pub more : List Segment
   pub segments : after.segments.items ≡ before.segments.items ++ more
   pub added : List Outcome
   pub outcomes : after.outcomes.items ≡ before.outcomes.items ++ added
   pub few : length added ≤ 1
+  pub last : 0 < length added → r ≡ length before.outcomes.items
   pub within : r < length after.outcomes.items
 
+-- the first link of the list to the waypoint at place k doesn't stand before link number `start`
+abbrev pub BeginsFrom : ℕ → List Waypoint → ℕ → Type 0
+BeginsFrom start queue k = start ≤ (waypoint_at queue k).first.0
+
 -- no waypoint of the search has an outcome yet
-pub record IsStarted (waypoints : List Waypoint) (g : Collected) : Type 0 where
+pub record IsStarted (waypoints : List Waypoint) (first : ℕ) (g : Collected) : Type 0 where
   pub collected : IsCollected g
   pub queue : g.queue.now ≡ waypoints
+  pub start : g.start ≡ first
   pub few : length g.outcomes.items ≡ 2

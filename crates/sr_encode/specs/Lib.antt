@@ -4,6 +4,7 @@ pub mod Search
 pub mod Serve
 pub mod Answered
 pub mod Kept
+pub mod Placed
 pub mod Collected
 pub mod Repairs
 pub mod Codes

@@ -5,6 +5,7 @@ ghost use Rattle.sr_encode.specs.declared.answers.NodeAnswer.{NodeAnswer as Entr
 ghost use Rattle.sr_encode.specs.Answered.{HasAnswer, NoAnswer, answer_at, counts_in, node_answer_at};
 ghost use Rattle.sr_encode.specs.Codes.{AreCodes};
 ghost use Rattle.sr_encode.specs.Limited.{limited_entries};
+ghost use Rattle.sr_encode.specs.Placed.{listed_from, HaveNumbers};
 
 use crate::case_lists::CaseLists;
 use crate::codes::Codes;
@@ -23,6 +24,8 @@ pub struct NodeAnswer<'a> {
 #[derive(Debug, Drop)]
 pub struct CaseAnswers<'a> {
     lists: &'a CaseLists,
+    /// The number at which the links of the source begin.
+    start: u16,
     limit: u16,
 }
 
@@ -30,18 +33,27 @@ impl<'a> Model for CaseAnswers<'a> {
     ghost use Rattle.std.specs.Prelude.{List};
     ghost use Rattle.sr_encode.specs.declared.answers.NodeAnswer.{NodeAnswer as Entry};
     ghost use Rattle.sr_encode.specs.Limited.{limited_entries};
+    ghost use Rattle.sr_encode.specs.Placed.{listed_from, HaveNumbers};
 
     ghost Value = { List Entry };
 
-    ghost view = { λ a. limited_entries a.limit a.lists.now };
+    ghost view = { λ a. limited_entries a.limit (listed_from a.start a.lists.now) };
+
+    ghost invariant = { λ a. HaveNumbers (listed_from a.start a.lists.now) };
 }
 
 impl<'a> CaseAnswers<'a> {
-    /// The answers where these are listed, and lists of fewer segments than the limit are let through.
-    pub(crate) fn new(lists: &'a CaseLists, limit: u16) -> CaseAnswers<'a>
-        ensures { result ≡ limited_entries limit lists.now }
+    /// The answers where these are listed, the links of the source begin at this one, and lists of fewer segments than the
+    /// limit are let through.
+    pub(crate) fn new(lists: &'a CaseLists, start: u16, limit: u16) -> CaseAnswers<'a>
+        requires { HaveNumbers (listed_from start lists.now) }
+        ensures { result ≡ limited_entries limit (listed_from start lists.now) }
     {
-        CaseAnswers { lists, limit }
+        CaseAnswers {
+            lists,
+            start,
+            limit,
+        }
     }
 
     /// How many answers there are.
@@ -57,7 +69,7 @@ impl<'a> CaseAnswers<'a> {
         requires { place < length self.now }
         ensures { result ≡ node_answer_at self.now place }
     {
-        self.lists.limited_at(place, self.limit)
+        self.lists.limited_at(self.start, place, self.limit)
     }
 
     /// The codes of the answers, in their order. Two answers with one code differ at most in their costs.

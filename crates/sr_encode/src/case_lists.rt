@@ -1,30 +1,34 @@
 //! What is listed in a case, however deep.
-ghost use Rattle.std.specs.Prelude.{◌≡◌, ◌<◌, ◌≤◌, [], List, length, map, All, IfOk, IsTrue, MatchOption};
+ghost use Rattle.std.specs.Prelude.{◌≡◌, ◌↔◌, ◌<◌, ◌≤◌, ℕ, [], List, length, All, IfOk, IsTrue, MatchOption};
 ghost use Rattle.sr_model.specs.declared.repair.Segment.{Segment};
-ghost use Rattle.sr_model.specs.Case.{IsCase};
+ghost use Rattle.sr_model.specs.Case.{IsCase, IsAffected};
+ghost use Rattle.sr_laws.specs.Listed.{IsCaseListed};
 ghost use Rattle.sr_encode.specs.declared.answers.NodeAnswer.{NodeAnswer as Entry};
 ghost use Rattle.sr_encode.specs.declared.kept.Kept.{Kept};
-ghost use Rattle.sr_encode.specs.Answered.{AreAnswers, AreLists, AscendByNode, HasAnswer, NoAnswer, counts_in, destination_at, node_answer_at};
+ghost use Rattle.sr_encode.specs.Answered.{AreAnswers, AscendByNode, NoAnswer, answer_at, counts_in, destination_at, node_answer_at};
 ghost use Rattle.sr_encode.specs.Codes.{AreCodes};
 ghost use Rattle.sr_encode.specs.Kept.{AreKeptWithin, entries};
 ghost use Rattle.sr_encode.specs.Limited.{limited_entries, limited_entry};
-ghost use Rattle.sr_encode.specs.Renumbered.{moved_entry};
+ghost use Rattle.sr_encode.specs.Placed.{listed_from, ArePlacedLists, HasNumber, HaveNumbers, StandFrom};
+ghost use Rattle.sr_encode.specs.Renumbered.{moved_entries};
 
 use crate::answers::{CaseAnswers, NodeAnswer};
 use crate::codes::Codes;
 use crate::kept::{Kept, Outcome, limited_answer, listed_answer};
 use crate::limit::{are_let_through, limit_at};
-use crate::renumbered::{copied_answers, moved_outcomes, moved_segments};
+use crate::renumbered::{
+    Renumbering, copied_answers, keep_numbers, keep_places, moved_outcomes, moved_segments,
+};
 use sr_labels::Net;
-use sr_model::{Answer, Case, Counts, LinkNo, NodeNo, Segment};
+use sr_model::{Answer, Case, Counts, NodeNo, Segment};
 use std::alloc::{AllocError, Global};
 use std::marker::Model;
 
-/// For how many destinations there is a list, no path and no list, whatever the segments.
+/// For how many destinations there is a list, no path and no list, whatever the segments and the first links.
 fn counted(outcomes: &[Outcome], list: &[Kept]) -> Counts
     requires few { length list.now ≤ 256 }
     requires outcomes { All (λ (k : Kept). k.outcome < length outcomes.now) list.now }
-    ensures { (segments : List Segment) → result ≡ counts_in (entries segments outcomes.now list.now) }
+    ensures { (segments : List Segment) (start : ℕ) → result ≡ counts_in (entries segments outcomes.now list.now start) }
 {
     let mut counts = Counts {
         covered: 0,
@@ -44,7 +48,9 @@ fn counted(outcomes: &[Outcome], list: &[Kept]) -> Counts
 
 /// What is listed for the affected destinations of a case, in order of destination: the least list, however many segments
 /// it has, or why there is none. How deep a list may be is decided when an answer is read, so a change of that leaves what
-/// is listed. Contracts see it as a list of answers, none of them too deep.
+/// is listed. A first link is told by its place among the links of the source, so links that come and go elsewhere leave it
+/// too. Contracts see a listing, which is a list of answers, none of them too deep, once it is known at which number the
+/// links of the source begin.
 #[derive(Debug, Drop)]
 pub struct CaseLists {
     kept: Vec<Kept>,
@@ -57,18 +63,18 @@ pub struct CaseLists {
 }
 
 impl Model for CaseLists {
-    ghost use Rattle.std.specs.Prelude.{◌≡◌, ◌≤◌, List, length};
-    ghost use Rattle.sr_encode.specs.declared.answers.NodeAnswer.{NodeAnswer as Entry};
+    ghost use Rattle.std.specs.Prelude.{◌≡◌, ◌≤◌, ℕ, length};
     ghost use Rattle.sr_encode.specs.Answered.{AscendByNode, counts_in};
     ghost use Rattle.sr_encode.specs.Kept.{AreKeptWithin, entries};
+    ghost use Rattle.sr_encode.specs.Placed.{Listing};
 
-    ghost Value = { List Entry };
+    ghost Value = { Listing };
 
-    ghost view = { λ a. entries a.segments.items a.outcomes.items a.kept.items };
+    ghost view = { λ a. record { segments = a.segments.items; outcomes = a.outcomes.items; kept = a.kept.items } };
 
     ghost invariant = { λ a. AreKeptWithin a.segments.items a.outcomes.items a.kept.items
-        × AscendByNode (entries a.segments.items a.outcomes.items a.kept.items)
-        × (a.counts ≡ counts_in (entries a.segments.items a.outcomes.items a.kept.items))
+        × ((start : ℕ) → AscendByNode (entries a.segments.items a.outcomes.items a.kept.items start))
+        × ((start : ℕ) → a.counts ≡ counts_in (entries a.segments.items a.outcomes.items a.kept.items start))
         × (length a.kept.items ≤ 256) };
 }
 
@@ -76,9 +82,9 @@ impl CaseLists {
     /// What is listed so, in order of destination. There is at most one entry for each node.
     pub(crate) fn new(kept: Vec<Kept>, outcomes: Vec<Outcome>, segments: Vec<Segment>) -> CaseLists
         requires within { AreKeptWithin segments.items outcomes.items kept.items }
-        requires ascending { AscendByNode (entries segments.items outcomes.items kept.items) }
+        requires ascending { (start : ℕ) → AscendByNode (entries segments.items outcomes.items kept.items start) }
         requires few { length kept.items ≤ 256 }
-        ensures { result ≡ entries segments.items outcomes.items kept.items }
+        ensures { result ≡ record { segments = segments.items; outcomes = outcomes.items; kept = kept.items } }
     {
         let counts = counted(&outcomes, &kept);
         CaseLists {
@@ -91,23 +97,36 @@ impl CaseLists {
 
     /// What is listed in a case that affects no destination.
     pub fn none(alloc: Global) -> CaseLists
-        ensures { result ≡ [] }
+        ensures { (start : ℕ) → listed_from start result ≡ [] }
     {
         CaseLists::new(Vec::new(alloc), Vec::new(alloc), Vec::new(alloc))
+    }
+
+    /// Whether the same is listed so where links have these numbers. It is so unless a link of the source has another place
+    /// or an adjacency segment another number.
+    pub fn keeps_numbers(&self, numbers: &Renumbering<'_>) -> bool
+        requires numbers { HaveNumbers (listed_from numbers.now.before self.now) }
+        ensures { IsTrue result → listed_from numbers.now.after self.now
+            ≡ moved_entries numbers.now.links.now (listed_from numbers.now.before self.now) }
+    {
+        keep_places(&self.outcomes, numbers) && keep_numbers(&self.segments, numbers.links)
     }
 
     /// The same where links have these numbers: each link that the list has a number for gets it.
     pub fn renumbered(
         &self,
         alloc: Global,
-        links: &[Option<LinkNo>],
+        numbers: &Renumbering<'_>,
     ) -> Result<CaseLists, AllocError>
-        ensures { IfOk result (λ moved. moved ≡ map (moved_entry links.now) self.now) }
+        requires numbers { HaveNumbers (listed_from numbers.now.before self.now) }
+        requires begin { StandFrom numbers.now.after (moved_entries numbers.now.links.now (listed_from numbers.now.before self.now)) }
+        ensures { IfOk result (λ moved. listed_from numbers.now.after moved
+            ≡ moved_entries numbers.now.links.now (listed_from numbers.now.before self.now)) }
     {
         Ok(CaseLists {
             kept: copied_answers(alloc, &self.kept)?,
-            outcomes: moved_outcomes(alloc, &self.outcomes, links)?,
-            segments: moved_segments(alloc, &self.segments, links)?,
+            outcomes: moved_outcomes(alloc, &self.outcomes, numbers)?,
+            segments: moved_segments(alloc, &self.segments, numbers.links)?,
             counts: self.counts,
         })
     }
@@ -116,44 +135,47 @@ impl CaseLists {
     /// 5; this project's rule).
     pub fn answers(&self, net: &Net, case: Case) -> CaseAnswers<'_>
         requires case { IsCase net.now.graph case }
-        requires lists { AreLists net.now case self.now }
+        requires lists { ArePlacedLists net.now case self.now }
         ensures { AreAnswers net.now case result }
     {
         let source = net.graph().edge(case.link).from;
-        CaseAnswers::new(self, limit_at(net, source))
+        let start = net.graph().links_from(source).first;
+        CaseAnswers::new(self, start, limit_at(net, source))
     }
 
     /// How many destinations there are.
     pub(crate) fn count(&self) -> usize
-        ensures count { result ≡ length self.now }
+        ensures count { (start : ℕ) → result ≡ length (listed_from start self.now) }
         ensures few { result ≤ 256 }
     {
         self.kept.len()
     }
 
-    /// The answer at this place, in order of destination, where lists of fewer segments than the limit are let through.
-    pub(crate) fn limited_at(&self, place: usize, limit: u16) -> NodeAnswer<'_>
-        requires { place < length self.now }
-        ensures { result ≡ limited_entry limit (node_answer_at self.now place) }
+    /// The answer at this place, in order of destination, where the links of the source begin at this one, and lists of fewer
+    /// segments than the limit are let through.
+    pub(crate) fn limited_at(&self, start: u16, place: usize, limit: u16) -> NodeAnswer<'_>
+        requires place { place < length (listed_from start self.now) }
+        requires number { HasNumber (answer_at (listed_from start self.now) place) }
+        ensures { result ≡ limited_entry limit (node_answer_at (listed_from start self.now) place) }
     {
         let kept = self.kept[place];
         let outcome = self.outcomes[kept.outcome as usize];
         NodeAnswer {
             destination: kept.destination,
-            answer: limited_answer(outcome, kept.cost, &self.segments, limit),
+            answer: limited_answer(start, outcome, kept.cost, &self.segments, limit),
         }
     }
 
     /// The codes of what is listed, in its order. Two destinations with one code differ at most in their costs.
     pub(crate) fn codes(&self) -> Codes<'_>
-        ensures { AreCodes self.now result }
+        ensures { (start : ℕ) → AreCodes (listed_from start self.now) result }
     {
         Codes::new(&self.kept)
     }
 
     /// For how many destinations there is a list, no path and no list. None is too deep.
     pub(crate) fn counts(&self) -> Counts
-        ensures counts { result ≡ counts_in self.now }
+        ensures counts { (start : ℕ) → result ≡ counts_in (listed_from start self.now) }
         ensures flat { result.toodeep ≡ 0 }
     {
         self.counts
@@ -161,16 +183,16 @@ impl CaseLists {
 
     /// Whether each list has fewer segments than the limit: then the answers are what is listed.
     pub(crate) fn are_let_through(&self, limit: u16) -> bool
-        ensures { IsTrue result → limited_entries limit self.now ≡ self.now }
+        ensures { (start : ℕ) → IsTrue result ↔ (limited_entries limit (listed_from start self.now) ≡ listed_from start self.now) }
     {
         are_let_through(&self.outcomes, limit)
     }
 
     /// The place of the destination. None exactly where it isn't there.
     pub(crate) fn place_of(&self, destination: NodeNo) -> Option<usize>
-        ensures { MatchOption result
-            (NoAnswer self.now destination.0)
-            (λ place. (place < length self.now) × (destination_at self.now place ≡ destination.0)) }
+        ensures { (start : ℕ) → MatchOption result
+            (NoAnswer (listed_from start self.now) destination.0)
+            (λ place. (place < length (listed_from start self.now)) × (destination_at (listed_from start self.now) place ≡ destination.0)) }
     {
         match self
             .kept
@@ -181,16 +203,30 @@ impl CaseLists {
         }
     }
 
-    /// What is listed for the destination, however deep. None exactly where it isn't there.
-    pub fn listed(&self, destination: NodeNo) -> Option<Answer<'_>>
-        ensures { MatchOption result (NoAnswer self.now destination.0) (HasAnswer self.now destination.0) }
+    /// What is listed at this place, in order of destination, where the links of the source begin at this one.
+    fn listed_at(&self, start: u16, place: usize) -> Answer<'_>
+        requires place { place < length (listed_from start self.now) }
+        requires number { HasNumber (answer_at (listed_from start self.now) place) }
+        ensures { result ≡ answer_at (listed_from start self.now) place }
     {
+        let kept = self.kept[place];
+        let outcome = self.outcomes[kept.outcome as usize];
+        listed_answer(start, outcome, kept.cost, &self.segments)
+    }
+
+    /// What is listed for the destination in the case, whose lists these are, however deep. None exactly where the case doesn't
+    /// affect it.
+    pub fn listed(&self, net: &Net, case: Case, destination: NodeNo) -> Option<Answer<'_>>
+        requires case { IsCase net.now.graph case }
+        requires lists { ArePlacedLists net.now case self.now }
+        ensures { MatchOption result
+            (IsAffected net.now case destination.0 → ⊥)
+            (λ answer. IsAffected net.now case destination.0 × IsCaseListed net.now case destination.0 answer) }
+    {
+        let source = net.graph().edge(case.link).from;
+        let start = net.graph().links_from(source).first;
         match self.place_of(destination) {
-            Some(place) => {
-                let kept = self.kept[place];
-                let outcome = self.outcomes[kept.outcome as usize];
-                Some(listed_answer(outcome, kept.cost, &self.segments))
-            }
+            Some(place) => Some(self.listed_at(start, place)),
             None => None,
         }
     }

@@ -1,6 +1,6 @@
 //! The outcomes of a search as they are collected, each once.
 ghost use Rattle.std.specs.Prelude.{◌≡◌, ◌<◌, ◌≤◌, length, IfOk, OnOk, Some};
-ghost use Rattle.sr_encode.specs.Collected.{most_outcomes, IsOutcomeOf, IsOutcomeFor, IsCollected, IsStarted, HasMoreSegments, Gains};
+ghost use Rattle.sr_encode.specs.Collected.{most_outcomes, BeginsFrom, IsOutcomeOf, IsOutcomeFor, IsCollected, IsStarted, HasMoreSegments, Gains};
 ghost use Rattle.sr_encode.specs.Kept.{HasSegments, outcome_at};
 ghost use Rattle.sr_encode.specs.Waypoints.{AreParents};
 
@@ -10,10 +10,12 @@ use sr_model::{FAR, Segment};
 use std::alloc::{AllocError, Global};
 
 /// The outcomes of a search, whose waypoints stand in `queue`, and the segments of their lists. A waypoint gets its outcome
-/// when it first serves a destination, so that no list stands there twice.
+/// when it first serves a destination, so that no list stands there twice, and none that no destination has.
 #[derive(Drop)]
 pub(crate) struct Collected<'a> {
     queue: &'a [Waypoint],
+    /// The link at which those of the source begin.
+    start: u16,
     pub(crate) outcomes: Vec<Outcome>,
     /// The segments of the lists, one list after the other.
     pub(crate) segments: Vec<Segment>,
@@ -24,16 +26,21 @@ pub(crate) struct Collected<'a> {
 }
 
 impl<'a> Collected<'a> {
-    /// Of a search whose waypoints haven't served any destination yet.
-    pub(crate) fn new(alloc: Global, queue: &'a [Waypoint]) -> Result<Collected<'a>, AllocError>
+    /// Of a search whose waypoints haven't served any destination yet. The links of its source begin at this one.
+    pub(crate) fn new(
+        alloc: Global,
+        queue: &'a [Waypoint],
+        start: u16,
+    ) -> Result<Collected<'a>, AllocError>
         requires { AreParents queue.now }
-        ensures { IfOk result (IsStarted queue.now) }
+        ensures { IfOk result (IsStarted queue.now start) }
     {
         let mut outcomes = Vec::with_capacity(alloc, 8)?;
         outcomes.push(Outcome::NoPath)?;
         outcomes.push(Outcome::NoList)?;
         Ok(Collected {
             queue,
+            start,
             outcomes,
             segments: Vec::new(alloc),
             known: vec![in alloc; None; queue.len()]?,
@@ -47,16 +54,18 @@ impl<'a> Collected<'a> {
         requires collected { IsCollected self.old }
         requires few { length self.old.outcomes.items ≤ most_outcomes }
         requires place { place < length self.old.queue.now }
+        requires begins { BeginsFrom self.old.start self.old.queue.now place }
         ensures adds { OnOk result (HasMoreSegments self.old self.new) }
         ensures outcome { IfOk result (λ made.
             IsOutcomeOf self.new place made × HasSegments self.new.segments.items made) }
     {
         let first = self.queue[place as usize].first;
+        let behind = first.0 - self.start;
         read_segments(self.queue, place as usize, &mut self.list)?;
         let begin = self.segments.len() as u32;
         self.segments.extend_from_slice(&self.list)?;
         Ok(Outcome::Least {
-            first,
+            place: behind,
             begin,
             end: self.segments.len() as u32,
         })
@@ -66,6 +75,7 @@ impl<'a> Collected<'a> {
     fn outcome_of(&mut self, place: u16) -> Result<u16, AllocError>
         requires collected { IsCollected self.old }
         requires few { length self.old.outcomes.items ≤ most_outcomes }
+        requires begins { BeginsFrom self.old.start self.old.queue.now place }
         requires place { place < length self.old.queue.now }
         ensures gains { IfOk result (Gains self.old self.new) }
         ensures outcome { IfOk result (λ r. IsOutcomeOf self.new place (outcome_at self.new.outcomes.items r)) }
@@ -85,7 +95,7 @@ impl<'a> Collected<'a> {
     pub(crate) fn outcome_for(&mut self, cost: u64, place: Option<u16>) -> Result<u16, AllocError>
         requires collected { IsCollected self.old }
         requires few { length self.old.outcomes.items ≤ most_outcomes }
-        requires place { (k : _) → place ≡ Some k → k < length self.old.queue.now }
+        requires place { (k : _) → place ≡ Some k → (k < length self.old.queue.now) × BeginsFrom self.old.start self.old.queue.now k }
         ensures gains { IfOk result (Gains self.old self.new) }
         ensures outcome { IfOk result (IsOutcomeFor self.new cost place) }
     {

@@ -1,6 +1,7 @@
 //! How what is listed in a case is kept: what destinations share of it once, and eight octets for each destination.
 ghost use Rattle.std.specs.Prelude.{◌≡◌};
 ghost use Rattle.sr_encode.specs.Kept.{HasSegments, answer_from};
+ghost use Rattle.sr_encode.specs.Placed.{HasNumber};
 ghost use Rattle.sr_encode.specs.Limited.{limited};
 
 use sr_model::{Answer, LinkNo, NodeNo, RepairList, Segment, Segments};
@@ -11,13 +12,14 @@ pub(crate) const NO_PATH: u16 = 0;
 /// The place of the outcome `NoList` among those of a search (this project's rule).
 pub(crate) const NO_LIST: u16 = 1;
 
-/// What is listed for a destination, beside its cost: a list, whose segments stand elsewhere from place `begin` on up to
-/// place `end`, or why there is none. The destinations that one waypoint serves share it.
+/// What is listed for a destination, beside its cost: a list, or why there is none. The first link of a list is told by its
+/// place among the links of the source, so that links that come and go elsewhere leave it. The segments stand elsewhere from
+/// place `begin` on up to place `end`. The destinations that one waypoint serves share it.
 #[derive(Clone, Copy, Debug)]
 pub(crate) enum Outcome {
     NoPath,
     NoList,
-    Least { first: LinkNo, begin: u32, end: u32 },
+    Least { place: u16, begin: u32, end: u32 },
 }
 
 /// What is listed for a destination, by the place of its outcome. A version has some hundred thousand of them, so it takes
@@ -30,36 +32,45 @@ pub(crate) struct Kept {
     pub(crate) cost: u32,
 }
 
-/// What is listed by an outcome at this cost, where these are the segments of all lists.
-pub(crate) fn listed_answer<'a>(outcome: Outcome, cost: u32, segments: &'a [Segment]) -> Answer<'a>
-    requires { HasSegments segments.now outcome }
-    ensures { result ≡ answer_from segments.now outcome cost }
+/// What is listed by an outcome at this cost, where these are the segments of all lists, and the links of the source stand
+/// from this one on.
+pub(crate) fn listed_answer<'a>(
+    start: u16,
+    outcome: Outcome,
+    cost: u32,
+    segments: &'a [Segment],
+) -> Answer<'a>
+    requires segments { HasSegments segments.now outcome }
+    requires number { HasNumber (answer_from start segments.now outcome cost) }
+    ensures { result ≡ answer_from start segments.now outcome cost }
 {
     match outcome {
         Outcome::NoPath => Answer::NoPath,
         Outcome::NoList => Answer::NoList,
-        Outcome::Least { first, begin, end } => Answer::Least(RepairList {
-            first,
+        Outcome::Least { place, begin, end } => Answer::Least(RepairList {
+            first: LinkNo(start + place),
             segments: Segments::new(&segments[begin as usize..end as usize]),
             cost,
         }),
     }
 }
 
-/// The answer of the outcome, where a list of fewer segments than the limit is let through.
+/// The same, where a list of fewer segments than the limit is let through.
 pub(crate) fn limited_answer<'a>(
+    start: u16,
     outcome: Outcome,
     cost: u32,
     segments: &'a [Segment],
     limit: u16,
 ) -> Answer<'a>
-    requires { HasSegments segments.now outcome }
-    ensures { result ≡ limited limit (answer_from segments.now outcome cost) }
+    requires segments { HasSegments segments.now outcome }
+    requires number { HasNumber (answer_from start segments.now outcome cost) }
+    ensures { result ≡ limited limit (answer_from start segments.now outcome cost) }
 {
     match outcome {
         Outcome::Least { begin, end, .. } if end - begin >= limit as u32 => Answer::TooDeep {
             needed: end - begin,
         },
-        _ => listed_answer(outcome, cost, segments),
+        _ => listed_answer(start, outcome, cost, segments),
     }
 }

@@ -19,5 +19,6 @@ mod waypoint;
 pub use answers::{CaseAnswers, NodeAnswer};
 pub use case_lists::CaseLists;
 pub use codes::Codes;
+pub use renumbered::Renumbering;
 pub use repairs::lists;
 pub use sr_model::{Answer, RepairList, Segment, Segments};

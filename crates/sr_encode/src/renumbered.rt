@@ -1,11 +1,22 @@
 //! The answers of a case in a net whose links have other numbers.
-ghost use Rattle.std.specs.Prelude.{◌≡◌, map, IfOk};
+ghost use Rattle.std.specs.Prelude.{◌≡◌, ◌+◌, ◌<◌, ◌↔◌, map, All, IfOk, IsTrue};
+ghost use Rattle.sr_model.specs.declared.link.TheConstants.{MOST_LINKS as MostLinks};
+ghost use Rattle.sr_model.specs.declared.repair.Segment.{Segment as Followed};
 ghost use Rattle.sr_spf.specs.Renewed.{moved_link};
-ghost use Rattle.sr_encode.specs.Renumbered.{moved_segment, moved_outcome};
+ghost use Rattle.sr_encode.specs.Renumbered.{moved_first, moved_outcome, moved_segment, CanMove, HasPlace, KeepsPlace};
 
 use crate::kept::{Kept, Outcome};
 use sr_model::{LinkNo, Segment};
 use std::alloc::{AllocError, Global};
+
+/// How the links that the lists of a case name are numbered in another net: the number of each link there, where it has one,
+/// and the number at which the links of the source begin here and there.
+#[derive(Clone, Copy, Debug)]
+pub struct Renumbering<'a> {
+    pub links: &'a [Option<LinkNo>],
+    pub before: u16,
+    pub after: u16,
+}
 
 /// The number of the link in the other net, by the list of these numbers; its own where the list has none.
 fn moved(links: &[Option<LinkNo>], link: LinkNo) -> LinkNo
@@ -42,13 +53,22 @@ pub(crate) fn moved_segments(
     Ok(list)
 }
 
-/// The outcome, its first link renumbered.
-fn moved_outcome(links: &[Option<LinkNo>], outcome: Outcome) -> Outcome
-    ensures { result ≡ moved_outcome links.now outcome }
+/// The number in the other net of the link at this place among those of the source.
+fn moved_first(numbers: &Renumbering<'_>, place: u16) -> u16
+    requires { numbers.now.before + place < MostLinks }
+    ensures { result ≡ moved_first numbers.now place }
+{
+    moved(numbers.links, LinkNo(numbers.before + place)).0
+}
+
+/// The outcome, its first link told by its place in the other net.
+fn moved_outcome(numbers: &Renumbering<'_>, outcome: Outcome) -> Outcome
+    requires { CanMove numbers.now outcome }
+    ensures { result ≡ moved_outcome numbers.now outcome }
 {
     match outcome {
-        Outcome::Least { first, begin, end } => Outcome::Least {
-            first: moved(links, first),
+        Outcome::Least { place, begin, end } => Outcome::Least {
+            place: moved_first(numbers, place) - numbers.after,
             begin,
             end,
         },
@@ -57,19 +77,59 @@ fn moved_outcome(links: &[Option<LinkNo>], outcome: Outcome) -> Outcome
     }
 }
 
-/// The outcomes, their first links renumbered.
+/// The outcomes, their first links told by their places in the other net.
 pub(crate) fn moved_outcomes(
     alloc: Global,
     outcomes: &[Outcome],
-    links: &[Option<LinkNo>],
+    numbers: &Renumbering<'_>,
 ) -> Result<Vec<Outcome>, AllocError>
-    ensures { IfOk result (λ list. list.items ≡ map (moved_outcome links.now) outcomes.now) }
+    requires { All (CanMove numbers.now) outcomes.now }
+    ensures { IfOk result (λ list. list.items ≡ map (moved_outcome numbers.now) outcomes.now) }
 {
     let mut list = Vec::with_capacity(alloc, outcomes.len())?;
     for n in 0..outcomes.len() {
-        list.push(moved_outcome(links, outcomes[n]))?;
+        list.push(moved_outcome(numbers, outcomes[n]))?;
     }
     Ok(list)
+}
+
+/// Whether the outcome is the same in the other net: its first link has its place there.
+fn keeps_place(numbers: &Renumbering<'_>, outcome: Outcome) -> bool
+    requires { HasPlace numbers.now.before outcome }
+    ensures { IsTrue result ↔ KeepsPlace numbers.now outcome }
+{
+    match outcome {
+        Outcome::Least { place, .. } => {
+            moved_first(numbers, place) as u32 == numbers.after as u32 + place as u32
+        }
+        Outcome::NoPath => true,
+        Outcome::NoList => true,
+    }
+}
+
+/// Whether so is each outcome.
+pub(crate) fn keep_places(outcomes: &[Outcome], numbers: &Renumbering<'_>) -> bool
+    requires { All (HasPlace numbers.now.before) outcomes.now }
+    ensures { IsTrue result ↔ All (KeepsPlace numbers.now) outcomes.now }
+{
+    for outcome in outcomes {
+        if !keeps_place(numbers, *outcome) {
+            return false;
+        }
+    }
+    true
+}
+
+/// Whether each segment is the same in the other net.
+pub(crate) fn keep_numbers(segments: &[Segment], links: &[Option<LinkNo>]) -> bool
+    ensures { IsTrue result ↔ All (λ (s : Followed). moved_segment links.now s ≡ s) segments.now }
+{
+    for segment in segments {
+        if moved_segment(links, *segment) != *segment {
+            return false;
+        }
+    }
+    true
 }
 
 /// The kept answers once more.

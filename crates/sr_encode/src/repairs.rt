@@ -8,7 +8,8 @@ ghost use Rattle.sr_spf.specs.Trees.{AreTrees};
 ghost use Rattle.sr_post.specs.Post.{IsPost};
 ghost use Rattle.sr_lanes.specs.Bits.{is_in};
 ghost use Rattle.sr_encode.specs.Serve.{AreResolved};
-ghost use Rattle.sr_encode.specs.Answered.{AreAffected, AreLists};
+ghost use Rattle.sr_encode.specs.Answered.{AreAffected};
+ghost use Rattle.sr_encode.specs.Placed.{ArePlacedLists};
 ghost use Rattle.sr_encode.specs.Repairs.{AreAllKept};
 
 use crate::case_lists::CaseLists;
@@ -62,9 +63,9 @@ fn kept_lists(
         found.now.queue.items wanted found.now.places.items }
     ensures { IfOk result (AreAllKept net.now failed.now source.0 wanted) }
 {
-    let _graph = net.graph();
+    let start = net.graph().links_from(source).first;
     let mut kept = Vec::with_capacity(alloc, wanted.count())?;
-    let mut collected = Collected::new(alloc, &found.queue)?;
+    let mut collected = Collected::new(alloc, &found.queue, start)?;
     let mut left = wanted;
     'left: while let Some(node) = left.take_first() {
         let cost = cells[node];
@@ -96,7 +97,7 @@ fn lists_for(
     requires case { IsCase net.now.graph case }
     requires post { IsPost net.now case post.now }
     requires wanted { AreAffected net.now case wanted }
-    ensures { IfOk result (AreLists net.now case) }
+    ensures { IfOk result (ArePlacedLists net.now case) }
 {
     let source = net.graph().link(case.link).from;
     let pivot = pivot_of(net.graph(), case);
@@ -132,7 +133,7 @@ pub fn lists(
     requires case { IsCase net.now.graph case }
     requires post { IsPost net.now case post.now }
     requires wanted { AreAffected net.now case wanted }
-    ensures { IfOk result (AreLists net.now case) }
+    ensures { IfOk result (ArePlacedLists net.now case) }
 {
     let spaces = spaces_of(net.graph(), trees, post.failed(), case);
     lists_for(alloc, net, &spaces, post, case, wanted)

@@ -14,7 +14,11 @@ use Rattle.sr_model.specs.Label.{Net}
 use Rattle.sr_encode.specs.declared.answers.NodeAnswer.{NodeAnswer}
 use Rattle.sr_encode.specs.Answered.{AreLists}
 use Rattle.sr_encode.specs.Limited.{limit_at, limited_entries}
+use Rattle.sr_graph.specs.Ranges.{HoldsLinks}
+use Rattle.sr_model.specs.Graph.{IsGraph}
+use Rattle.sr_encode.specs.Placed.{listed_from}
 use Rattle.sr_encode.proofs.LimitLemmas.{answers-limited}
+use Rattle.sr_encode.proofs.PlacedLemmas.{holds-some}
 use Rattle.sr_repair.specs.declared.passes.Passed.{Passed}
 use Rattle.sr_repair.specs.declared.passes.Passed.TheVariants.{Nothing, AsLink, Stays, Told, Listed}
 use Rattle.sr_repair.specs.declared.answers.Found.{Found}
@@ -71,23 +75,24 @@ found-for : (n : Net) (found : List Found) → AreAllFound n (case_count n.graph
 found-for n found all case within = (_, all.each case within (let small : rank_of case.kind < 3 = rank-small case.kind in omega (arith, small, within)))
 
 -- a link case has lists of its own
-own-lists : (n : Net) (case : Case) (one : Found) → IsFound n (link_case case) one → (list : List NodeAnswer) × AreLists n (link_case case) list
-own-lists n case NothingFound none = ([], none-listed n (link_case case) none)
-own-lists n case (Own known) a = ((arc_value known.solved).lists, a.solution.lists)
-own-lists n case AsLinkFound like = absurd (let bad : LinkKind ≡ RiskKind = like.risk in cc)
+own-lists : (n : Net) (case : Case) (one : Found) → IsFound n (link_case case) one → (first end : ℕ) → HoldsLinks n.graph (source_of n.graph case) first end → (list : List NodeAnswer) × AreLists n (link_case case) list
+own-lists n case NothingFound none first end holds = ([], none-listed n (link_case case) none)
+own-lists n case (Own known) a first end holds = (listed_from first (arc_value known.solved).lists, a.solution.lists.from first end holds)
+own-lists n case AsLinkFound like first end holds = absurd (let bad : LinkKind ≡ RiskKind = like.risk in cc)
 
 -- and each case has its lists
-their-lists : (n : Net) (case : Case) → IsCase n.graph case → (found : List Found) → AreAllFound n (case_count n.graph) found → (one : Found) → IsFound n case one → (list : List NodeAnswer) × AreLists n case list
-their-lists n case within found all NothingFound none = ([], none-listed n case none)
-their-lists n case within found all (Own known) a = ((arc_value known.solved).lists, a.solution.lists)
-their-lists n case within found all AsLinkFound like =
+their-lists : (n : Net) (case : Case) → IsCase n.graph case → (found : List Found) → AreAllFound n (case_count n.graph) found → (one : Found) → IsFound n case one → (first end : ℕ) → HoldsLinks n.graph (source_of n.graph case) first end → (list : List NodeAnswer) × AreLists n case list
+their-lists n case within found all NothingFound none first end holds = ([], none-listed n case none)
+their-lists n case within found all (Own known) a first end holds = (listed_from first (arc_value known.solved).lists, a.solution.lists.from first end holds)
+their-lists n case within found all AsLinkFound like first end holds =
     let link = found-for n found all (link_case case) within in
-    let list = own-lists n case link.0 link.1 in
+    let list = own-lists n case link.0 link.1 first end holds in
     (list.0, lists-from n case like list.0 list.1)
 
 -- so it has its answers
-pub answers-there : (n : Net) (found : List Found) → AreAllFound n (case_count n.graph) found → IsAnswered n
-answers-there n found all case within =
+pub answers-there : (n : Net) → IsGraph n.graph → (found : List Found) → AreAllFound n (case_count n.graph) found → IsAnswered n
+answers-there n graph found all case within =
     let one = found-for n found all case within in
-    let list = their-lists n case within found all one.0 one.1 in
+    let held = holds-some n.graph graph (source_of n.graph case) in
+    let list = their-lists n case within found all one.0 one.1 held.0 held.1 held.2 in
     (limited_entries (limit_at n (source_of n.graph case)) list.0, answers-limited n case list.0 list.1)

@@ -7,6 +7,7 @@ use Rattle.sr_model.specs.Case.{IsFailedSet, IsAffected}
 use Rattle.sr_graph.specs.Failed.{FailsAsLink}
 use Rattle.sr_encode.specs.declared.answers.NodeAnswer.{NodeAnswer}
 use Rattle.sr_encode.specs.Answered.{AreLists}
+use Rattle.sr_encode.specs.Placed.{listed_from, ArePlacedLists, Listing}
 use Rattle.sr_repair.specs.Answers.{link_case}
 
 module _ (n : Net) (case : Case) (like : FailsAsLink n.graph case) where
@@ -37,3 +38,6 @@ module _ (n : Net) (case : Case) (like : FailsAsLink n.graph case) where
     answers = λ i lt. let a = r.answers i lt in record { failed = a.failed; set = set-from a.failed a.set; listed = a.listed };
     all = λ d is. r.all d (affected-to d is);
   }
+
+  pub placed-from : (listing : Listing) → ArePlacedLists n (link_case case) listing → ArePlacedLists n case listing
+  placed-from listing r = record { from = λ first end holds. lists-from (listed_from first listing) (r.from first end holds) }

@@ -8,7 +8,9 @@ use Rattle.sr_model.specs.Walk.{IsRow}
 use Rattle.sr_laws.specs.Listed.{HaveSameLists}
 use Rattle.sr_laws.proofs.SameLists.{same-affected, same-listed}
 use Rattle.sr_encode.specs.declared.answers.NodeAnswer.{NodeAnswer}
+use Rattle.sr_graph.specs.Ranges.{HoldsLinks}
 use Rattle.sr_encode.specs.Answered.{AreLists, answer_at, destination_at}
+use Rattle.sr_encode.specs.Placed.{listed_from, ArePlacedLists, Listing}
 use Rattle.sr_lanes.specs.declared.words.NodeBits.{NodeBits}
 use Rattle.sr_post.specs.Marks.{AreWalks}
 use Rattle.sr_fib.specs.declared.sorted.LabelledLink.{LabelledLink}
@@ -30,6 +32,9 @@ module _ (n m : Net) (same : HaveSameLists n m) where
     answers = λ i lt. same-listed n m same case (destination_at list i) (answer_at list i) (r.answers i lt);
     all = λ d a. r.all d (same-affected m n back case d a);
   }
+
+  placed-shared : (case : Case) (listing : Listing) → ArePlacedLists n case listing → ArePlacedLists m case listing
+  placed-shared case listing r = record { from = λ first end holds. lists-shared case (listed_from first listing) (r.from first end (subst (λ g. HoldsLinks g (source_of g case) first end) same.graph holds)) }
 
   walks-shared : (case : Case) (set : NodeBits) → AreWalks n case set → AreWalks m case set
   walks-shared case set r = record {
@@ -75,7 +80,7 @@ module _ (n m : Net) (same : HaveSameLists n m) where
   found-shared case (Own known) is = record {
     solution = record {
       row = λ x failed. subst (λ g. IsRow g x (source_of g case) (arc_value known.solved).cells) (sym same.graph) (is.solution.row x (subst (λ g. IsFailedSet g case x) same.graph failed));
-      lists = lists-shared case (arc_value known.solved).lists is.solution.lists;
+      lists = placed-shared case (arc_value known.solved).lists is.solution.lists;
     };
     walks = λ set told. walks-shared case set (is.walks set told);
   }

@@ -1,5 +1,5 @@
 -- What stays of a case is its solution in the new net, by the new numbers of links.
-use Rattle.std.proofs.Common.{◌≡◌, ℕ, ◌<◌, Bool, true, List, [], ◌∷◌, map, length, refl, arith, ap, sym, ◌∙◌, subst, Option, Some, None, inl}
+use Rattle.std.proofs.Common.{◌≡◌, ℕ, ◌<◌, Bool, List, [], ◌∷◌, map, length, refl, arith, ap, sym, ◌∙◌, subst, Option, Some, None, inl}
 use Rattle.std.specs.Prelude.{◌↔◌, IsTrue, slice_index_or, MatchOption}
 use Rattle.std.proofs.lemmas.List.{get_or-map, length-map}
 use Rattle.sr_model.specs.declared.case.Case.{Case}
@@ -17,7 +17,7 @@ use Rattle.sr_model.specs.Case.{key_at, IsFailedSet, IsAffected, IsOnRepairWay, 
 use Rattle.sr_model.specs.Label.{Net}
 use Rattle.sr_model.specs.Rule.{IsNet}
 use Rattle.sr_model.specs.Stay.{HaveSameName, case_with, AreSegmentsSame, IsSameList, IsSameAnswer}
-use Rattle.sr_laws.proofs.Keys.{key-one, nodes-same, pair-trans}
+use Rattle.sr_laws.proofs.Keys.{key-one, name-ends, nodes-same, pair-trans}
 use Rattle.sr_laws.specs.Listed.{IsCaseListed}
 use Rattle.sr_laws.specs.Steady.{IsSteadyCase}
 use Rattle.sr_laws.proofs.Kept.{affected-same, listed-renumbered, post-same}
@@ -27,15 +27,19 @@ use Rattle.sr_graph.specs.Failed.{FailsAsLink}
 use Rattle.sr_delta.specs.Partners.{ArePartners, IsPartner, partner_at}
 use Rattle.sr_encode.specs.declared.answers.NodeAnswer.{NodeAnswer}
 use Rattle.sr_encode.specs.Answered.{AreLists, destination_at, answer_at, node_answer_at}
-use Rattle.sr_encode.specs.Renumbered.{moved_segment, moved_answer, moved_entry}
+use Rattle.sr_encode.specs.declared.renumbered.Renumbering.{Renumbering}
+use Rattle.sr_encode.specs.Placed.{listed_from, ArePlacedLists, HaveNumbers, Listing, StandFrom}
+use Rattle.sr_encode.specs.Renumbered.{moved_segment, moved_answer, moved_entry, moved_entries}
 use Rattle.sr_encode.proofs.AnswerLemmas.{affected-within, no_entry}
+use Rattle.sr_encode.proofs.PlacedLemmas.{holds-one, lists-numbered, lists-stand}
+use Rattle.sr_graph.specs.Ranges.{HoldsLinks}
 use Rattle.sr_delta.specs.declared.staying.Staying.{Staying}
 use Rattle.sr_delta.specs.Changes.{Differences}
 use Rattle.sr_repair.specs.Answers.{AffectsSome}
-use Rattle.sr_repair.specs.Former.{IsFormer, IsSearched, StaySolved, StayKnown}
+use Rattle.sr_repair.specs.Former.{IsFormer, IsRenumbering, IsSearched, StaySolved, StayKnown}
 use Rattle.sr_repair.specs.KnownCase.{IsKnownCase}
 use Rattle.sr_repair.specs.Spared.{Passage}
-use Rattle.sr_repair.specs.Solutions.{Solution, IsSolution, moved_solution}
+use Rattle.sr_repair.specs.Solutions.{Solution, IsMovedSolution, IsSolution}
 use Rattle.sr_repair.specs.declared.known_case.KnownCase.{KnownCase}
 use Rattle.sr_lanes.specs.declared.words.NodeBits.{NodeBits}
 use Rattle.sr_lanes.specs.Bits.{is_in}
@@ -60,13 +64,10 @@ module _ (links : List (Option LinkNo)) (place : AreInPlace links) where
       ap (λ (r : RepairList). Least r)
       (let q : record { first = moved_link links list.first; segments = map (moved_segment links) list.segments; cost = list.cost } ≡ record { first = list.first; segments = list.segments; cost = list.cost } = rw (place list.first, segments-placed list.segments) refl in q)
 
-  entries-placed : (list : List NodeAnswer) → map (moved_entry links) list ≡ list
+  pub entries-placed : (list : List NodeAnswer) → moved_entries links list ≡ list
   entries-placed [] = refl
   entries-placed (e ∷ list) =
       rw (let q : moved_entry links e ≡ record { destination = e.destination; answer = e.answer } = rw (answer-placed e.answer) refl in q, entries-placed list) refl
-
-  pub solution-placed : (s : Solution) → moved_solution links s ≡ s
-  solution-placed s = let q : record { cells = s.cells; lists = map (moved_entry links) s.lists } ≡ record { cells = s.cells; lists = s.lists } = rw (entries-placed s.lists) refl in q
 
 -- the numbers of links in the new net are those of their partners there
 module _ (n m : Net) (links : List (Option LinkNo)) (partners : ArePartners n.graph m.graph links) where
@@ -156,8 +157,27 @@ module _ (n m : Net) (links : List (Option LinkNo)) (partners : ArePartners n.gr
               (at.0, (let lt : at.0 < length list = at.1 in omega (arith, lt, long)), destination-moved list at.0 at.1 ∙ at.2);
         }
 
-    pub solution-moved : (s : Solution) → IsSolution n old s → IsSolution m new (moved_solution links s)
-    solution-moved s r = record { row = row-moved s.cells r.row; lists = lists-moved s.lists r.lists }
+    source-same : source_of m.graph new ≡ source_of n.graph old
+    source-same = (name-ends n.graph m.graph N.graph M.graph N.named M.named stays.nodes old.link.0 new.link.0 name).0
+
+    pub solution-moved : (r : Renumbering) (end end' : ℕ) → r.links.now ≡ links → HoldsLinks n.graph (source_of n.graph old) r.before end → HoldsLinks m.graph (source_of n.graph old) r.after end' → (s t : Solution) → IsMovedSolution r s t → IsSolution n old s → IsSolution m new t
+    solution-moved r end end' same before after s t moved is = record {
+      row = λ y set. subst (λ cells. IsRow m.graph y (source_of m.graph new) cells) (sym moved.cells) (row-moved s.cells is.row y set);
+      lists = record {
+        from = λ first last holds.
+            let here : HoldsLinks m.graph (source_of n.graph old) first last = subst (λ u. HoldsLinks m.graph u first last) source-same holds in
+            let at : r.after ≡ first = holds-one m.graph (source_of n.graph old) r.after end' first last new.link.0 after here name.1 source-same in
+            let list : listed_from first t.lists ≡ moved_entries links (listed_from r.before s.lists) =
+            ap (λ k. listed_from k t.lists) (sym at) ∙ moved.lists ∙ ap (λ k. moved_entries k (listed_from r.before s.lists)) same in
+            subst (λ l. AreLists m new l) (sym list) (lists-moved (listed_from r.before s.lists) (is.lists.from r.before end before));
+      };
+    }
+
+    -- the first links in the new net are those of its source
+    pub stand-moved : (first end first' end' : ℕ) (listing : Listing) → HoldsLinks n.graph (source_of n.graph old) first end → HoldsLinks m.graph (source_of n.graph old) first' end' → ArePlacedLists n old listing → StandFrom first' (moved_entries links (listed_from first listing))
+    stand-moved first end first' end' listing before after is =
+        lists-stand m new (moved_entries links (listed_from first listing)) (lists-moved (listed_from first listing) (is.from first end before)) first' end'
+        (subst (λ u. HoldsLinks m.graph u first' end') (sym source-same) after)
 
     -- the same nodes are on the walks of both
     pub walks-moved : (set : NodeBits) → AreWalks n old set → AreWalks m new set
@@ -204,18 +224,23 @@ name-back n m l k name = (name.1, name.0, sym name.2)
 
 -- the net before, with what differs
 module _ (p : Passage) (changes : Differences) (staying : Staying) (in_place : Bool) (r : IsFormer p changes staying in_place) where
-  pub moved-stays : (s : Solution) → StaySolved p s (moved_solution changes.partners s)
-  moved-stays s old new kind name stays is =
-      solution-moved p.old p.new changes.partners (r.differ.partners r.same) r.differ.old r.differ.new old new kind name stays s is
+  -- what is moved so is the solution in the new net
+  pub moved-stays : (old : Case) (num : Renumbering) → IsRenumbering p (source_of p.old.graph old) num → (s t : Solution) → IsMovedSolution num s t → StaySolved p old s t
+  moved-stays old num numbers s t moved new kind name stays is =
+      solution-moved p.old p.new num.links.now numbers.links r.differ.old r.differ.new old new kind name stays num numbers.end numbers.end' refl numbers.before numbers.after s t moved is
 
-  pub same-stays : in_place ≡ true → (s : Solution) → StaySolved p s s
-  same-stays placed s old new kind name stays is =
-      subst (λ t. IsSolution p.new new t) (solution-placed changes.partners (r.numbers placed) s) (moved-stays s old new kind name stays is)
+  -- and it can be moved
+  pub numbers-told : (old : Case) (num : Renumbering) → IsRenumbering p (source_of p.old.graph old) num → (s : Solution) → IsSolution p.old old s → HaveNumbers (listed_from num.before s.lists)
+  numbers-told old num numbers s is = lists-numbered p.old old (listed_from num.before s.lists) (is.lists.from num.before numbers.end numbers.before) r.differ.old.graph
+
+  pub begin-told : (old : Case) (num : Renumbering) → IsRenumbering p (source_of p.old.graph old) num → (s : Solution) → IsSolution p.old old s → IsSteadyCase p.old p.new old → StandFrom num.after (moved_entries num.links.now (listed_from num.before s.lists))
+  begin-told old num numbers s is stays =
+      stand-moved p.old p.new num.links.now numbers.links r.differ.old r.differ.new old (case_with old stays.link) refl stays.protected stays num.before numbers.end num.after numbers.end' s.lists numbers.before numbers.after is.lists
 
   -- the record that is kept of an old case that is steady is one of the new case
   pub known-moved : (was kept : KnownCase) (old new : Case) → old.kind ≡ new.kind → HaveSameName p.old.graph p.new.graph old.link.0 new.link.0 → IsSteadyCase p.old p.new old → IsKnownCase p.old old was → StayKnown p old was kept → IsKnownCase p.new new kept
   known-moved was kept old new kind name steady known stay = record {
-    solution = stay.solved old new kind name steady known.solution;
+    solution = stay.solved new kind name steady known.solution;
     walks = λ set told. walks-moved p.old p.new changes.partners (r.differ.partners r.same) r.differ.old r.differ.new old new kind name steady set (stay.walks set told);
   }
 

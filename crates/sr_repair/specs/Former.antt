@@ -1,11 +1,14 @@
 -- The version before, as the next one is made from it.
-use Rattle.std.specs.Prelude.{◌≡◌, Bool, true, List, Option, Some}
+use Rattle.std.specs.Prelude.{◌≡◌, ℕ, Bool, true, List, Option, Some}
 use Rattle.std.specs.Arc.{arc_value}
 use Rattle.sr_model.specs.declared.case.Case.{Case}
 use Rattle.sr_model.specs.Label.{Net}
 use Rattle.sr_spf.specs.Trees.{Forest, AreTrees}
 use Rattle.sr_spf.specs.Renewed.{AreInPlace}
 use Rattle.sr_delta.specs.Changes.{Differences, AreChanges}
+use Rattle.sr_graph.specs.Ranges.{HoldsLinks}
+use Rattle.sr_delta.specs.Partners.{ArePartners}
+use Rattle.sr_encode.specs.declared.renumbered.Renumbering.{Renumbering}
 use Rattle.sr_delta.specs.declared.staying.Staying.{Staying}
 use Rattle.sr_delta.specs.Stayers.{AreStaying}
 use Rattle.sr_delta.specs.Moved.{AreMoved}
@@ -46,15 +49,23 @@ pub record IsSetting (s : Setting) : Type 0 where
   pub trees : AreTrees s.net.graph s.trees
   pub new : (p : Passage) → s.former ≡ Some p → p.new ≡ s.net
 
--- where a case is steady whose solution is s, t is the solution of the case of the new net whose protected link has its
+-- where the old case is steady and s is its solution, t is that of the case of the new net whose protected link has its
 -- name
-abbrev pub StaySolved : Passage → Solution → Solution → Type 0
-StaySolved p s t =
-    (old new : Case) → old.kind ≡ new.kind → HaveSameName p.old.graph p.new.graph old.link.0 new.link.0
+abbrev pub StaySolved : Passage → Case → Solution → Solution → Type 0
+StaySolved p old s t =
+    (new : Case) → old.kind ≡ new.kind → HaveSameName p.old.graph p.new.graph old.link.0 new.link.0
     → IsSteadyCase p.old p.new old → IsSolution p.old old s → IsSolution p.new new t
+
+-- how links are numbered in both nets, those of node s among them
+pub record IsRenumbering (p : Passage) (s : ℕ) (r : Renumbering) : Type 0 where
+  pub links : ArePartners p.old.graph p.new.graph r.links.now
+  pub end : ℕ
+  pub end' : ℕ
+  pub before : HoldsLinks p.old.graph s r.before end
+  pub after : HoldsLinks p.new.graph s r.after end'
 
 -- where the old case is steady, the record that is kept of it has a solution in the new net, and the walks of the old
 -- case
 pub record StayKnown (p : Passage) (old : Case) (was kept : KnownCase) : Type 0 where
-  pub solved : StaySolved p (arc_value was.solved) (arc_value kept.solved)
+  pub solved : StaySolved p old (arc_value was.solved) (arc_value kept.solved)
   pub walks : AreToldWalks p.old old kept.walks

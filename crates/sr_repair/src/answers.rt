@@ -1,8 +1,8 @@
 //! The records of all cases.
-ghost use Rattle.std.specs.Prelude.{◌≡◌, ◌+◌, ◌≤◌, [], map, IfOk, OnOk};
+ghost use Rattle.std.specs.Prelude.{◌≡◌, ℕ, ◌+◌, ◌≤◌, [], map, IfOk, OnOk};
 ghost use Rattle.sr_model.specs.declared.case.Kind.TheVariants.{Link as LinkKind};
 ghost use Rattle.sr_model.specs.Case.{IsCase};
-ghost use Rattle.sr_encode.specs.Answered.{AreLists};
+ghost use Rattle.sr_encode.specs.Placed.{listed_from, ArePlacedLists};
 ghost use Rattle.sr_repair.specs.Answers.{case_count, kept_of, searches_of, pass_searches, AreAllFound, IsFound};
 
 use crate::cases::{link_case, slot_of};
@@ -80,8 +80,8 @@ fn lists_of_link<'a>(
     requires case { IsCase net.now.graph case }
     requires kind { case.kind ≡ LinkKind }
     requires found { AreAllFound net.now (case_count net.now.graph) found.now }
-    requires none { none.now ≡ [] }
-    ensures { AreLists net.now case result.now }
+    requires none { (start : ℕ) → listed_from start none.now ≡ [] }
+    ensures { ArePlacedLists net.now case result.now }
 {
     match found_of(net, found, case) {
         Found::Nothing => none,
@@ -99,8 +99,8 @@ pub(crate) fn lists_of<'a>(
 ) -> &'a CaseLists
     requires case { IsCase net.now.graph case }
     requires found { AreAllFound net.now (case_count net.now.graph) found.now }
-    requires none { none.now ≡ [] }
-    ensures { AreLists net.now case result.now }
+    requires none { (start : ℕ) → listed_from start none.now ≡ [] }
+    ensures { ArePlacedLists net.now case result.now }
 {
     match found_of(net, found, case) {
         Found::Nothing => none,

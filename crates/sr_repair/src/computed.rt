@@ -7,7 +7,8 @@ ghost use Rattle.sr_model.specs.Rule.{IsNet};
 ghost use Rattle.sr_labels.specs.Depth.{with_depth};
 ghost use Rattle.sr_spf.specs.Trees.{AreTrees};
 ghost use Rattle.sr_fib.specs.Tables.{AreSids, IsFib};
-ghost use Rattle.sr_encode.specs.Answered.{AreAnswers, AreLists};
+ghost use Rattle.sr_encode.specs.Answered.{AreAnswers};
+ghost use Rattle.sr_encode.specs.Placed.{ArePlacedLists};
 ghost use Rattle.sr_delta.specs.Changes.{AreChanges};
 ghost use Rattle.sr_laws.specs.Listed.{HaveSameLists};
 ghost use Rattle.sr_repair.specs.Answers.{AreAllFound, IsAnswered, IsFound, case_count};
@@ -50,7 +51,8 @@ pub(crate) struct Computed {
 }
 
 impl Model for Computed {
-    ghost use Rattle.std.specs.Prelude.{◌≡◌, []};
+    ghost use Rattle.std.specs.Prelude.{◌≡◌, ℕ, []};
+    ghost use Rattle.sr_encode.specs.Placed.{listed_from};
     ghost use Rattle.std.specs.Arc.{arc_value};
     ghost use Rattle.sr_model.specs.Label.{Net};
     ghost use Rattle.sr_spf.specs.Trees.{AreTrees};
@@ -64,7 +66,7 @@ impl Model for Computed {
     ghost invariant = { λ c. AreTrees c.net.graph (arc_value c.shared).trees
         × AreSids c.net (arc_value c.shared).sids
         × AreAllFound c.net (case_count c.net.graph) (arc_value c.shared).found.items
-        × ((arc_value c.shared).none ≡ []) };
+        × ((start : ℕ) → listed_from start (arc_value c.shared).none ≡ []) };
 }
 
 impl Computed {
@@ -206,7 +208,7 @@ impl Computed {
     /// What is listed in the case for the destinations that it affects, ascending.
     pub(crate) fn lists(&self, case: Case) -> &CaseLists
         requires case { IsCase self.now.graph case }
-        ensures { AreLists self.now case result.now }
+        ensures { ArePlacedLists self.now case result.now }
     {
         let shared = &self.shared;
         lists_of(&self.net, &shared.found, &shared.none, case)
@@ -232,6 +234,6 @@ impl Computed {
     pub(crate) fn is_answered(&self)
         ensures { IsAnswered self.now }
     {
-        let _shared = &self.shared;
+        let _graph = self.net.graph();
     }
 }

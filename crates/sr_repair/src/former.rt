@@ -1,5 +1,5 @@
 //! The version before, from which a case is taken where it is steady.
-ghost use Rattle.std.specs.Prelude.{◌≡◌, ◌↔◌, true, List, Bool, Some, IfOk, IsTrue, MatchOption};
+ghost use Rattle.std.specs.Prelude.{◌≡◌, ◌↔◌, ◌<◌, true, List, Bool, Some, IfOk, IsTrue, MatchOption};
 ghost use Rattle.std.specs.Arc.{arc_value};
 ghost use Rattle.sr_graph.specs.Failed.{FailsAsLink};
 ghost use Rattle.sr_model.specs.Case.{IsCase, IsFailedSet, source_of};
@@ -10,10 +10,11 @@ ghost use Rattle.sr_spf.specs.Trees.{AreTrees};
 ghost use Rattle.sr_delta.specs.Moved.{AreMoved};
 ghost use Rattle.sr_delta.specs.Changes.{AreChanges};
 ghost use Rattle.sr_delta.specs.KeptTrees.{AreKeptTrees};
+ghost use Rattle.sr_delta.specs.Partners.{ArePartners};
 ghost use Rattle.sr_post.specs.Marks.{AreTails, AreWalks};
 ghost use Rattle.sr_repair.specs.Solutions.{IsSolution};
 ghost use Rattle.sr_repair.specs.KnownCase.{IsKnownCase};
-ghost use Rattle.sr_repair.specs.Former.{IsSearched, StaySolved, StayKnown};
+ghost use Rattle.sr_repair.specs.Former.{IsRenumbering, IsSearched, StaySolved, StayKnown};
 
 use crate::answers::Found;
 use crate::computed::Computed;
@@ -21,9 +22,10 @@ use crate::known_case::KnownCase;
 use crate::row::CaseRow;
 use crate::solved::Solved;
 use sr_delta::{Changes, OldCase, Staying, case_stays, is_steady, may_stay};
+use sr_encode::Renumbering;
 use sr_labels::Net;
 use sr_lanes::NodeBits;
-use sr_model::Case;
+use sr_model::{Case, LinkNo, NodeNo};
 use sr_post::walks;
 use sr_spf::{Trees, are_in_place};
 use std::alloc::{AllocError, Global};
@@ -104,9 +106,23 @@ impl<'a> Former<'a> {
         CaseRow::new(alloc, self.trees.held_cells(source)?, cells)
     }
 
-    /// What was computed for an old case that is steady, by the new numbers of links. Where all is as it was in the whole
-    /// graph too, both versions share it; else the distances, which are these, are kept over the new trees, so that no
-    /// version holds the trees of those before.
+    /// How links are numbered in both nets, those of the node among them. These are the numbers of all in the new one.
+    fn renumbering<'b>(&self, links: &'b [Option<LinkNo>], node: NodeNo) -> Renumbering<'b>
+        requires node { node.0 < node_count self.now.old.graph }
+        requires links { ArePartners self.now.old.graph self.now.new.graph links.now }
+        ensures numbers { IsRenumbering self.now node.0 result }
+        ensures links { result.links.now ≡ links.now }
+    {
+        Renumbering {
+            links,
+            before: self.computed.net().graph().links_from(node).first,
+            after: self.net.graph().links_from(node).first,
+        }
+    }
+
+    /// What was computed for an old case that is steady, by the new numbers of links. Where its source is as far from all
+    /// nodes as it was in the whole graph too, and its lists name links by the same numbers, both versions share it; else the
+    /// distances, which are these, are kept over the new trees, so that no version holds the trees of those before.
     fn moved(
         &self,
         alloc: Global,
@@ -117,14 +133,16 @@ impl<'a> Former<'a> {
         requires steady { IsSteadyCase self.now.old self.now.new old }
         requires solved { IsSolution self.now.old old (arc_value solved.now) }
         requires cells { cells.now ≡ (arc_value solved.now).cells }
-        ensures { IfOk result (λ moved. StaySolved self.now (arc_value solved.now) (arc_value moved)) }
+        ensures { IfOk result (λ moved. StaySolved self.now old (arc_value solved.now) (arc_value moved)) }
     {
         let source = self.computed.net().graph().edge(old.link).from;
-        if self.in_place && self.farther[source.0 as usize].is_empty() {
+        let numbers = self.renumbering(self.changes.partners(), source);
+        let is_as_far = self.farther[source.0 as usize].is_empty();
+        if is_as_far && solved.keeps_numbers(&numbers, self.in_place) {
             return Arc::try_clone(solved);
         }
         let row = self.row_over(alloc, old, cells)?;
-        solved.renumbered(alloc, self.changes.partners(), row)
+        solved.renumbered(alloc, &numbers, row)
     }
 
     /// Whether the old case is steady. So is one that stays, which mostly costs less to tell.

@@ -1,11 +1,13 @@
 //! What is computed for a case that affects some destination.
-ghost use Rattle.std.specs.Prelude.{◌≡◌, IfOk};
+ghost use Rattle.std.specs.Prelude.{◌≡◌, true, IfOk, IsTrue};
 ghost use Rattle.std.specs.Arc.{arc_value};
-ghost use Rattle.sr_repair.specs.Solutions.{moved_solution};
+ghost use Rattle.sr_encode.specs.Placed.{listed_from, HaveNumbers, StandFrom};
+ghost use Rattle.sr_encode.specs.Renumbered.{moved_entries};
+ghost use Rattle.sr_spf.specs.Renewed.{AreInPlace};
+ghost use Rattle.sr_repair.specs.Solutions.{IsMovedSolution};
 
 use crate::row::CaseRow;
-use sr_encode::CaseLists;
-use sr_model::LinkNo;
+use sr_encode::{CaseLists, Renumbering};
 use std::alloc::{AllocError, Global};
 use std::marker::Model;
 use std::sync::Arc;
@@ -52,17 +54,33 @@ impl Solved {
         &self.lists
     }
 
+    /// Whether the same is kept so where links have these numbers. Where each link is `in_place`, its number is the old one,
+    /// so that nobody need look whether the lists keep theirs.
+    pub(crate) fn keeps_numbers(&self, numbers: &Renumbering<'_>, in_place: bool) -> bool
+        requires place { in_place ≡ true → AreInPlace numbers.now.links.now }
+        requires numbers { HaveNumbers (listed_from numbers.now.before self.now.lists) }
+        ensures { IsTrue result → IsMovedSolution numbers.now self.now self.now }
+    {
+        if in_place && numbers.before == numbers.after {
+            return true;
+        }
+        self.lists.keeps_numbers(numbers)
+    }
+
     /// The same where links have these numbers, and the distances are kept in this row.
     pub(crate) fn renumbered(
         &self,
         alloc: Global,
-        links: &[Option<LinkNo>],
+        numbers: &Renumbering<'_>,
         cells: CaseRow,
     ) -> Result<Arc<Solved>, AllocError>
-        requires { cells ≡ self.now.cells }
-        ensures { IfOk result (λ solved. arc_value solved ≡ moved_solution links.now self.now) }
+        requires cells { cells ≡ self.now.cells }
+        requires numbers { HaveNumbers (listed_from numbers.now.before self.now.lists) }
+        requires begin { StandFrom numbers.now.after
+            (moved_entries numbers.now.links.now (listed_from numbers.now.before self.now.lists)) }
+        ensures { IfOk result (λ solved. IsMovedSolution numbers.now self.now (arc_value solved)) }
     {
-        let lists = self.lists.renumbered(alloc, links)?;
+        let lists = self.lists.renumbered(alloc, numbers)?;
         Solved::new(alloc, cells, lists)
     }
 }

@@ -174,7 +174,9 @@ impl Version {
             (λ answer. IsAffected self.now.net case destination.0
             × IsCaseListed self.now.net case destination.0 answer) }
     {
-        self.computed.lists(case).listed(destination)
+        self.computed
+            .lists(case)
+            .listed(self.net(), case, destination)
     }
 
     /// The labels on the first link of the repair, the top last: they deliver, whichever equal-cost links the other nodes

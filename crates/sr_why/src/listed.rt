@@ -33,5 +33,5 @@ pub(crate) fn least_list(
 {
     let wanted = affected_set(net, trees, case);
     let found = lists(alloc, net, trees, post, case, wanted)?;
-    whole_list(alloc, found.listed(destination).unwrap())
+    whole_list(alloc, found.listed(net, case, destination).unwrap())
 }

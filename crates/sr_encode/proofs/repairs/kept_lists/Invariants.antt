@@ -9,8 +9,9 @@ use Rattle.sr_encode.proofs.repairs.kept_lists.Given as goal
 abbrev pub invariant-left : goal.invariant-left
 invariant-left l = record {
   queue : l.collected.queue.now ≡ l.found.queue.items;
+  start : l.collected.start ≡ l.start;
   collected : IsCollected l.collected;
-  listed : AreListedBut l.net l.failed l.fn.source.0 l.fn.wanted l.left (entries l.collected.segments.items l.collected.outcomes.items l.kept.items);
+  listed : AreListedBut l.net l.failed l.fn.source.0 l.fn.wanted l.left (entries l.collected.segments.items l.collected.outcomes.items l.kept.items l.start);
   within : AreKeptWithin l.collected.segments.items l.collected.outcomes.items l.kept.items;
 }
 

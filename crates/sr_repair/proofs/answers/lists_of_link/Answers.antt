@@ -11,4 +11,4 @@ returns-in-Nothing c =
     let n = c.args.net.now in
     let case = c.args.case in
     let none : AffectsSome n case → ⊥ = subst (λ f. IsFound n case f) c.in-Nothing.is c.found_of.ensures in
-    subst (λ (list : List NodeAnswer). AreLists n case list) (sym c.requires.none) (none-listed n case none)
+    record { from = λ first end holds. subst (λ (list : List NodeAnswer). AreLists n case list) (sym (c.requires.none first)) (none-listed n case none) }

@@ -1,4 +1,5 @@
 use Rattle.std.proofs.Common.{subst}
+use Rattle.std.proofs.lemmas.Option.{MatchOption-at_some}
 use Rattle.std.proofs.lemmas.Result.{IfOk-weaker}
 use Rattle.sr_model.specs.declared.repair.Answer.{Answer}
 use Rattle.sr_model.specs.declared.repair.RepairList.{RepairList}
@@ -6,7 +7,6 @@ use Rattle.sr_model.specs.Case.{source_of}
 use Rattle.sr_laws.specs.Listed.{IsCaseListed}
 use Rattle.sr_why.specs.declared.whole.WholeList.{WholeList}
 use Rattle.sr_why.specs.Reasons.{IsLeastList}
-use Rattle.sr_why.proofs.CaseLemmas.{listed-found}
 use Rattle.sr_why.proofs.ListedLemmas.{list-from_listed}
 use Rattle.sr_why.proofs.listed.least_list.Goals as goal
 
@@ -16,7 +16,7 @@ returns c =
     let case = c.args.case in
     let d = c.args.destination.0 in
     let x = c.args.post.now.failed in
-    let found : IsCaseListed m case d c.unwrap.result = listed-found m case d c.in_ok-found.found c.in_ok-found.ensures c.listed.result c.listed.ensures c.unwrap.result c.unwrap.ensures in
+    let found : IsCaseListed m case d c.unwrap.result = (MatchOption-at_some _ _ c.unwrap.result c.unwrap.ensures c.listed.ensures).1 in
     IfOk-weaker c.whole_list.result _ (IsLeastList m x (source_of m.graph case) d)
     (λ (whole : WholeList) e.
     let list : RepairList = record { first = whole.first; segments = whole.segments; cost = whole.cost } in

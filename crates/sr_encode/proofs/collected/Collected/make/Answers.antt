@@ -1,6 +1,8 @@
-use Rattle.std.proofs.Common.{◌≡◌, ◌+◌, ◌++◌, length, refl, ap, ◌∙◌, arith}
+use Rattle.std.proofs.Common.{◌≡◌, ◌+◌, ◌-◌, List, ◌++◌, length, slice_range, refl, ap, ◌∙◌, arith}
+use Rattle.sr_model.specs.declared.repair.Segment.{Segment}
+use Rattle.sr_encode.proofs.AnswerLemmas.{range-behind}
 use Rattle.std.proofs.lemmas.List.{length-append}
-use Rattle.sr_encode.specs.Waypoints.{waypoint_at, segments_to}
+use Rattle.sr_encode.specs.Waypoints.{path_to, waypoint_at, segments_to}
 use Rattle.sr_encode.proofs.QueueLemmas.{segments-long}
 use Rattle.sr_encode.proofs.collected.Collected.make.Goals as goal
 
@@ -22,9 +24,24 @@ overflow_cast-result c =
 pub returns-clause-adds : goal.returns-clause-adds
 returns-clause-adds c = record {
   queue = refl;
+  start = refl;
   outcomes = refl;
   known = refl;
   more = segments_to c.args.self.now.queue.now (waypoint_at c.args.self.now.queue.now c.args.place).depth c.args.place;
   segments = put c;
   few = omega (arith, segments-long c.args.self.now.queue.now (waypoint_at c.args.self.now.queue.now c.args.place).depth c.args.place, (c.requires.collected.parents c.args.place c.requires.place).1);
 }
+
+pub returns-clause-outcome : goal.returns-clause-outcome
+returns-clause-outcome c =
+    let queue = c.args.self.now.queue.now in
+    let old : List Segment = c.args.self.now.segments.items in
+    let list : List Segment = segments_to queue (waypoint_at queue c.args.place).depth c.args.place in
+    let begin : c.len-begin.result ≡ length old = omega (arith, c.len-begin.ensures, c.args.self.now.segments.ok.0) in
+    let long : c.len.result ≡ length c.extend_from_slice.new.self.items = omega (arith, c.len.ensures, c.extend_from_slice.new.self.ok.0) in
+    let end : c.len.result ≡ length (old ++ list) = long ∙ ap length (put c) in
+    let range : slice_range c.extend_from_slice.new.self.items c.len-begin.result c.len.result ≡ list = ap (λ (l : List Segment). slice_range l c.len-begin.result c.len.result) (put c) ∙ range-behind old list c.len-begin.result c.len.result begin end in
+    let first : c.args.self.now.start + ((waypoint_at queue c.args.place).first.0 - c.args.self.now.start) ≡ (waypoint_at queue c.args.place).first.0 = omega (arith, c.requires.begins) in (
+      let q : path_to queue c.args.place ≡ record { first = c.args.self.now.start + ((waypoint_at queue c.args.place).first.0 - c.args.self.now.start); segments = slice_range c.extend_from_slice.new.self.items c.len-begin.result c.len.result } = rw (first, range) refl in q,
+      (omega (arith, begin, end, length-append old list), omega (arith, long)),
+    )

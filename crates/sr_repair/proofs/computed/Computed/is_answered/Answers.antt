@@ -6,4 +6,4 @@ use Rattle.sr_repair.proofs.KeptLemmas.{answers-there}
 use Rattle.sr_repair.proofs.computed.Computed.is_answered.Goals as goal
 
 pub returns : goal.returns
-returns c = subst (λ (n : Net). IsAnswered n) c.self.view_is (answers-there c.self.inside.net (arc_value c.self.inside.shared).found.items c.self.invariant.2)
+returns c = subst (λ (n : Net). IsAnswered n) c.self.view_is (answers-there c.self.inside.net c.graph-graph.ensures.accepted.graph (arc_value c.self.inside.shared).found.items c.self.invariant.2)

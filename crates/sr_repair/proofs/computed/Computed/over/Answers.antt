@@ -1,4 +1,4 @@
-use Rattle.std.proofs.Common.{◌≡◌, ◌+◌, ◌-◌, ◌≤◌, Some, arith, ap}
+use Rattle.std.proofs.Common.{◌≡◌, ◌+◌, ◌-◌, ◌≤◌, Some, arith}
 use Rattle.sr_model.specs.Graph.{node_count}
 use Rattle.sr_laws.proofs.Keys.{nodes-same}
 use Rattle.sr_spf.specs.Trees.{AreTrees}
