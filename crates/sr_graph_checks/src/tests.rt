@@ -13,6 +13,7 @@ mod groups;
 mod labels;
 mod lanes;
 mod loads;
+mod renumbered;
 mod same;
 mod shares;
 mod spaces;
