@@ -88,7 +88,7 @@ begun-IsTentative g x s cells lost t = record {
 }
 
 -- before the first lost node is entered, no node waits
-pub entered-start : (g : Graph) (x : List Bool) (s : ℕ) (cells : List ℕ) (entries : Entries) (lost : List NodeNo) → IsBegun g x s cells lost → entries ≡ [] → IsEntered g x s cells entries lost 0
+pub entered-start : (g : Graph) (x : List Bool) (s : ℕ) (cells : List ℕ) (entries : Entries) (lost : List NodeNo) → IsBegun g x s cells lost → entries ≡ [] → IsEntered (record { graph = g; without = x; source = s }) cells entries lost 0
 entered-start g x s cells entries lost t none = record {
   kept = begun-IsTentative g x s cells lost t;
   inside = rw none (All-nil (IsNodeEntry g));
@@ -101,7 +101,7 @@ entered-start g x s cells entries lost t none = record {
 }
 
 -- after the last one the search may go on
-pub queued-entered : (g : Graph) (x : List Bool) (s : ℕ) (cells : List ℕ) (entries : Entries) (lost : List NodeNo) → IsEntered g x s cells entries lost (length lost) → IsQueued g x s cells entries s (link_count g)
+pub queued-entered : (g : Graph) (x : List Bool) (s : ℕ) (cells : List ℕ) (entries : Entries) (lost : List NodeNo) → IsEntered (record { graph = g; without = x; source = s }) cells entries lost (length lost) → IsQueued (record { graph = g; without = x; source = s }) cells entries s (link_count g)
 queued-entered g x s cells entries lost t = record {
   kept = t.kept;
   inside = t.inside;
@@ -125,13 +125,13 @@ stands-next lost i v w within at (j, from, below, is) =
     (cases_eq j i)
 
 -- a lost node whose cell no way lowers
-pub entered-stays : (g : Graph) (x : List Bool) (s : ℕ) (cells : List ℕ) (entries : Entries) (lost : List NodeNo) (i w c : ℕ) → IsEntered g x s cells entries lost i → i < length lost → get_or lost i (record { 0 = w }) ≡ record { 0 = w } → IsLeastWay g x s cells w c → get_or cells w 0 ≤ c → IsEntered g x s cells entries lost (i + 1)
+pub entered-stays : (g : Graph) (x : List Bool) (s : ℕ) (cells : List ℕ) (entries : Entries) (lost : List NodeNo) (i w c : ℕ) → IsEntered (record { graph = g; without = x; source = s }) cells entries lost i → i < length lost → get_or lost i (record { 0 = w }) ≡ record { 0 = w } → IsLeastWay g x s cells w c → get_or cells w 0 ≤ c → IsEntered (record { graph = g; without = x; source = s }) cells entries lost (i + 1)
 entered-stays g x s cells entries lost i w c t within place least stays = record {
   kept = t.kept;
   inside = t.inside;
   waits = λ v inside near. ⊎_elim
       (λ h. inl h)
-      (λ (settled : IsSettledBefore g x s cells lost i v). inr (λ l below outside carry begins. ⊎_elim
+      (λ (settled : IsSettledBefore (record { graph = g; without = x; source = s }) cells lost i v). inr (λ l below outside carry begins. ⊎_elim
       (λ (stands : StandsFrom lost i (head g l)). ⊎_elim
       (λ (e : head g l ≡ w). let le : c ≤ get_or cells (tail g l) 0 + metric g l = least.least l below outside carry e in inr (rw (ap (λ k. get_or cells k 0) e) (omega arith)))
       (λ behind. inl behind)
@@ -142,7 +142,7 @@ entered-stays g x s cells entries lost i w c t within place least stays = record
 }
 
 -- a lost node whose cell falls to c, so that it waits. The row after it is `a`
-module _ (g : Graph) (x : List Bool) (s : ℕ) (cells a : List ℕ) (entries entries' : Entries) (lost : List NodeNo) (i w c : ℕ) (t : IsEntered g x s cells entries lost i) (kept : IsTentative g x s a) (within : i < length lost) (place : get_or lost i (record { 0 = w }) ≡ record { 0 = w }) (node : w < node_count g) (least : IsLeastWay g x s cells w c) (lower : c < get_or cells w 0) (low : get_or a w 0 ≡ c) (others : (v : ℕ) → v ≢ w → get_or a v 0 ≡ get_or cells v 0) (perm : IsPermutation (entry c w ∷ entries) entries') where
+module _ (g : Graph) (x : List Bool) (s : ℕ) (cells a : List ℕ) (entries entries' : Entries) (lost : List NodeNo) (i w c : ℕ) (t : IsEntered (record { graph = g; without = x; source = s }) cells entries lost i) (kept : IsTentative g x s a) (within : i < length lost) (place : get_or lost i (record { 0 = w }) ≡ record { 0 = w }) (node : w < node_count g) (least : IsLeastWay g x s cells w c) (lower : c < get_or cells w 0) (low : get_or a w 0 ≡ c) (others : (v : ℕ) → v ≢ w → get_or a v 0 ≡ get_or cells v 0) (perm : IsPermutation (entry c w ∷ entries) entries') where
   no_higher : (v : ℕ) → get_or a v 0 ≤ get_or cells v 0
   no_higher v = ⊎_elim (λ e. rw e (omega arith)) (λ ne. omega (arith, others v ne)) (cases_eq v w)
 
@@ -152,7 +152,7 @@ module _ (g : Graph) (x : List Bool) (s : ℕ) (cells a : List ℕ) (entries ent
   new_in : Contains entries' (entry c w)
   new_in = Contains-permutation _ entries' _ perm (0, omega arith, refl)
 
-  still_settled : (v : ℕ) → v ≢ w → IsSettledBefore g x s cells lost i v → IsSettledBefore g x s a lost (i + 1) v
+  still_settled : (v : ℕ) → v ≢ w → IsSettledBefore (record { graph = g; without = x; source = s }) cells lost i v → IsSettledBefore (record { graph = g; without = x; source = s }) a lost (i + 1) v
   still_settled v apart settled l below outside carry begins =
       let same : get_or a (tail g l) 0 ≡ get_or cells (tail g l) 0 = others (tail g l) (λ e. apart (sym begins ∙ e)) in
       ⊎_elim
@@ -163,7 +163,7 @@ module _ (g : Graph) (x : List Bool) (s : ℕ) (cells a : List ℕ) (entries ent
       (λ (stable : get_or cells (head g l) 0 ≤ get_or cells (tail g l) 0 + metric g l). inr (omega (arith, no_higher (head g l))))
       (settled l below outside carry begins)
 
-  entered-lower : IsEntered g x s a entries' lost (i + 1)
+  entered-lower : IsEntered (record { graph = g; without = x; source = s }) a entries' lost (i + 1)
   entered-lower = record {
     kept = kept;
     inside = All-permutation (IsNodeEntry g) _ entries' perm (All-cons (IsNodeEntry g) (entry c w) entries (c, w, node, refl) t.inside);
@@ -185,7 +185,7 @@ fallen-IsTentative g x s cells w c t least lower =
     let r : relaxed (tail g l) (head g l) (metric g l) cells ≡ set cells w c = rw fell (rw (ends, is) refl) in
     subst (IsTentative g x s) r (relaxed-IsTentative g x s cells l t within outside carry)
 
-pub entered-push : (g : Graph) (x : List Bool) (s : ℕ) (cells : List ℕ) (entries entries' : Entries) (lost : List NodeNo) (i w c : ℕ) → IsEntered g x s cells entries lost i → i < length lost → get_or lost i (record { 0 = w }) ≡ record { 0 = w } → w < node_count g → IsLeastWay g x s cells w c → c < get_or cells w 0 → IsPermutation (entry c w ∷ entries) entries' → IsEntered g x s (set cells w c) entries' lost (i + 1)
+pub entered-push : (g : Graph) (x : List Bool) (s : ℕ) (cells : List ℕ) (entries entries' : Entries) (lost : List NodeNo) (i w c : ℕ) → IsEntered (record { graph = g; without = x; source = s }) cells entries lost i → i < length lost → get_or lost i (record { 0 = w }) ≡ record { 0 = w } → w < node_count g → IsLeastWay g x s cells w c → c < get_or cells w 0 → IsPermutation (entry c w ∷ entries) entries' → IsEntered (record { graph = g; without = x; source = s }) (set cells w c) entries' lost (i + 1)
 entered-push g x s cells entries entries' lost i w c t within place node least lower perm =
     entered-lower g x s cells (set cells w c) entries entries' lost i w c t (fallen-IsTentative g x s cells w c t.kept least lower) within place node least lower
     (get_or-set_same cells w c 0 (omega (arith, t.kept.long)))

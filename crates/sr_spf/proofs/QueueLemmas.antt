@@ -22,7 +22,7 @@ abbrev Entries : Type 0
 Entries = List (Reverse ℕ)
 
 -- links that are not looked at: they begin elsewhere, are in x, or no walk from s may take them
-pub queued-jump : (g : Graph) (x : List Bool) (s : ℕ) (cells : List ℕ) (entries : Entries) (u i j : ℕ) → IsQueued g x s cells entries u i → ((l : ℕ) → l < link_count g → l < j → tail g l ≡ u → has x l ≡ false → carries g s (tail g l) ≡ true → l < i) → IsQueued g x s cells entries u j
+pub queued-jump : (g : Graph) (x : List Bool) (s : ℕ) (cells : List ℕ) (entries : Entries) (u i j : ℕ) → IsQueued (record { graph = g; without = x; source = s }) cells entries u i → ((l : ℕ) → l < link_count g → l < j → tail g l ≡ u → has x l ≡ false → carries g s (tail g l) ≡ true → l < i) → IsQueued (record { graph = g; without = x; source = s }) cells entries u j
 queued-jump g x s cells entries u i j q looked = record {
   kept = q.kept;
   inside = q.inside;
@@ -33,13 +33,13 @@ queued-jump g x s cells entries u i j q looked = record {
 }
 
 -- one such link
-pub queued-skip : (g : Graph) (x : List Bool) (s : ℕ) (cells : List ℕ) (entries : Entries) (u i : ℕ) → IsQueued g x s cells entries u i → (has x i ≡ true) → IsQueued g x s cells entries u (i + 1)
+pub queued-skip : (g : Graph) (x : List Bool) (s : ℕ) (cells : List ℕ) (entries : Entries) (u i : ℕ) → IsQueued (record { graph = g; without = x; source = s }) cells entries u i → (has x i ≡ true) → IsQueued (record { graph = g; without = x; source = s }) cells entries u (i + 1)
 queued-skip g x s cells entries u i q inside =
     queued-jump g x s cells entries u i (i + 1) q (λ l within below begins outside carry.
     let ne : l ≢ i = λ f. (let o : has x i ≡ false = subst (λ k. has x k ≡ false) f outside in absurd (cc)) in omega arith)
 
 -- a link that lowers nothing
-pub queued-stays : (g : Graph) (x : List Bool) (s : ℕ) (cells : List ℕ) (entries : Entries) (u i : ℕ) → IsQueued g x s cells entries u i → falls (tail g i) (head g i) (metric g i) cells ≡ false → IsQueued g x s (relaxed (tail g i) (head g i) (metric g i) cells) entries u (i + 1)
+pub queued-stays : (g : Graph) (x : List Bool) (s : ℕ) (cells : List ℕ) (entries : Entries) (u i : ℕ) → IsQueued (record { graph = g; without = x; source = s }) cells entries u i → falls (tail g i) (head g i) (metric g i) cells ≡ false → IsQueued (record { graph = g; without = x; source = s }) (relaxed (tail g i) (head g i) (metric g i) cells) entries u (i + 1)
 queued-stays g x s cells entries u i q stays =
     rw (relaxed-stays g cells i stays).0 (record {
       kept = q.kept;
@@ -54,7 +54,7 @@ queued-stays g x s cells entries u i q stays =
     })
 
 -- a link that lowers its end's cell: that node waits again. The row after it is `a`
-module _ (g : Graph) (x : List Bool) (s : ℕ) (cells a : List ℕ) (entries entries' : Entries) (u i c : ℕ) (q : IsQueued g x s cells entries u i) (t : IsTentative g x s a) (within : i < link_count g) (is : c ≡ get_or cells (tail g i) 0 + metric g i) (lower : c < get_or cells (head g i) 0) (at : get_or a (head g i) 0 ≡ c) (others : (v : ℕ) → v ≢ head g i → get_or a v 0 ≡ get_or cells v 0) (perm : IsPermutation (entry (get_or a (head g i) 0) (head g i) ∷ entries) entries') where
+module _ (g : Graph) (x : List Bool) (s : ℕ) (cells a : List ℕ) (entries entries' : Entries) (u i c : ℕ) (q : IsQueued (record { graph = g; without = x; source = s }) cells entries u i) (t : IsTentative g x s a) (within : i < link_count g) (is : c ≡ get_or cells (tail g i) 0 + metric g i) (lower : c < get_or cells (head g i) 0) (at : get_or a (head g i) 0 ≡ c) (others : (v : ℕ) → v ≢ head g i → get_or a v 0 ≡ get_or cells v 0) (perm : IsPermutation (entry (get_or a (head g i) 0) (head g i) ∷ entries) entries') where
   no_higher : (v : ℕ) → get_or a v 0 ≤ get_or cells v 0
   no_higher v = ⊎_elim (λ e. rw e (omega arith)) (λ ne. omega (arith, others v ne)) (cases_eq v (head g i))
 
@@ -64,7 +64,7 @@ module _ (g : Graph) (x : List Bool) (s : ℕ) (cells a : List ℕ) (entries ent
   new_in : Contains entries' (entry (get_or a (head g i) 0) (head g i))
   new_in = Contains-permutation _ entries' _ perm (0, omega arith, refl)
 
-  still_settled : (v : ℕ) → v ≢ head g i → IsSettled g x s cells u i v → IsSettled g x s a u (i + 1) v
+  still_settled : (v : ℕ) → v ≢ head g i → IsSettled (record { graph = g; without = x; source = s }) cells u i v → IsSettled (record { graph = g; without = x; source = s }) a u (i + 1) v
   still_settled v apart settled l inside outside carry begins below =
       let same : get_or a (tail g l) 0 ≡ get_or cells (tail g l) 0 = others (tail g l) (λ e. apart (sym begins ∙ e)) in
       ⊎_elim
@@ -72,7 +72,7 @@ module _ (g : Graph) (x : List Bool) (s : ℕ) (cells a : List ℕ) (entries ent
       (λ (ne : l ≢ i). let old : get_or cells (head g l) 0 ≤ get_or cells (tail g l) 0 + metric g l = settled l inside outside carry begins (λ e. let b : l < i + 1 = below e in omega arith) in omega (arith, no_higher (head g l)))
       (cases_eq l i)
 
-  queued-lower : IsQueued g x s a entries' u (i + 1)
+  queued-lower : IsQueued (record { graph = g; without = x; source = s }) a entries' u (i + 1)
   queued-lower = record {
     kept = t;
     inside = let k : IsLink g (link_at g i) = q.kept.graph.each i within in All-permutation (IsNodeEntry g) _ entries' perm (All-cons (IsNodeEntry g) (entry (get_or a (head g i) 0) (head g i)) entries (get_or a (head g i) 0, head g i, k.1, refl) q.inside);
@@ -86,7 +86,7 @@ module _ (g : Graph) (x : List Bool) (s : ℕ) (cells a : List ℕ) (entries ent
         (cases_eq v (head g i));
   }
 
-pub queued-push : (g : Graph) (x : List Bool) (s : ℕ) (cells : List ℕ) (entries entries' : Entries) (u i : ℕ) → IsQueued g x s cells entries u i → i < link_count g → has x i ≡ false → carries g s (tail g i) ≡ true → falls (tail g i) (head g i) (metric g i) cells ≡ true → IsPermutation (entry (get_or cells (tail g i) 0 + metric g i) (head g i) ∷ entries) entries' → IsQueued g x s (relaxed (tail g i) (head g i) (metric g i) cells) entries' u (i + 1)
+pub queued-push : (g : Graph) (x : List Bool) (s : ℕ) (cells : List ℕ) (entries entries' : Entries) (u i : ℕ) → IsQueued (record { graph = g; without = x; source = s }) cells entries u i → i < link_count g → has x i ≡ false → carries g s (tail g i) ≡ true → falls (tail g i) (head g i) (metric g i) cells ≡ true → IsPermutation (entry (get_or cells (tail g i) 0 + metric g i) (head g i) ∷ entries) entries' → IsQueued (record { graph = g; without = x; source = s }) (relaxed (tail g i) (head g i) (metric g i) cells) entries' u (i + 1)
 queued-push g x s cells entries entries' u i q within outside carry fell perm =
     let t : IsTentative g x s (relaxed (tail g i) (head g i) (metric g i) cells) = relaxed-IsTentative g x s cells i q.kept within outside carry in
     let e : relaxed (tail g i) (head g i) (metric g i) cells ≡ set cells (head g i) (get_or cells (tail g i) 0 + metric g i) = rw fell refl in
@@ -113,7 +113,7 @@ pub popped-split : (entries entries' : Entries) (e : Reverse ℕ) → IsPermutat
 popped-split entries entries' e perm = subst (λ (m : ℕ). IsPermutation entries (record { 0 = m } ∷ entries')) (sym (div-add-mod' e.0 NUMBERS)) perm
 
 -- an entry is a node's
-pub popped-inside : (g : Graph) (x : List Bool) (s : ℕ) (cells : List ℕ) (entries entries' : Entries) (u c w : ℕ) → IsQueued g x s cells entries u (link_count g) → w < NUMBERS → IsPermutation entries (entry c w ∷ entries') → w < node_count g
+pub popped-inside : (g : Graph) (x : List Bool) (s : ℕ) (cells : List ℕ) (entries entries' : Entries) (u c w : ℕ) → IsQueued (record { graph = g; without = x; source = s }) cells entries u (link_count g) → w < NUMBERS → IsPermutation entries (entry c w ∷ entries') → w < node_count g
 popped-inside g x s cells entries entries' u c w q low perm =
     let is : IsNodeEntry g (entry c w) = All-head (IsNodeEntry g) (entry c w) entries' (All-permutation (IsNodeEntry g) entries (entry c w ∷ entries') perm q.inside) in
     let few : node_count g ≤ 256 = q.kept.graph.few_nodes in
@@ -121,7 +121,7 @@ popped-inside g x s cells entries entries' u c w q low perm =
     subst (λ k. k < node_count g) (sym same) is.2
 
 -- an entry whose cell is out of date is let go
-pub popped-stale : (g : Graph) (x : List Bool) (s : ℕ) (cells : List ℕ) (entries entries' : Entries) (u i c w : ℕ) → IsQueued g x s cells entries u i → w < NUMBERS → IsPermutation entries (entry c w ∷ entries') → c ≢ get_or cells w 0 → IsQueued g x s cells entries' u i
+pub popped-stale : (g : Graph) (x : List Bool) (s : ℕ) (cells : List ℕ) (entries entries' : Entries) (u i c w : ℕ) → IsQueued (record { graph = g; without = x; source = s }) cells entries u i → w < NUMBERS → IsPermutation entries (entry c w ∷ entries') → c ≢ get_or cells w 0 → IsQueued (record { graph = g; without = x; source = s }) cells entries' u i
 popped-stale g x s cells entries entries' u i c w q low perm old = record {
   kept = q.kept;
   inside = All-tail (IsNodeEntry g) (entry c w) entries' (All-permutation (IsNodeEntry g) entries (entry c w ∷ entries') perm q.inside);
@@ -138,7 +138,7 @@ popped-stale g x s cells entries entries' u i c w q low perm old = record {
 }
 
 -- a node whose entry is its cell is visited from its first link on
-pub popped-fresh : (g : Graph) (x : List Bool) (s : ℕ) (cells : List ℕ) (entries entries' : Entries) (u c w : ℕ) → IsQueued g x s cells entries u (link_count g) → w < NUMBERS → IsPermutation entries (entry c w ∷ entries') → IsQueued g x s cells entries' w 0
+pub popped-fresh : (g : Graph) (x : List Bool) (s : ℕ) (cells : List ℕ) (entries entries' : Entries) (u c w : ℕ) → IsQueued (record { graph = g; without = x; source = s }) cells entries u (link_count g) → w < NUMBERS → IsPermutation entries (entry c w ∷ entries') → IsQueued (record { graph = g; without = x; source = s }) cells entries' w 0
 popped-fresh g x s cells entries entries' u c w q low perm = record {
   kept = q.kept;
   inside = All-tail (IsNodeEntry g) (entry c w) entries' (All-permutation (IsNodeEntry g) entries (entry c w ∷ entries') perm q.inside);
@@ -157,7 +157,7 @@ popped-fresh g x s cells entries entries' u c w q low perm = record {
 }
 
 -- after a whole visit it does not matter whose it was
-pub queued-idle : (g : Graph) (x : List Bool) (s : ℕ) (cells : List ℕ) (entries : Entries) (u w : ℕ) → IsQueued g x s cells entries u (link_count g) → IsQueued g x s cells entries w (link_count g)
+pub queued-idle : (g : Graph) (x : List Bool) (s : ℕ) (cells : List ℕ) (entries : Entries) (u w : ℕ) → IsQueued (record { graph = g; without = x; source = s }) cells entries u (link_count g) → IsQueued (record { graph = g; without = x; source = s }) cells entries w (link_count g)
 queued-idle g x s cells entries u w q = record {
   kept = q.kept;
   inside = q.inside;
@@ -165,7 +165,7 @@ queued-idle g x s cells entries u w q = record {
 }
 
 -- with no entry left, the row is the row of distances
-pub IsRow-from_empty : (g : Graph) (x : List Bool) (s : ℕ) (cells : List ℕ) (u : ℕ) → IsQueued g x s cells [] u (link_count g) → IsRow g x s cells
+pub IsRow-from_empty : (g : Graph) (x : List Bool) (s : ℕ) (cells : List ℕ) (u : ℕ) → IsQueued (record { graph = g; without = x; source = s }) cells [] u (link_count g) → IsRow g x s cells
 IsRow-from_empty g x s cells u q =
     let stable : IsStableBelow g x s (link_count g) cells = λ l within outside carry.
     (let k : IsLink g (link_at g l) = q.kept.graph.each l within in
@@ -179,7 +179,7 @@ IsRow-from_empty g x s cells u q =
     IsRow-from_stable g x s cells q.kept stable
 
 -- before the first pop only the source has a walk, and it waits
-pub queued-start : (g : Graph) (x : List Bool) (s : ℕ) (cells : List ℕ) (entries : Entries) → IsTentative g x s cells → ((v : ℕ) → v < node_count g → v ≢ s → FAR ≤ get_or cells v 0) → IsPermutation (entry 0 s ∷ []) entries → IsQueued g x s cells entries s (link_count g)
+pub queued-start : (g : Graph) (x : List Bool) (s : ℕ) (cells : List ℕ) (entries : Entries) → IsTentative g x s cells → ((v : ℕ) → v < node_count g → v ≢ s → FAR ≤ get_or cells v 0) → IsPermutation (entry 0 s ∷ []) entries → IsQueued (record { graph = g; without = x; source = s }) cells entries s (link_count g)
 queued-start g x s cells entries t far perm = record {
   kept = t;
   inside = All-permutation (IsNodeEntry g) (entry 0 s ∷ []) entries perm (All-cons (IsNodeEntry g) (entry 0 s) [] (0, s, t.within, refl) (All-nil (IsNodeEntry g)));

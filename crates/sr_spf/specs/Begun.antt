@@ -5,7 +5,7 @@ use Rattle.sr_model.specs.declared.link.NodeNo.{NodeNo}
 use Rattle.sr_model.specs.declared.link.TheConstants.{FAR}
 use Rattle.sr_model.specs.Graph.{Graph, node_count, link_count, tail, head, metric, has, carries, IsGraph}
 use Rattle.sr_spf.specs.Relax.{IsTentative}
-use Rattle.sr_spf.specs.Queue.{entry, IsNodeEntry}
+use Rattle.sr_spf.specs.Queue.{entry, IsNodeEntry, Search}
 
 -- v is s, or a link outside x that a walk from s may take leads along the cells to v
 abbrev pub HasWay : Graph → List Bool → ℕ → List ℕ → ℕ → Type 0
@@ -34,21 +34,23 @@ abbrev pub StandsFrom : List NodeNo → ℕ → ℕ → Type 0
 StandsFrom lost i v =
     (j : ℕ) × (i ≤ j) × (j < length lost) × (slice_index_or lost j (record { 0 = v }) ≡ record { 0 = v })
 
--- a link of v that a walk from s may take would lower no cell, or leads to a node that stands at place i of the
+-- a link of v that a walk of the search may take would lower no cell, or leads to a node that stands at place i of the
 -- list or behind it
-abbrev pub IsSettledBefore : Graph → List Bool → ℕ → List ℕ → List NodeNo → ℕ → ℕ → Type 0
-IsSettledBefore g x s cells lost i v =
-    (l : ℕ) → l < link_count g → has x l ≡ false → carries g s (tail g l) ≡ true → tail g l ≡ v
-    → StandsFrom lost i (head g l) ⊎ (slice_index cells (head g l) ≤ slice_index cells (tail g l) + metric g l)
+abbrev pub IsSettledBefore : Search → List ℕ → List NodeNo → ℕ → ℕ → Type 0
+IsSettledBefore by cells lost i v =
+    (l : ℕ) → l < link_count by.graph → has by.without l ≡ false → carries by.graph by.source (tail by.graph l) ≡ true
+    → tail by.graph l ≡ v
+    → StandsFrom lost i (head by.graph l)
+    ⊎ (slice_index cells (head by.graph l) ≤ slice_index cells (tail by.graph l) + metric by.graph l)
 
 -- the lost nodes before place i were entered: each node that has a walk waits with its cell, or is settled but for
 -- the others
-pub record IsEntered (g : Graph) (x : List Bool) (s : ℕ) (cells : List ℕ) (entries : List (Reverse ℕ))
-    (lost : List NodeNo) (i : ℕ) : Type 0 where
-  pub kept : IsTentative g x s cells
-  pub inside : All (IsNodeEntry g) entries
-  pub waits : (v : ℕ) → v < node_count g → slice_index cells v < FAR
-      → Contains entries (entry (slice_index cells v) v) ⊎ IsSettledBefore g x s cells lost i v
+pub record IsEntered (by : Search) (cells : List ℕ) (entries : List (Reverse ℕ)) (lost : List NodeNo)
+    (i : ℕ) : Type 0 where
+  pub kept : IsTentative by.graph by.without by.source cells
+  pub inside : All (IsNodeEntry by.graph) entries
+  pub waits : (v : ℕ) → v < node_count by.graph → slice_index cells v < FAR
+      → Contains entries (entry (slice_index cells v) v) ⊎ IsSettledBefore by cells lost i v
 
 -- a number for each node, of at most FAR
 pub record HasCells (g : Graph) (cells : List ℕ) : Type 0 where

@@ -52,7 +52,8 @@ fn enter(
     requires begun { IsBegun graph.now without.now source.0 cells.old lost.now }
     requires empty { heap_items queue.old ≡ [] }
     ensures queued { OnOk result
-        (IsQueued graph.now without.now source.0 cells.new (heap_items queue.new) source.0 (link_count graph.now)) }
+        (IsQueued (record { graph = graph.now; without = without.now; source = source.0 })
+        cells.new (heap_items queue.new) source.0 (link_count graph.now)) }
 {
     for node in lost {
         let cell = least_way(graph, without, source, *node, cells);

@@ -55,9 +55,11 @@ fn visit(
     queue: &mut Queue,
 ) -> Result<(), AllocError>
     requires node { node.0 < node_count graph.now }
-    requires queued { IsQueued graph.now without.now source.0 cells.old (heap_items queue.old) node.0 0 }
+    requires queued { IsQueued (record { graph = graph.now; without = without.now; source = source.0 })
+        cells.old (heap_items queue.old) node.0 0 }
     ensures queued { OnOk result
-        (IsQueued graph.now without.now source.0 cells.new (heap_items queue.new) node.0 (link_count graph.now)) }
+        (IsQueued (record { graph = graph.now; without = without.now; source = source.0 })
+        cells.new (heap_items queue.new) node.0 (link_count graph.now)) }
     ensures work { OnOk result (2 * sum cells.new + heap_len queue.new ≤ 2 * sum cells.old + heap_len queue.old) }
 {
     if !graph.carries(source, node) {
@@ -84,8 +86,8 @@ pub(crate) fn settle(
     cells: &mut [u64],
     queue: &mut Queue,
 ) -> Result<(), AllocError>
-    requires queued { IsQueued graph.now without.now source.0 cells.old (heap_items queue.old)
-        source.0 (link_count graph.now) }
+    requires queued { IsQueued (record { graph = graph.now; without = without.now; source = source.0 })
+        cells.old (heap_items queue.old) source.0 (link_count graph.now) }
     ensures row { OnOk result (IsRow graph.now without.now source.0 cells.new) }
     ensures empty { OnOk result (heap_items queue.new ≡ []) }
 {

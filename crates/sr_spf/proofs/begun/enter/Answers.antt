@@ -22,4 +22,4 @@ loop-node-preserved c =
 pub returns : goal.returns
 returns c =
     let end : c.loop-node.node-index ≡ length c.args.lost.now = omega (arith, c.loop-node.auto.node-index-end, c.loop-node-test.false) in
-    record { queued = queued-entered _ _ _ _ _ _ (subst (λ k. IsEntered c.args.graph.now c.args.without.now c.args.source.0 c.loop-node.cells (heap_items c.loop-node.queue) c.args.lost.now k) end c.loop-node.invariant) }
+    record { queued = queued-entered _ _ _ _ _ _ (subst (λ k. IsEntered (record { graph = c.args.graph.now; without = c.args.without.now; source = c.args.source.0 }) c.loop-node.cells (heap_items c.loop-node.queue) c.args.lost.now k) end c.loop-node.invariant) }

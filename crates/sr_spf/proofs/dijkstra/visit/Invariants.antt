@@ -5,6 +5,6 @@ use Rattle.sr_spf.proofs.dijkstra.visit.Given as goal
 
 abbrev pub invariant-loop-i : goal.invariant-loop-i
 invariant-loop-i l =
-    IsQueued l.graph l.without l.fn.source.0 l.cells (heap_items l.queue) l.fn.node.0 l.i
+    IsQueued (record { graph = l.graph; without = l.without; source = l.fn.source.0 }) l.cells (heap_items l.queue) l.fn.node.0 l.i
     × (2 * sum l.cells + heap_len l.queue ≤ 2 * sum l.initial.cells + heap_len l.initial.queue)
     × (l.first ≤ l.i)
