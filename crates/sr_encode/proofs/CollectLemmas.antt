@@ -5,6 +5,7 @@ use Rattle.std.proofs.lemmas.Bool.{cases_eq, cases_lt}
 use Rattle.std.proofs.lemmas.List.{append-nil, length-append, length-set, get_or-set_same, get_or-set_other, get_or_push, get_or_append_left}
 use Rattle.std.proofs.lemmas.List.Elements.{All-push, All-weaker}
 use Rattle.sr_model.specs.declared.link.TheConstants.{FAR}
+use Rattle.sr_model.specs.declared.link.LinkNo.{LinkNo}
 use Rattle.sr_model.specs.declared.repair.Segment.{Segment}
 use Rattle.sr_model.specs.Label.{Net}
 use Rattle.sr_model.specs.Walk.{IsDistance, IsCell}
@@ -27,7 +28,7 @@ outcome-stays g after more k NoPath same start segments within is = is
 outcome-stays g after more k NoList same start segments within is = is
 outcome-stays g after more k (Least place begin end) same start segments within is =
     let range : slice_range after.segments.items begin end ≡ slice_range g.segments.items begin end = ap (λ (l : List Segment). slice_range l begin end) segments ∙ range-kept g.segments.items more begin end within.0 within.1 in
-    ap (λ q. path_to q k) same ∙ is ∙ ap (λ (l : List Segment). record { first = g.start + place; segments = l }) (sym range) ∙ ap (λ i. record { first = i + place; segments = slice_range after.segments.items begin end }) (sym start)
+    ap (λ q. path_to q k) same ∙ is ∙ ap (λ (l : List Segment). record { first = g.start.0 + place; segments = l }) (sym range) ∙ ap (λ (i : LinkNo). record { first = i.0 + place; segments = slice_range after.segments.items begin end }) (sym start)
 
 -- the outcome of one waypoint more
 pub collected-add : (g after : Collected) (k : ℕ) (more : List Segment) (o : Outcome) → IsCollected g → after.queue.now ≡ g.queue.now → after.start ≡ g.start → after.segments.items ≡ g.segments.items ++ more → length more ≤ most_segments → after.outcomes.items ≡ g.outcomes.items ++ o ∷ [] → after.known.items ≡ set g.known.items k (Some (length g.outcomes.items)) → k < length g.queue.now → HasSegments after.segments.items o → IsOutcomeOf after k o → IsCollected after
@@ -87,20 +88,20 @@ gains-nothing g r is lt = record {
 }
 
 -- what is listed for a destination that the waypoint at place k serves
-served-listed : (g : Collected) (n : Net) (x : List Bool) (s d k : ℕ) (o : Outcome) (cost : ℕ) → IsOutcomeOf g k o → IsLeast n x s d (path_to g.queue.now k) → IsDistance n.graph x s d cost → IsListed n x s d (answer_from g.start g.segments.items o cost)
+served-listed : (g : Collected) (n : Net) (x : List Bool) (s d k : ℕ) (o : Outcome) (cost : ℕ) → IsOutcomeOf g k o → IsLeast n x s d (path_to g.queue.now k) → IsDistance n.graph x s d cost → IsListed n x s d (answer_from g.start.0 g.segments.items o cost)
 served-listed g n x s d k NoPath cost is least far = absurd is
 served-listed g n x s d k NoList cost is least far = absurd is
 served-listed g n x s d k (Least place begin end) cost is least far = (subst (λ (p : Path). IsLeast n x s d p) is least, far)
 
 -- what a search finds to be listed for a destination
-found-listed : (g : Collected) (n : Net) (x : List Bool) (s d : ℕ) (cells : List ℕ) (place : Option ℕ) (r cost : ℕ) → IsResolved (record { net = n; failed = x; source = s; post = cells }) g.queue.now d place → IsCell n.graph x s d (slice_index cells d) → IsOutcomeFor g (slice_index cells d) place r → (slice_index cells d < FAR → cost ≡ slice_index cells d) → IsListed n x s d (answer_from g.start g.segments.items (outcome_at g.outcomes.items r) cost)
+found-listed : (g : Collected) (n : Net) (x : List Bool) (s d : ℕ) (cells : List ℕ) (place : Option ℕ) (r cost : ℕ) → IsResolved (record { net = n; failed = x; source = s; post = cells }) g.queue.now d place → IsCell n.graph x s d (slice_index cells d) → IsOutcomeFor g (slice_index cells d) place r → (slice_index cells d < FAR → cost ≡ slice_index cells d) → IsListed n x s d (answer_from g.start.0 g.segments.items (outcome_at g.outcomes.items r) cost)
 found-listed g n x s d cells None r cost found cell is same =
     ⊎_elim
     (λ (near : slice_index cells d < FAR).
     let way = cell.near near in
-    subst (λ (o : Outcome). IsListed n x s d (answer_from g.start g.segments.items o cost)) (sym (is.1 near)) ((way.reached.0, way.reached.1), found.none refl near))
+    subst (λ (o : Outcome). IsListed n x s d (answer_from g.start.0 g.segments.items o cost)) (sym (is.1 near)) ((way.reached.0, way.reached.1), found.none refl near))
     (λ (far : FAR ≤ slice_index cells d).
-    subst (λ (o : Outcome). IsListed n x s d (answer_from g.start g.segments.items o cost)) (sym (is.0 far)) (cell.far far))
+    subst (λ (o : Outcome). IsListed n x s d (answer_from g.start.0 g.segments.items o cost)) (sym (is.0 far)) (cell.far far))
     (cases_lt (slice_index cells d) FAR)
 found-listed g n x s d cells (Some k) r cost found cell is same =
     let least : IsLeast n x s d (path_to g.queue.now k) = (found.some k refl).1 in
@@ -111,7 +112,7 @@ found-listed g n x s d cells (Some k) r cost found cell is same =
     served-listed g n x s d k (outcome_at g.outcomes.items r) cost is least far
 
 -- the same for the queue that it was collected of
-pub listed-found : (n : Net) (s : ℕ) (queue : List Waypoint) (g : Collected) (x : List Bool) (d : ℕ) (cells : List ℕ) (place : Option ℕ) (r cost : ℕ) → g.queue.now ≡ queue → IsResolved (record { net = n; failed = x; source = s; post = cells }) queue d place → IsCell n.graph x s d (slice_index cells d) → IsOutcomeFor g (slice_index cells d) place r → (slice_index cells d < FAR → cost ≡ slice_index cells d) → IsListed n x s d (answer_from g.start g.segments.items (outcome_at g.outcomes.items r) cost)
+pub listed-found : (n : Net) (s : ℕ) (queue : List Waypoint) (g : Collected) (x : List Bool) (d : ℕ) (cells : List ℕ) (place : Option ℕ) (r cost : ℕ) → g.queue.now ≡ queue → IsResolved (record { net = n; failed = x; source = s; post = cells }) queue d place → IsCell n.graph x s d (slice_index cells d) → IsOutcomeFor g (slice_index cells d) place r → (slice_index cells d < FAR → cost ≡ slice_index cells d) → IsListed n x s d (answer_from g.start.0 g.segments.items (outcome_at g.outcomes.items r) cost)
 listed-found n s queue g x d cells place r cost waypoints found cell is same =
     let there : IsResolved (record { net = n; failed = x; source = s; post = cells }) g.queue.now d place = rw waypoints found in
     found-listed g n x s d cells place r cost there cell is same

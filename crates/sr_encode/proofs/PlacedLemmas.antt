@@ -18,7 +18,7 @@ use Rattle.sr_encode.specs.declared.kept.Outcome.TheVariants.{Least as ListOutco
 use Rattle.sr_encode.specs.declared.kept.Kept.{Kept}
 use Rattle.sr_encode.specs.Answered.{AreLists, AscendByNode, answer_at, destination_at}
 use Rattle.sr_encode.specs.Kept.{AreKeptWithin, HasSegments, IsListOutcome, answer_from, entries, entry_from, no_kept, outcome_at}
-use Rattle.sr_encode.specs.Placed.{HasNumber, HaveNumbers, StandFrom, StandsFrom}
+use Rattle.sr_encode.specs.Placed.{HasLinkNumber, HaveLinkNumbers, AreNotBefore, IsNotBefore}
 use Rattle.sr_encode.proofs.AnswerLemmas.{no_entry, kept-at}
 
 -- the links of a node that has one begin at one number
@@ -94,28 +94,28 @@ holds-some g r u =
     )
 
 -- the first link of a list that is listed is one of the source
-number-listed : (n : Net) (x : List Bool) (s d : ℕ) (a : Answer) → IsGraph n.graph → IsListed n x s d a → HasNumber a
+number-listed : (n : Net) (x : List Bool) (s d : ℕ) (a : Answer) → IsGraph n.graph → IsListed n x s d a → HasLinkNumber a
 number-listed n x s d NoPath r l = tt
 number-listed n x s d NoList r l = tt
 number-listed n x s d (TooDeep k) r l = tt
 number-listed n x s d (Least list) r l = omega (arith, l.0.sound.within, r.few_links)
 
-stands-listed : (n : Net) (x : List Bool) (s d i j : ℕ) (a : Answer) → HoldsLinks n.graph s i j → IsListed n x s d a → StandsFrom i a
+stands-listed : (n : Net) (x : List Bool) (s d i j : ℕ) (a : Answer) → HoldsLinks n.graph s i j → IsListed n x s d a → IsNotBefore i a
 stands-listed n x s d i j NoPath h l = tt
 stands-listed n x s d i j NoList h l = tt
 stands-listed n x s d i j (TooDeep k) h l = tt
 stands-listed n x s d i j (Least list) h l = (h.to list.first.0 l.0.sound.within l.0.sound.begins).0
 
 module _ (n : Net) (case : Case) (list : List NodeAnswer) (r : AreLists n case list) where
-  pub lists-numbered : IsGraph n.graph → HaveNumbers list
+  pub lists-numbered : IsGraph n.graph → HaveLinkNumbers list
   lists-numbered g i d lt =
       let l = r.answers i lt in
-      subst (λ (e : NodeAnswer). HasNumber e.answer) (get_or_default list i no_entry d lt) (number-listed n l.failed (source_of n.graph case) (destination_at list i) (answer_at list i) g l.listed)
+      subst (λ (e : NodeAnswer). HasLinkNumber e.answer) (get_or_default list i no_entry d lt) (number-listed n l.failed (source_of n.graph case) (destination_at list i) (answer_at list i) g l.listed)
 
-  pub lists-stand : (first end : ℕ) → HoldsLinks n.graph (source_of n.graph case) first end → StandFrom first list
+  pub lists-stand : (first end : ℕ) → HoldsLinks n.graph (source_of n.graph case) first end → AreNotBefore first list
   lists-stand first end h i d lt =
       let l = r.answers i lt in
-      subst (λ (e : NodeAnswer). StandsFrom first e.answer) (get_or_default list i no_entry d lt) (stands-listed n l.failed (source_of n.graph case) (destination_at list i) first end (answer_at list i) h l.listed)
+      subst (λ (e : NodeAnswer). IsNotBefore first e.answer) (get_or_default list i no_entry d lt) (stands-listed n l.failed (source_of n.graph case) (destination_at list i) first end (answer_at list i) h l.listed)
 
 -- what is true of the answers is true of the outcomes, since each list is that of some destination
 module _ (start : ℕ) (segments : List Segment) (outcomes : List Outcome) (kept : List Kept) (within : AreKeptWithin segments outcomes kept) (P : Outcome → Type 0) (Q : Answer → Type 0) (path : P NoPathOutcome) (none : P NoListOutcome) (some : (place begin end cost : ℕ) → HasSegments segments (ListOutcome place begin end) → Q (answer_from start segments (ListOutcome place begin end) cost) → P (ListOutcome place begin end)) (all : All (λ (e : NodeAnswer). Q e.answer) (entries segments outcomes kept start)) where

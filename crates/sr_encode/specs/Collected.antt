@@ -23,7 +23,7 @@ abbrev pub IsOutcomeOf : Collected → ℕ → Outcome → Type 0
 IsOutcomeOf g k NoPath = ⊥
 IsOutcomeOf g k NoList = ⊥
 IsOutcomeOf g k (Least place begin end) =
-    path_to g.queue.now k ≡ record { first = g.start + place; segments = slice_range g.segments.items begin end }
+    path_to g.queue.now k ≡ record { first = g.start.0 + place; segments = slice_range g.segments.items begin end }
 
 -- the outcome at place r is that of the waypoint at this place, and else no path where the cost is FAR, or no list
 abbrev pub IsOutcomeFor : Collected → ℕ → Option ℕ → ℕ → Type 0
@@ -66,13 +66,13 @@ pub record Gains (before after : Collected) (r : ℕ) : Type 0 where
   pub last : 0 < length added → r ≡ length before.outcomes.items
   pub within : r < length after.outcomes.items
 
--- the first link of the list to the waypoint at place k doesn't stand before link number `start`
-abbrev pub BeginsFrom : ℕ → List Waypoint → ℕ → Type 0
-BeginsFrom start queue k = start ≤ (waypoint_at queue k).first.0
+-- a waypoint stands at place k of the queue, and its first link isn't before those of the source
+abbrev pub StandsIn : Collected → ℕ → Type 0
+StandsIn g k = (k < length g.queue.now) × (g.start.0 ≤ (waypoint_at g.queue.now k).first.0)
 
 -- no waypoint of the search has an outcome yet
 pub record IsStarted (waypoints : List Waypoint) (first : ℕ) (g : Collected) : Type 0 where
   pub collected : IsCollected g
   pub queue : g.queue.now ≡ waypoints
-  pub start : g.start ≡ first
+  pub start : g.start.0 ≡ first
   pub few : length g.outcomes.items ≡ 2

@@ -12,8 +12,8 @@ use Rattle.sr_encode.specs.declared.kept.Kept.{Kept}
 abbrev pub outcome_at : List Outcome → ℕ → Outcome
 outcome_at outcomes r = slice_index_or outcomes r NoPathOutcome
 
--- what is listed by an outcome at this cost, where these are the segments of all lists, and the links of the source stand
--- from link number `start` on
+-- what is listed by an outcome at this cost, where these are the segments of all lists, and the links of the source
+-- stand from link number `start` on
 abbrev pub answer_from : ℕ → List Segment → Outcome → ℕ → Answer
 answer_from start segments NoPathOutcome cost = NoPath
 answer_from start segments NoListOutcome cost = NoList

@@ -30,23 +30,23 @@ pub record ArePlacedLists (n : Net) (case : Case) (listing : Listing) : Type 0 w
       → AreLists n case (listed_from first listing)
 
 -- where the answer is a list, its first link is one that a graph can have
-abbrev pub HasNumber : Answer → Type 0
-HasNumber (Least list) = list.first.0 < MOST_LINKS
-HasNumber NoPath = Unit {0}
-HasNumber NoList = Unit {0}
-HasNumber (TooDeep needed) = Unit {0}
+abbrev pub HasLinkNumber : Answer → Type 0
+HasLinkNumber (Least list) = list.first.0 < MOST_LINKS
+HasLinkNumber NoPath = Unit {0}
+HasLinkNumber NoList = Unit {0}
+HasLinkNumber (TooDeep needed) = Unit {0}
 
 -- so it is with each answer
-abbrev pub HaveNumbers : List NodeAnswer → Type 0
-HaveNumbers list = All (λ (e : NodeAnswer). HasNumber e.answer) list
+abbrev pub HaveLinkNumbers : List NodeAnswer → Type 0
+HaveLinkNumbers list = All (λ (e : NodeAnswer). HasLinkNumber e.answer) list
 
 -- where the answer is a list, its first link doesn't stand before link number `start`
-abbrev pub StandsFrom : ℕ → Answer → Type 0
-StandsFrom start (Least list) = start ≤ list.first.0
-StandsFrom start NoPath = Unit {0}
-StandsFrom start NoList = Unit {0}
-StandsFrom start (TooDeep needed) = Unit {0}
+abbrev pub IsNotBefore : ℕ → Answer → Type 0
+IsNotBefore start (Least list) = start ≤ list.first.0
+IsNotBefore start NoPath = Unit {0}
+IsNotBefore start NoList = Unit {0}
+IsNotBefore start (TooDeep needed) = Unit {0}
 
 -- so it is with each answer
-abbrev pub StandFrom : ℕ → List NodeAnswer → Type 0
-StandFrom start list = All (λ (e : NodeAnswer). StandsFrom start e.answer) list
+abbrev pub AreNotBefore : ℕ → List NodeAnswer → Type 0
+AreNotBefore start list = All (λ (e : NodeAnswer). IsNotBefore start e.answer) list

@@ -39,28 +39,28 @@ moved_entries links list = map (moved_entry links) list
 
 -- the new number of the link at this place among the old links of the source
 abbrev pub moved_first : Renumbering → ℕ → ℕ
-moved_first r place = (moved_link r.links.now (record { 0 = r.before + place })).0
+moved_first r place = (moved_link r.links.now (record { 0 = r.before.0 + place })).0
 
 -- the outcome, its first link told by its place among the new links of the source
 abbrev pub moved_outcome : Renumbering → Outcome → Outcome
 moved_outcome r NoPathOutcome = NoPathOutcome
 moved_outcome r NoListOutcome = NoListOutcome
-moved_outcome r (ListOutcome place begin end) = ListOutcome (moved_first r place - r.after) begin end
+moved_outcome r (ListOutcome place begin end) = ListOutcome (moved_first r place - r.after.0) begin end
 
 -- the place of the outcome's first link, counted from link number `start`, is that of a link that a graph can have
-abbrev pub HasPlace : ℕ → Outcome → Type 0
-HasPlace start NoPathOutcome = Unit {0}
-HasPlace start NoListOutcome = Unit {0}
-HasPlace start (ListOutcome place begin end) = start + place < MOST_LINKS
+abbrev pub HasLinkPlace : ℕ → Outcome → Type 0
+HasLinkPlace start NoPathOutcome = Unit {0}
+HasLinkPlace start NoListOutcome = Unit {0}
+HasLinkPlace start (ListOutcome place begin end) = start + place < MOST_LINKS
 
 -- so it is before, and the new number of the first link isn't below that at which the new links of the source begin
 abbrev pub CanMove : Renumbering → Outcome → Type 0
 CanMove r NoPathOutcome = Unit {0}
 CanMove r NoListOutcome = Unit {0}
-CanMove r (ListOutcome place begin end) = (r.before + place < MOST_LINKS) × (r.after ≤ moved_first r place)
+CanMove r (ListOutcome place begin end) = (r.before.0 + place < MOST_LINKS) × (r.after.0 ≤ moved_first r place)
 
 -- the outcome's first link has the same place among the new links of the source
 abbrev pub KeepsPlace : Renumbering → Outcome → Type 0
 KeepsPlace r NoPathOutcome = Unit {0}
 KeepsPlace r NoListOutcome = Unit {0}
-KeepsPlace r (ListOutcome place begin end) = moved_first r place ≡ r.after + place
+KeepsPlace r (ListOutcome place begin end) = moved_first r place ≡ r.after.0 + place

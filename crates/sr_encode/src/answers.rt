@@ -5,11 +5,11 @@ ghost use Rattle.sr_encode.specs.declared.answers.NodeAnswer.{NodeAnswer as Entr
 ghost use Rattle.sr_encode.specs.Answered.{HasAnswer, NoAnswer, answer_at, counts_in, node_answer_at};
 ghost use Rattle.sr_encode.specs.Codes.{AreCodes};
 ghost use Rattle.sr_encode.specs.Limited.{limited_entries};
-ghost use Rattle.sr_encode.specs.Placed.{listed_from, HaveNumbers};
+ghost use Rattle.sr_encode.specs.Placed.{listed_from, HaveLinkNumbers};
 
 use crate::case_lists::CaseLists;
 use crate::codes::Codes;
-use sr_model::{Answer, Counts, NodeNo};
+use sr_model::{Answer, Counts, LinkNo, NodeNo};
 use std::marker::Model;
 
 /// The answer for a destination.
@@ -24,8 +24,8 @@ pub struct NodeAnswer<'a> {
 #[derive(Debug, Drop)]
 pub struct CaseAnswers<'a> {
     lists: &'a CaseLists,
-    /// The number at which the links of the source begin.
-    start: u16,
+    /// The link at which those of the source begin.
+    start: LinkNo,
     limit: u16,
 }
 
@@ -33,21 +33,21 @@ impl<'a> Model for CaseAnswers<'a> {
     ghost use Rattle.std.specs.Prelude.{List};
     ghost use Rattle.sr_encode.specs.declared.answers.NodeAnswer.{NodeAnswer as Entry};
     ghost use Rattle.sr_encode.specs.Limited.{limited_entries};
-    ghost use Rattle.sr_encode.specs.Placed.{listed_from, HaveNumbers};
+    ghost use Rattle.sr_encode.specs.Placed.{listed_from, HaveLinkNumbers};
 
     ghost Value = { List Entry };
 
-    ghost view = { λ a. limited_entries a.limit (listed_from a.start a.lists.now) };
+    ghost view = { λ a. limited_entries a.limit (listed_from a.start.0 a.lists.now) };
 
-    ghost invariant = { λ a. HaveNumbers (listed_from a.start a.lists.now) };
+    ghost invariant = { λ a. HaveLinkNumbers (listed_from a.start.0 a.lists.now) };
 }
 
 impl<'a> CaseAnswers<'a> {
     /// The answers where these are listed, the links of the source begin at this one, and lists of fewer segments than the
     /// limit are let through.
-    pub(crate) fn new(lists: &'a CaseLists, start: u16, limit: u16) -> CaseAnswers<'a>
-        requires { HaveNumbers (listed_from start lists.now) }
-        ensures { result ≡ limited_entries limit (listed_from start lists.now) }
+    pub(crate) fn new(lists: &'a CaseLists, start: LinkNo, limit: u16) -> CaseAnswers<'a>
+        requires { HaveLinkNumbers (listed_from start.0 lists.now) }
+        ensures { result ≡ limited_entries limit (listed_from start.0 lists.now) }
     {
         CaseAnswers {
             lists,

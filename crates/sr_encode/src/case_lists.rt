@@ -1,7 +1,8 @@
 //! What is listed in a case, however deep.
 ghost use Rattle.std.specs.Prelude.{◌≡◌, ◌↔◌, ◌<◌, ◌≤◌, ℕ, [], List, length, All, IfOk, IsTrue, MatchOption};
 ghost use Rattle.sr_model.specs.declared.repair.Segment.{Segment};
-ghost use Rattle.sr_model.specs.Case.{IsCase, IsAffected};
+ghost use Rattle.sr_model.specs.Case.{IsCase, IsAffected, source_of};
+ghost use Rattle.sr_graph.specs.Ranges.{HoldsLinks};
 ghost use Rattle.sr_laws.specs.Listed.{IsCaseListed};
 ghost use Rattle.sr_encode.specs.declared.answers.NodeAnswer.{NodeAnswer as Entry};
 ghost use Rattle.sr_encode.specs.declared.kept.Kept.{Kept};
@@ -9,7 +10,7 @@ ghost use Rattle.sr_encode.specs.Answered.{AreAnswers, AscendByNode, NoAnswer, a
 ghost use Rattle.sr_encode.specs.Codes.{AreCodes};
 ghost use Rattle.sr_encode.specs.Kept.{AreKeptWithin, entries};
 ghost use Rattle.sr_encode.specs.Limited.{limited_entries, limited_entry};
-ghost use Rattle.sr_encode.specs.Placed.{listed_from, ArePlacedLists, HasNumber, HaveNumbers, StandFrom};
+ghost use Rattle.sr_encode.specs.Placed.{listed_from, ArePlacedLists, HasLinkNumber, HaveLinkNumbers, AreNotBefore};
 ghost use Rattle.sr_encode.specs.Renumbered.{moved_entries};
 
 use crate::answers::{CaseAnswers, NodeAnswer};
@@ -19,8 +20,9 @@ use crate::limit::{are_let_through, limit_at};
 use crate::renumbered::{
     Renumbering, copied_answers, keep_numbers, keep_places, moved_outcomes, moved_segments,
 };
+use sr_graph::Graph;
 use sr_labels::Net;
-use sr_model::{Answer, Case, Counts, NodeNo, Segment};
+use sr_model::{Answer, Case, Counts, LinkNo, NodeNo, Segment};
 use std::alloc::{AllocError, Global};
 use std::marker::Model;
 
@@ -28,7 +30,8 @@ use std::marker::Model;
 fn counted(outcomes: &[Outcome], list: &[Kept]) -> Counts
     requires few { length list.now ≤ 256 }
     requires outcomes { All (λ (k : Kept). k.outcome < length outcomes.now) list.now }
-    ensures { (segments : List Segment) (start : ℕ) → result ≡ counts_in (entries segments outcomes.now list.now start) }
+    ensures { (segments : List Segment) (start : ℕ) →
+        result ≡ counts_in (entries segments outcomes.now list.now start) }
 {
     let mut counts = Counts {
         covered: 0,
@@ -44,6 +47,15 @@ fn counted(outcomes: &[Outcome], list: &[Kept]) -> Counts
         }
     }
     counts
+}
+
+/// The link at which those of the source of the case begin.
+fn start_of(graph: &Graph, case: Case) -> LinkNo
+    requires { IsCase graph.now case }
+    ensures { (end : ℕ) × HoldsLinks graph.now (source_of graph.now case) result.0 end }
+{
+    let source = graph.edge(case.link).from;
+    LinkNo(graph.links_from(source).first)
 }
 
 /// What is listed for the affected destinations of a case, in order of destination: the least list, however many segments
@@ -105,9 +117,9 @@ impl CaseLists {
     /// Whether the same is listed so where links have these numbers. It is so unless a link of the source has another place
     /// or an adjacency segment another number.
     pub fn keeps_numbers(&self, numbers: &Renumbering<'_>) -> bool
-        requires numbers { HaveNumbers (listed_from numbers.now.before self.now) }
-        ensures { IsTrue result → listed_from numbers.now.after self.now
-            ≡ moved_entries numbers.now.links.now (listed_from numbers.now.before self.now) }
+        requires numbers { HaveLinkNumbers (listed_from numbers.now.before.0 self.now) }
+        ensures { IsTrue result → listed_from numbers.now.after.0 self.now
+            ≡ moved_entries numbers.now.links.now (listed_from numbers.now.before.0 self.now) }
     {
         keep_places(&self.outcomes, numbers) && keep_numbers(&self.segments, numbers.links)
     }
@@ -118,10 +130,11 @@ impl CaseLists {
         alloc: Global,
         numbers: &Renumbering<'_>,
     ) -> Result<CaseLists, AllocError>
-        requires numbers { HaveNumbers (listed_from numbers.now.before self.now) }
-        requires begin { StandFrom numbers.now.after (moved_entries numbers.now.links.now (listed_from numbers.now.before self.now)) }
-        ensures { IfOk result (λ moved. listed_from numbers.now.after moved
-            ≡ moved_entries numbers.now.links.now (listed_from numbers.now.before self.now)) }
+        requires numbers { HaveLinkNumbers (listed_from numbers.now.before.0 self.now) }
+        requires begin { AreNotBefore numbers.now.after.0
+            (moved_entries numbers.now.links.now (listed_from numbers.now.before.0 self.now)) }
+        ensures { IfOk result (λ moved. listed_from numbers.now.after.0 moved
+            ≡ moved_entries numbers.now.links.now (listed_from numbers.now.before.0 self.now)) }
     {
         Ok(CaseLists {
             kept: copied_answers(alloc, &self.kept)?,
@@ -138,9 +151,9 @@ impl CaseLists {
         requires lists { ArePlacedLists net.now case self.now }
         ensures { AreAnswers net.now case result }
     {
-        let source = net.graph().edge(case.link).from;
-        let start = net.graph().links_from(source).first;
-        CaseAnswers::new(self, start, limit_at(net, source))
+        let graph = net.graph();
+        let source = graph.edge(case.link).from;
+        CaseAnswers::new(self, start_of(graph, case), limit_at(net, source))
     }
 
     /// How many destinations there are.
@@ -153,10 +166,10 @@ impl CaseLists {
 
     /// The answer at this place, in order of destination, where the links of the source begin at this one, and lists of fewer
     /// segments than the limit are let through.
-    pub(crate) fn limited_at(&self, start: u16, place: usize, limit: u16) -> NodeAnswer<'_>
-        requires place { place < length (listed_from start self.now) }
-        requires number { HasNumber (answer_at (listed_from start self.now) place) }
-        ensures { result ≡ limited_entry limit (node_answer_at (listed_from start self.now) place) }
+    pub(crate) fn limited_at(&self, start: LinkNo, place: usize, limit: u16) -> NodeAnswer<'_>
+        requires place { place < length (listed_from start.0 self.now) }
+        requires number { HasLinkNumber (answer_at (listed_from start.0 self.now) place) }
+        ensures { result ≡ limited_entry limit (node_answer_at (listed_from start.0 self.now) place) }
     {
         let kept = self.kept[place];
         let outcome = self.outcomes[kept.outcome as usize];
@@ -183,7 +196,8 @@ impl CaseLists {
 
     /// Whether each list has fewer segments than the limit: then the answers are what is listed.
     pub(crate) fn are_let_through(&self, limit: u16) -> bool
-        ensures { (start : ℕ) → IsTrue result ↔ (limited_entries limit (listed_from start self.now) ≡ listed_from start self.now) }
+        ensures { (start : ℕ) →
+            IsTrue result ↔ (limited_entries limit (listed_from start self.now) ≡ listed_from start self.now) }
     {
         are_let_through(&self.outcomes, limit)
     }
@@ -192,7 +206,8 @@ impl CaseLists {
     pub(crate) fn place_of(&self, destination: NodeNo) -> Option<usize>
         ensures { (start : ℕ) → MatchOption result
             (NoAnswer (listed_from start self.now) destination.0)
-            (λ place. (place < length (listed_from start self.now)) × (destination_at (listed_from start self.now) place ≡ destination.0)) }
+            (λ place. (place < length (listed_from start self.now))
+            × (destination_at (listed_from start self.now) place ≡ destination.0)) }
     {
         match self
             .kept
@@ -204,10 +219,10 @@ impl CaseLists {
     }
 
     /// What is listed at this place, in order of destination, where the links of the source begin at this one.
-    fn listed_at(&self, start: u16, place: usize) -> Answer<'_>
-        requires place { place < length (listed_from start self.now) }
-        requires number { HasNumber (answer_at (listed_from start self.now) place) }
-        ensures { result ≡ answer_at (listed_from start self.now) place }
+    fn listed_at(&self, start: LinkNo, place: usize) -> Answer<'_>
+        requires place { place < length (listed_from start.0 self.now) }
+        requires number { HasLinkNumber (answer_at (listed_from start.0 self.now) place) }
+        ensures { result ≡ answer_at (listed_from start.0 self.now) place }
     {
         let kept = self.kept[place];
         let outcome = self.outcomes[kept.outcome as usize];
@@ -223,8 +238,7 @@ impl CaseLists {
             (IsAffected net.now case destination.0 → ⊥)
             (λ answer. IsAffected net.now case destination.0 × IsCaseListed net.now case destination.0 answer) }
     {
-        let source = net.graph().edge(case.link).from;
-        let start = net.graph().links_from(source).first;
+        let start = start_of(net.graph(), case);
         match self.place_of(destination) {
             Some(place) => Some(self.listed_at(start, place)),
             None => None,

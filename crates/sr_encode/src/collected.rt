@@ -1,12 +1,12 @@
 //! The outcomes of a search as they are collected, each once.
-ghost use Rattle.std.specs.Prelude.{◌≡◌, ◌<◌, ◌≤◌, length, IfOk, OnOk, Some};
-ghost use Rattle.sr_encode.specs.Collected.{most_outcomes, BeginsFrom, IsOutcomeOf, IsOutcomeFor, IsCollected, IsStarted, HasMoreSegments, Gains};
+ghost use Rattle.std.specs.Prelude.{◌≡◌, ◌≤◌, length, IfOk, OnOk, Some};
+ghost use Rattle.sr_encode.specs.Collected.{most_outcomes, IsOutcomeOf, IsOutcomeFor, IsCollected, IsStarted, StandsIn, HasMoreSegments, Gains};
 ghost use Rattle.sr_encode.specs.Kept.{HasSegments, outcome_at};
 ghost use Rattle.sr_encode.specs.Waypoints.{AreParents};
 
 use crate::kept::{NO_LIST, NO_PATH, Outcome};
 use crate::waypoint::{Waypoint, read_segments};
-use sr_model::{FAR, Segment};
+use sr_model::{FAR, LinkNo, Segment};
 use std::alloc::{AllocError, Global};
 
 /// The outcomes of a search, whose waypoints stand in `queue`, and the segments of their lists. A waypoint gets its outcome
@@ -15,7 +15,7 @@ use std::alloc::{AllocError, Global};
 pub(crate) struct Collected<'a> {
     queue: &'a [Waypoint],
     /// The link at which those of the source begin.
-    start: u16,
+    start: LinkNo,
     pub(crate) outcomes: Vec<Outcome>,
     /// The segments of the lists, one list after the other.
     pub(crate) segments: Vec<Segment>,
@@ -30,10 +30,10 @@ impl<'a> Collected<'a> {
     pub(crate) fn new(
         alloc: Global,
         queue: &'a [Waypoint],
-        start: u16,
+        start: LinkNo,
     ) -> Result<Collected<'a>, AllocError>
         requires { AreParents queue.now }
-        ensures { IfOk result (IsStarted queue.now start) }
+        ensures { IfOk result (IsStarted queue.now start.0) }
     {
         let mut outcomes = Vec::with_capacity(alloc, 8)?;
         outcomes.push(Outcome::NoPath)?;
@@ -48,59 +48,58 @@ impl<'a> Collected<'a> {
         })
     }
 
-    /// The outcome of the waypoint at this place of the queue. The segments of its list are put behind those of the
-    /// others.
-    fn make(&mut self, place: u16) -> Result<Outcome, AllocError>
+    /// The outcome of this waypoint of the queue. The segments of its list are put behind those of the others.
+    fn make(&mut self, waypoint: u16) -> Result<Outcome, AllocError>
         requires collected { IsCollected self.old }
         requires few { length self.old.outcomes.items ≤ most_outcomes }
-        requires place { place < length self.old.queue.now }
-        requires begins { BeginsFrom self.old.start self.old.queue.now place }
+        requires waypoint { StandsIn self.old waypoint }
         ensures adds { OnOk result (HasMoreSegments self.old self.new) }
         ensures outcome { IfOk result (λ made.
-            IsOutcomeOf self.new place made × HasSegments self.new.segments.items made) }
+            IsOutcomeOf self.new waypoint made × HasSegments self.new.segments.items made) }
     {
-        let first = self.queue[place as usize].first;
-        let behind = first.0 - self.start;
-        read_segments(self.queue, place as usize, &mut self.list)?;
+        let place = self.queue[waypoint as usize].first.0 - self.start.0;
+        read_segments(self.queue, waypoint as usize, &mut self.list)?;
         let begin = self.segments.len() as u32;
         self.segments.extend_from_slice(&self.list)?;
         Ok(Outcome::Least {
-            place: behind,
+            place,
             begin,
             end: self.segments.len() as u32,
         })
     }
 
-    /// The place of the outcome of the waypoint at this place of the queue.
-    fn outcome_of(&mut self, place: u16) -> Result<u16, AllocError>
+    /// The place of the outcome of this waypoint of the queue.
+    fn outcome_of(&mut self, waypoint: u16) -> Result<u16, AllocError>
         requires collected { IsCollected self.old }
         requires few { length self.old.outcomes.items ≤ most_outcomes }
-        requires begins { BeginsFrom self.old.start self.old.queue.now place }
-        requires place { place < length self.old.queue.now }
+        requires waypoint { StandsIn self.old waypoint }
         ensures gains { IfOk result (Gains self.old self.new) }
-        ensures outcome { IfOk result (λ r. IsOutcomeOf self.new place (outcome_at self.new.outcomes.items r)) }
+        ensures outcome { IfOk result (λ r. IsOutcomeOf self.new waypoint (outcome_at self.new.outcomes.items r)) }
     {
-        if let Some(known) = self.known[place as usize] {
+        if let Some(known) = self.known[waypoint as usize] {
             return Ok(known);
         }
-        let outcome = self.make(place)?;
+        let outcome = self.make(waypoint)?;
         let last = self.outcomes.len() as u16;
         self.outcomes.push(outcome)?;
-        self.known[place as usize] = Some(last);
+        self.known[waypoint as usize] = Some(last);
         Ok(last)
     }
 
-    /// The place of the outcome for a destination at this distance, which the waypoint at this place of the queue serves,
-    /// if one does.
-    pub(crate) fn outcome_for(&mut self, cost: u64, place: Option<u16>) -> Result<u16, AllocError>
+    /// The place of the outcome for a destination at this distance, which this waypoint of the queue serves, if one does.
+    pub(crate) fn outcome_for(
+        &mut self,
+        cost: u64,
+        waypoint: Option<u16>,
+    ) -> Result<u16, AllocError>
         requires collected { IsCollected self.old }
         requires few { length self.old.outcomes.items ≤ most_outcomes }
-        requires place { (k : _) → place ≡ Some k → (k < length self.old.queue.now) × BeginsFrom self.old.start self.old.queue.now k }
+        requires waypoint { (k : _) → waypoint ≡ Some k → StandsIn self.old k }
         ensures gains { IfOk result (Gains self.old self.new) }
-        ensures outcome { IfOk result (IsOutcomeFor self.new cost place) }
+        ensures outcome { IfOk result (IsOutcomeFor self.new cost waypoint) }
     {
-        match place {
-            Some(place) => self.outcome_of(place),
+        match waypoint {
+            Some(waypoint) => self.outcome_of(waypoint),
             None if cost >= FAR => Ok(NO_PATH),
             None => Ok(NO_LIST),
         }

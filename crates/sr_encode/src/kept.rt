@@ -1,7 +1,7 @@
 //! How what is listed in a case is kept: what destinations share of it once, and eight octets for each destination.
 ghost use Rattle.std.specs.Prelude.{◌≡◌};
 ghost use Rattle.sr_encode.specs.Kept.{HasSegments, answer_from};
-ghost use Rattle.sr_encode.specs.Placed.{HasNumber};
+ghost use Rattle.sr_encode.specs.Placed.{HasLinkNumber};
 ghost use Rattle.sr_encode.specs.Limited.{limited};
 
 use sr_model::{Answer, LinkNo, NodeNo, RepairList, Segment, Segments};
@@ -35,20 +35,20 @@ pub(crate) struct Kept {
 /// What is listed by an outcome at this cost, where these are the segments of all lists, and the links of the source stand
 /// from this one on.
 pub(crate) fn listed_answer<'a>(
-    start: u16,
+    start: LinkNo,
     outcome: Outcome,
     cost: u32,
     segments: &'a [Segment],
 ) -> Answer<'a>
     requires segments { HasSegments segments.now outcome }
-    requires number { HasNumber (answer_from start segments.now outcome cost) }
-    ensures { result ≡ answer_from start segments.now outcome cost }
+    requires number { HasLinkNumber (answer_from start.0 segments.now outcome cost) }
+    ensures { result ≡ answer_from start.0 segments.now outcome cost }
 {
     match outcome {
         Outcome::NoPath => Answer::NoPath,
         Outcome::NoList => Answer::NoList,
         Outcome::Least { place, begin, end } => Answer::Least(RepairList {
-            first: LinkNo(start + place),
+            first: LinkNo(start.0 + place),
             segments: Segments::new(&segments[begin as usize..end as usize]),
             cost,
         }),
@@ -57,15 +57,15 @@ pub(crate) fn listed_answer<'a>(
 
 /// The same, where a list of fewer segments than the limit is let through.
 pub(crate) fn limited_answer<'a>(
-    start: u16,
+    start: LinkNo,
     outcome: Outcome,
     cost: u32,
     segments: &'a [Segment],
     limit: u16,
 ) -> Answer<'a>
     requires segments { HasSegments segments.now outcome }
-    requires number { HasNumber (answer_from start segments.now outcome cost) }
-    ensures { result ≡ limited limit (answer_from start segments.now outcome cost) }
+    requires number { HasLinkNumber (answer_from start.0 segments.now outcome cost) }
+    ensures { result ≡ limited limit (answer_from start.0 segments.now outcome cost) }
 {
     match outcome {
         Outcome::Least { begin, end, .. } if end - begin >= limit as u32 => Answer::TooDeep {

@@ -3,19 +3,19 @@ ghost use Rattle.std.specs.Prelude.{◌≡◌, ◌+◌, ◌<◌, ◌↔◌, map,
 ghost use Rattle.sr_model.specs.declared.link.TheConstants.{MOST_LINKS as MostLinks};
 ghost use Rattle.sr_model.specs.declared.repair.Segment.{Segment as Followed};
 ghost use Rattle.sr_spf.specs.Renewed.{moved_link};
-ghost use Rattle.sr_encode.specs.Renumbered.{moved_first, moved_outcome, moved_segment, CanMove, HasPlace, KeepsPlace};
+ghost use Rattle.sr_encode.specs.Renumbered.{moved_first, moved_outcome, moved_segment, CanMove, HasLinkPlace, KeepsPlace};
 
 use crate::kept::{Kept, Outcome};
 use sr_model::{LinkNo, Segment};
 use std::alloc::{AllocError, Global};
 
 /// How the links that the lists of a case name are numbered in another net: the number of each link there, where it has one,
-/// and the number at which the links of the source begin here and there.
+/// and the link at which those of the source begin here and there.
 #[derive(Clone, Copy, Debug)]
 pub struct Renumbering<'a> {
     pub links: &'a [Option<LinkNo>],
-    pub before: u16,
-    pub after: u16,
+    pub before: LinkNo,
+    pub after: LinkNo,
 }
 
 /// The number of the link in the other net, by the list of these numbers; its own where the list has none.
@@ -55,10 +55,10 @@ pub(crate) fn moved_segments(
 
 /// The number in the other net of the link at this place among those of the source.
 fn moved_first(numbers: &Renumbering<'_>, place: u16) -> u16
-    requires { numbers.now.before + place < MostLinks }
+    requires { numbers.now.before.0 + place < MostLinks }
     ensures { result ≡ moved_first numbers.now place }
 {
-    moved(numbers.links, LinkNo(numbers.before + place)).0
+    moved(numbers.links, LinkNo(numbers.before.0 + place)).0
 }
 
 /// The outcome, its first link told by its place in the other net.
@@ -68,7 +68,7 @@ fn moved_outcome(numbers: &Renumbering<'_>, outcome: Outcome) -> Outcome
 {
     match outcome {
         Outcome::Least { place, begin, end } => Outcome::Least {
-            place: moved_first(numbers, place) - numbers.after,
+            place: moved_first(numbers, place) - numbers.after.0,
             begin,
             end,
         },
@@ -95,12 +95,12 @@ pub(crate) fn moved_outcomes(
 
 /// Whether the outcome is the same in the other net: its first link has its place there.
 fn keeps_place(numbers: &Renumbering<'_>, outcome: Outcome) -> bool
-    requires { HasPlace numbers.now.before outcome }
+    requires { HasLinkPlace numbers.now.before.0 outcome }
     ensures { IsTrue result ↔ KeepsPlace numbers.now outcome }
 {
     match outcome {
         Outcome::Least { place, .. } => {
-            moved_first(numbers, place) as u32 == numbers.after as u32 + place as u32
+            moved_first(numbers, place) as u32 == numbers.after.0 as u32 + place as u32
         }
         Outcome::NoPath => true,
         Outcome::NoList => true,
@@ -109,7 +109,7 @@ fn keeps_place(numbers: &Renumbering<'_>, outcome: Outcome) -> bool
 
 /// Whether so is each outcome.
 pub(crate) fn keep_places(outcomes: &[Outcome], numbers: &Renumbering<'_>) -> bool
-    requires { All (HasPlace numbers.now.before) outcomes.now }
+    requires { All (HasLinkPlace numbers.now.before.0) outcomes.now }
     ensures { IsTrue result ↔ All (KeepsPlace numbers.now) outcomes.now }
 {
     for outcome in outcomes {

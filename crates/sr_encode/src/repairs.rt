@@ -21,7 +21,7 @@ use crate::waypoint::Waypoint;
 use sr_graph::LinkSet;
 use sr_labels::Net;
 use sr_lanes::NodeBits;
-use sr_model::{Case, FAR, NodeNo, Segment};
+use sr_model::{Case, FAR, LinkNo, NodeNo, Segment};
 use sr_post::{Post, pivot_of, spaces_of};
 use sr_spaces::Spaces;
 use sr_spf::Trees;
@@ -63,7 +63,7 @@ fn kept_lists(
         found.now.queue.items wanted found.now.places.items }
     ensures { IfOk result (AreAllKept net.now failed.now source.0 wanted) }
 {
-    let start = net.graph().links_from(source).first;
+    let start = LinkNo(net.graph().links_from(source).first);
     let mut kept = Vec::with_capacity(alloc, wanted.count())?;
     let mut collected = Collected::new(alloc, &found.queue, start)?;
     let mut left = wanted;

@@ -28,7 +28,7 @@ use Rattle.sr_delta.specs.Partners.{ArePartners, IsPartner, partner_at}
 use Rattle.sr_encode.specs.declared.answers.NodeAnswer.{NodeAnswer}
 use Rattle.sr_encode.specs.Answered.{AreLists, destination_at, answer_at, node_answer_at}
 use Rattle.sr_encode.specs.declared.renumbered.Renumbering.{Renumbering}
-use Rattle.sr_encode.specs.Placed.{listed_from, ArePlacedLists, HaveNumbers, Listing, StandFrom}
+use Rattle.sr_encode.specs.Placed.{listed_from, ArePlacedLists, HaveLinkNumbers, Listing, AreNotBefore}
 use Rattle.sr_encode.specs.Renumbered.{moved_segment, moved_answer, moved_entry, moved_entries}
 use Rattle.sr_encode.proofs.AnswerLemmas.{affected-within, no_entry}
 use Rattle.sr_encode.proofs.PlacedLemmas.{holds-one, lists-numbered, lists-stand}
@@ -160,21 +160,21 @@ module _ (n m : Net) (links : List (Option LinkNo)) (partners : ArePartners n.gr
     source-same : source_of m.graph new ≡ source_of n.graph old
     source-same = (name-ends n.graph m.graph N.graph M.graph N.named M.named stays.nodes old.link.0 new.link.0 name).0
 
-    pub solution-moved : (r : Renumbering) (end end' : ℕ) → r.links.now ≡ links → HoldsLinks n.graph (source_of n.graph old) r.before end → HoldsLinks m.graph (source_of n.graph old) r.after end' → (s t : Solution) → IsMovedSolution r s t → IsSolution n old s → IsSolution m new t
+    pub solution-moved : (r : Renumbering) (end end' : ℕ) → r.links.now ≡ links → HoldsLinks n.graph (source_of n.graph old) r.before.0 end → HoldsLinks m.graph (source_of n.graph old) r.after.0 end' → (s t : Solution) → IsMovedSolution r s t → IsSolution n old s → IsSolution m new t
     solution-moved r end end' same before after s t moved is = record {
       row = λ y set. subst (λ cells. IsRow m.graph y (source_of m.graph new) cells) (sym moved.cells) (row-moved s.cells is.row y set);
       lists = record {
         from = λ first last holds.
             let here : HoldsLinks m.graph (source_of n.graph old) first last = subst (λ u. HoldsLinks m.graph u first last) source-same holds in
-            let at : r.after ≡ first = holds-one m.graph (source_of n.graph old) r.after end' first last new.link.0 after here name.1 source-same in
-            let list : listed_from first t.lists ≡ moved_entries links (listed_from r.before s.lists) =
-            ap (λ k. listed_from k t.lists) (sym at) ∙ moved.lists ∙ ap (λ k. moved_entries k (listed_from r.before s.lists)) same in
-            subst (λ l. AreLists m new l) (sym list) (lists-moved (listed_from r.before s.lists) (is.lists.from r.before end before));
+            let at : r.after.0 ≡ first = holds-one m.graph (source_of n.graph old) r.after.0 end' first last new.link.0 after here name.1 source-same in
+            let list : listed_from first t.lists ≡ moved_entries links (listed_from r.before.0 s.lists) =
+            ap (λ k. listed_from k t.lists) (sym at) ∙ moved.lists ∙ ap (λ k. moved_entries k (listed_from r.before.0 s.lists)) same in
+            subst (λ l. AreLists m new l) (sym list) (lists-moved (listed_from r.before.0 s.lists) (is.lists.from r.before.0 end before));
       };
     }
 
     -- the first links in the new net are those of its source
-    pub stand-moved : (first end first' end' : ℕ) (listing : Listing) → HoldsLinks n.graph (source_of n.graph old) first end → HoldsLinks m.graph (source_of n.graph old) first' end' → ArePlacedLists n old listing → StandFrom first' (moved_entries links (listed_from first listing))
+    pub stand-moved : (first end first' end' : ℕ) (listing : Listing) → HoldsLinks n.graph (source_of n.graph old) first end → HoldsLinks m.graph (source_of n.graph old) first' end' → ArePlacedLists n old listing → AreNotBefore first' (moved_entries links (listed_from first listing))
     stand-moved first end first' end' listing before after is =
         lists-stand m new (moved_entries links (listed_from first listing)) (lists-moved (listed_from first listing) (is.from first end before)) first' end'
         (subst (λ u. HoldsLinks m.graph u first' end') (sym source-same) after)
@@ -230,12 +230,12 @@ module _ (p : Passage) (changes : Differences) (staying : Staying) (in_place : B
       solution-moved p.old p.new num.links.now numbers.links r.differ.old r.differ.new old new kind name stays num numbers.end numbers.end' refl numbers.before numbers.after s t moved is
 
   -- and it can be moved
-  pub numbers-told : (old : Case) (num : Renumbering) → IsRenumbering p (source_of p.old.graph old) num → (s : Solution) → IsSolution p.old old s → HaveNumbers (listed_from num.before s.lists)
-  numbers-told old num numbers s is = lists-numbered p.old old (listed_from num.before s.lists) (is.lists.from num.before numbers.end numbers.before) r.differ.old.graph
+  pub numbers-told : (old : Case) (num : Renumbering) → IsRenumbering p (source_of p.old.graph old) num → (s : Solution) → IsSolution p.old old s → HaveLinkNumbers (listed_from num.before.0 s.lists)
+  numbers-told old num numbers s is = lists-numbered p.old old (listed_from num.before.0 s.lists) (is.lists.from num.before.0 numbers.end numbers.before) r.differ.old.graph
 
-  pub begin-told : (old : Case) (num : Renumbering) → IsRenumbering p (source_of p.old.graph old) num → (s : Solution) → IsSolution p.old old s → IsSteadyCase p.old p.new old → StandFrom num.after (moved_entries num.links.now (listed_from num.before s.lists))
+  pub begin-told : (old : Case) (num : Renumbering) → IsRenumbering p (source_of p.old.graph old) num → (s : Solution) → IsSolution p.old old s → IsSteadyCase p.old p.new old → AreNotBefore num.after.0 (moved_entries num.links.now (listed_from num.before.0 s.lists))
   begin-told old num numbers s is stays =
-      stand-moved p.old p.new num.links.now numbers.links r.differ.old r.differ.new old (case_with old stays.link) refl stays.protected stays num.before numbers.end num.after numbers.end' s.lists numbers.before numbers.after is.lists
+      stand-moved p.old p.new num.links.now numbers.links r.differ.old r.differ.new old (case_with old stays.link) refl stays.protected stays num.before.0 numbers.end num.after.0 numbers.end' s.lists numbers.before numbers.after is.lists
 
   -- the record that is kept of an old case that is steady is one of the new case
   pub known-moved : (was kept : KnownCase) (old new : Case) → old.kind ≡ new.kind → HaveSameName p.old.graph p.new.graph old.link.0 new.link.0 → IsSteadyCase p.old p.new old → IsKnownCase p.old old was → StayKnown p old was kept → IsKnownCase p.new new kept

@@ -61,8 +61,8 @@ pub record IsRenumbering (p : Passage) (s : ℕ) (r : Renumbering) : Type 0 wher
   pub links : ArePartners p.old.graph p.new.graph r.links.now
   pub end : ℕ
   pub end' : ℕ
-  pub before : HoldsLinks p.old.graph s r.before end
-  pub after : HoldsLinks p.new.graph s r.after end'
+  pub before : HoldsLinks p.old.graph s r.before.0 end
+  pub after : HoldsLinks p.new.graph s r.after.0 end'
 
 -- where the old case is steady, the record that is kept of it has a solution in the new net, and the walks of the old
 -- case

@@ -22,4 +22,4 @@ pub record IsSolution (n : Net) (case : Case) (s : Solution) : Type 0 where
 -- links of the source begin
 pub record IsMovedSolution (r : Renumbering) (s t : Solution) : Type 0 where
   pub cells : t.cells ≡ s.cells
-  pub lists : listed_from r.after t.lists ≡ moved_entries r.links.now (listed_from r.before s.lists)
+  pub lists : listed_from r.after.0 t.lists ≡ moved_entries r.links.now (listed_from r.before.0 s.lists)

@@ -115,8 +115,8 @@ impl<'a> Former<'a> {
     {
         Renumbering {
             links,
-            before: self.computed.net().graph().links_from(node).first,
-            after: self.net.graph().links_from(node).first,
+            before: LinkNo(self.computed.net().graph().links_from(node).first),
+            after: LinkNo(self.net.graph().links_from(node).first),
         }
     }
 

@@ -1,7 +1,7 @@
 //! What is computed for a case that affects some destination.
 ghost use Rattle.std.specs.Prelude.{◌≡◌, true, IfOk, IsTrue};
 ghost use Rattle.std.specs.Arc.{arc_value};
-ghost use Rattle.sr_encode.specs.Placed.{listed_from, HaveNumbers, StandFrom};
+ghost use Rattle.sr_encode.specs.Placed.{listed_from, HaveLinkNumbers, AreNotBefore};
 ghost use Rattle.sr_encode.specs.Renumbered.{moved_entries};
 ghost use Rattle.sr_spf.specs.Renewed.{AreInPlace};
 ghost use Rattle.sr_repair.specs.Solutions.{IsMovedSolution};
@@ -58,10 +58,10 @@ impl Solved {
     /// so that nobody need look whether the lists keep theirs.
     pub(crate) fn keeps_numbers(&self, numbers: &Renumbering<'_>, in_place: bool) -> bool
         requires place { in_place ≡ true → AreInPlace numbers.now.links.now }
-        requires numbers { HaveNumbers (listed_from numbers.now.before self.now.lists) }
+        requires numbers { HaveLinkNumbers (listed_from numbers.now.before.0 self.now.lists) }
         ensures { IsTrue result → IsMovedSolution numbers.now self.now self.now }
     {
-        if in_place && numbers.before == numbers.after {
+        if in_place && numbers.before.0 == numbers.after.0 {
             return true;
         }
         self.lists.keeps_numbers(numbers)
@@ -75,9 +75,9 @@ impl Solved {
         cells: CaseRow,
     ) -> Result<Arc<Solved>, AllocError>
         requires cells { cells ≡ self.now.cells }
-        requires numbers { HaveNumbers (listed_from numbers.now.before self.now.lists) }
-        requires begin { StandFrom numbers.now.after
-            (moved_entries numbers.now.links.now (listed_from numbers.now.before self.now.lists)) }
+        requires numbers { HaveLinkNumbers (listed_from numbers.now.before.0 self.now.lists) }
+        requires begin { AreNotBefore numbers.now.after.0
+            (moved_entries numbers.now.links.now (listed_from numbers.now.before.0 self.now.lists)) }
         ensures { IfOk result (λ solved. IsMovedSolution numbers.now self.now (arc_value solved)) }
     {
         let lists = self.lists.renumbered(alloc, numbers)?;

@@ -55,12 +55,12 @@ fn lists_of(alloc: Global, net: &Net, trees: &Trees, case: Case) -> Result<CaseL
 
 /// Whether these lists of the case are the same where the ring has the chord, and the links of the
 /// source stand from this number on.
-fn keeps(net: &Net, case: Case, lists: &CaseLists, after: u16) -> bool
+fn keeps(net: &Net, case: Case, lists: &CaseLists, after: LinkNo) -> bool
     requires case { IsCase net.now.graph case }
     requires lists { ArePlacedLists net.now case lists.now }
 {
     let source = net.graph().edge(case.link).from;
-    let before = net.graph().links_from(source).first;
+    let before = LinkNo(net.graph().links_from(source).first);
     lists.keeps_numbers(&Renumbering {
         links: WITH_CHORD.as_slice(),
         before,
@@ -82,7 +82,11 @@ fn lists_stay_where_first_links_keep_their_places(rt: HostRuntime) -> Result<(),
             link: LinkNo(link),
         };
         let lists = lists_of(alloc, &net, &trees, case)?;
-        assert_eq!(rt; keeps(&net, case, &lists, after), wanted, "of link {link}");
+        assert_eq!(rt;
+            keeps(&net, case, &lists, LinkNo(after)),
+            wanted,
+            "of link {link}"
+        );
     }
     Ok(())
 }

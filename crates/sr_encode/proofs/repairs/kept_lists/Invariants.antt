@@ -1,4 +1,5 @@
-use Rattle.std.proofs.Common.{◌≡◌}
+use Rattle.std.proofs.Common.{◌≡◌, ℕ}
+use Rattle.sr_graph.specs.Ranges.{HoldsLinks}
 use Rattle.sr_lanes.specs.Bits.{member_count}
 use Rattle.sr_encode.specs.Collected.{IsCollected}
 use Rattle.sr_encode.specs.Kept.{AreKeptWithin, entries}
@@ -9,9 +10,9 @@ use Rattle.sr_encode.proofs.repairs.kept_lists.Given as goal
 abbrev pub invariant-left : goal.invariant-left
 invariant-left l = record {
   queue : l.collected.queue.now ≡ l.found.queue.items;
-  start : l.collected.start ≡ l.start;
+  start : (end : ℕ) × HoldsLinks l.net.graph l.fn.source.0 l.collected.start.0 end;
   collected : IsCollected l.collected;
-  listed : AreListedBut l.net l.failed l.fn.source.0 l.fn.wanted l.left (entries l.collected.segments.items l.collected.outcomes.items l.kept.items l.start);
+  listed : AreListedBut l.net l.failed l.fn.source.0 l.fn.wanted l.left (entries l.collected.segments.items l.collected.outcomes.items l.kept.items l.collected.start.0);
   within : AreKeptWithin l.collected.segments.items l.collected.outcomes.items l.kept.items;
 }
 

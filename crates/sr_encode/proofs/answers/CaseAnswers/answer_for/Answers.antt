@@ -6,5 +6,5 @@ use Rattle.sr_encode.proofs.answers.CaseAnswers.answer_for.Goals as goal
 
 pub returns-in-None : goal.returns-in-None
 returns-in-None c =
-    let none : NoAnswer (listed_from c.self.inside.start c.self.inside.lists.now) c.args.destination.0 = c.in-None.ensures c.self.inside.start in
-    subst (λ list. NoAnswer list c.args.destination.0) c.self.view_is (limited-none c.self.inside.limit (listed_from c.self.inside.start c.self.inside.lists.now) c.args.destination.0 none)
+    let none : NoAnswer (listed_from c.self.inside.start.0 c.self.inside.lists.now) c.args.destination.0 = c.in-None.ensures c.self.inside.start.0 in
+    subst (λ list. NoAnswer list c.args.destination.0) c.self.view_is (limited-none c.self.inside.limit (listed_from c.self.inside.start.0 c.self.inside.lists.now) c.args.destination.0 none)

@@ -2,8 +2,8 @@ use Rattle.std.proofs.Common.{◌≡◌, sym, subst}
 use Rattle.std.specs.Prelude.{All}
 use Rattle.sr_model.specs.declared.repair.Segment.{Segment}
 use Rattle.sr_encode.specs.Kept.{entries}
-use Rattle.sr_encode.specs.Placed.{HaveNumbers}
-use Rattle.sr_encode.specs.Renumbered.{moved_segment, HasPlace, KeepsPlace}
+use Rattle.sr_encode.specs.Placed.{HaveLinkNumbers}
+use Rattle.sr_encode.specs.Renumbered.{moved_segment, HasLinkPlace, KeepsPlace}
 use Rattle.sr_encode.proofs.MovedLemmas.{entries-keep, have-places, segments-same}
 use Rattle.sr_encode.proofs.case_lists.CaseLists.keeps_numbers.Goals as goal
 
@@ -11,8 +11,8 @@ pub keep_places-requires : goal.keep_places-requires
 keep_places-requires c =
     let old = c.self.inside in
     let r = c.args.numbers.now in
-    let numbers : HaveNumbers (entries old.segments.items old.outcomes.items old.kept.items r.before) = rw (← c.self.view_is) at c.requires.numbers in
-    subst (λ list. All (HasPlace r.before) list) (sym c.deref.ensures.value) (have-places r old.segments.items old.outcomes.items old.kept.items c.self.invariant.0 numbers)
+    let numbers : HaveLinkNumbers (entries old.segments.items old.outcomes.items old.kept.items r.before.0) = rw (← c.self.view_is) at c.requires.numbers in
+    subst (λ list. All (HasLinkPlace r.before.0) list) (sym c.deref.ensures.value) (have-places r old.segments.items old.outcomes.items old.kept.items c.self.invariant.0 numbers)
 
 pub returns-then-keep_places : goal.returns-then-keep_places
 returns-then-keep_places c stay =

@@ -5,7 +5,7 @@ use Rattle.sr_model.specs.Case.{source_of}
 use Rattle.sr_model.specs.Graph.{tail}
 use Rattle.sr_spf.specs.Renewed.{AreInPlace}
 use Rattle.sr_delta.specs.Partners.{ArePartners}
-use Rattle.sr_encode.specs.Placed.{listed_from, HaveNumbers, StandFrom}
+use Rattle.sr_encode.specs.Placed.{listed_from, HaveLinkNumbers, AreNotBefore}
 use Rattle.sr_encode.specs.Renumbered.{moved_entries}
 use Rattle.sr_repair.specs.Former.{IsFormer, IsRenumbering, StaySolved}
 use Rattle.sr_repair.specs.Spared.{Passage}
@@ -38,7 +38,7 @@ pub keeps_numbers-requires-clause-numbers : goal.keeps_numbers-requires-clause-n
 keeps_numbers-requires-clause-numbers c =
     let at = goal.at.keeps_numbers-requires-clause-numbers c in
     let q = c.args.self.now in
-    subst (λ (s : Solution). HaveNumbers (listed_from c.renumbering-numbers.result.before s.lists)) (sym c.deref.ensures)
+    subst (λ (s : Solution). HaveLinkNumbers (listed_from c.renumbering-numbers.result.before.0 s.lists)) (sym c.deref.ensures)
     (numbers-told q c.self.inside.changes.now c.self.inside.staying c.self.inside.in_place (former at.After-edge) c.args.old c.renumbering-numbers.result (numbered at.After-renumbering-numbers) (arc_value c.args.solved.now) c.requires.solved)
 
 pub returns-then-keeps_numbers : goal.returns-then-keeps_numbers
@@ -56,7 +56,7 @@ pub renumbered-requires-clause-numbers : goal.renumbered-requires-clause-numbers
 renumbered-requires-clause-numbers c =
     let at = goal.at.renumbered-requires-clause-numbers c in
     let q = c.args.self.now in
-    subst (λ (s : Solution). HaveNumbers (listed_from c.renumbering-numbers.result.before s.lists)) (sym c.deref-2.ensures)
+    subst (λ (s : Solution). HaveLinkNumbers (listed_from c.renumbering-numbers.result.before.0 s.lists)) (sym c.deref-2.ensures)
     (numbers-told q c.self.inside.changes.now c.self.inside.staying c.self.inside.in_place (former at.After-edge) c.args.old c.renumbering-numbers.result (numbered at.After-renumbering-numbers) (arc_value c.args.solved.now) c.requires.solved)
 
 pub renumbered-requires-clause-begin : goal.renumbered-requires-clause-begin
@@ -64,7 +64,7 @@ renumbered-requires-clause-begin c =
     let at = goal.at.renumbered-requires-clause-begin c in
     let q = c.args.self.now in
     let num = c.renumbering-numbers.result in
-    subst (λ (s : Solution). StandFrom num.after (moved_entries num.links.now (listed_from num.before s.lists))) (sym c.deref-2.ensures)
+    subst (λ (s : Solution). AreNotBefore num.after.0 (moved_entries num.links.now (listed_from num.before.0 s.lists))) (sym c.deref-2.ensures)
     (begin-told q c.self.inside.changes.now c.self.inside.staying c.self.inside.in_place (former at.After-edge) c.args.old num (numbered at.After-renumbering-numbers) (arc_value c.args.solved.now) c.requires.solved c.requires.steady)
 
 pub returns : goal.returns

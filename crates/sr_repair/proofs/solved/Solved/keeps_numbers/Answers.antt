@@ -9,5 +9,5 @@ returns-then-numbers c is =
     let r = c.args.numbers.now in
     record {
       cells = refl;
-      lists = ap (λ k. listed_from k lists) (sym c.if-numbers.true) ∙ sym (entries-placed r.links.now (c.requires.place c.if-in_place.true) (listed_from r.before lists));
+      lists = ap (λ k. listed_from k lists) (sym c.if-numbers.true) ∙ sym (entries-placed r.links.now (c.requires.place c.if-in_place.true) (listed_from r.before.0 lists));
     }
